@@ -1,0 +1,5 @@
+pub mod Range
+pub mod Names
+pub mod Event
+pub mod Image
+pub mod Machine
