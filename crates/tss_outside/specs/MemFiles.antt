@@ -50,6 +50,10 @@ read_faults_of s n = option_map_or (λ f. f.read_faults) (file_of s n) s.other_r
 abbrev pub append_faults_of : MemFilesState → List ℕ → ℕ
 append_faults_of s n = option_map_or (λ f. f.append_faults) (file_of s n) s.other_append_faults
 
+-- how many bytes may still be appended
+abbrev pub room_of : MemFilesState → List ℕ → ℕ
+room_of s n = option_map_or (λ f. f.room) (file_of s n) 0
+
 -- the next read of a name fails: its number is listed, or nothing is held under the name
 abbrev pub fails_read : MemFilesState → List ℕ → Bool
 fails_read s n = is_listed s.failing_reads (risen s.reads) || is_none (bytes_of s n)

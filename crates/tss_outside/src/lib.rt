@@ -10,6 +10,8 @@ mod mem_files;
 mod mem_sink;
 mod real;
 mod sink;
+#[cfg(test)]
+mod tests;
 
 pub use files::{Failed, FileFault, Files};
 pub use honest::{HonestFiles, HonestSink};

@@ -1,5 +1,5 @@
 // One file in memory.
-ghost use Rattle.std.specs.Prelude.{◌≡◌, ◌≤◌, ◌<◌, ◌+◌, ◌-◌, ◌++◌, ◌⊎◌, [], ℕ, List, true, false, Option, Some, None, length, vec_len, unwrap_or, IfOk, OnOk, OnErr, IsErrOf, IsSome, option_map, if◌then◌else◌};
+ghost use Rattle.std.specs.Prelude.{◌≡◌, ◌≤◌, ◌<◌, ◌+◌, ◌-◌, ◌++◌, ◌⊎◌, [], ℕ, List, true, false, Option, Some, None, length, vec_len, unwrap_or, IfOk, OnOk, OnErr, IsErr, IsErrOf, IsTrue, IsSome, is_none, nat_lt, ◌||◌, ◌↔◌, option_map, if◌then◌else◌};
 ghost use Rattle.tss_outside.specs.Outside.{risen, is_failed};
 ghost use Rattle.tss_outside.specs.MemFiles.{has_name};
 
@@ -97,6 +97,7 @@ impl MemFile {
         ensures ok { IfOk result (λ v. (failing ≡ false) × (self.old.bytes ≡ Some v.items) × (vec_len v ≤ limit)) }
         ensures too_long { (n : ℕ) → IsErrOf result (FileFault.TooLong n) → (failing ≡ false) × ((b : List ℕ) × (self.old.bytes ≡ Some b) × (n ≡ length b) × (limit < n)) }
         ensures failed { IsErrOf result FileFault.Failed → (failing ≡ true) ⊎ (self.old.bytes ≡ None) }
+        ensures exact { IsErrOf result FileFault.Failed ↔ IsTrue (failing || is_none self.old.bytes) }
         ensures memory { IsErrOf result FileFault.NoMemory → (failing ≡ false) × IsSome self.old.bytes }
         ensures never_falls { self.old.read_faults ≤ self.new.read_faults }
         ensures counted { self.new ≡ (if is_failed result then record self.old { read_faults = risen self.old.read_faults } else self.old) }
@@ -119,6 +120,7 @@ impl MemFile {
     /// counted.
     pub fn append(&mut self, bytes: &[u8], failing: bool) -> Result<(), Failed>
         ensures ok { OnOk result ((failing ≡ false) × (length bytes.now ≤ self.old.room) × (self.new ≡ record self.old { bytes = Some (unwrap_or self.old.bytes [] ++ bytes.now); room = self.old.room - length bytes.now })) }
+        ensures exact { IsErr result ↔ IsTrue (failing || nat_lt self.old.room (length bytes.now)) }
         ensures never_falls { self.old.append_faults ≤ self.new.append_faults }
         ensures err { OnErr result (((failing ≡ true) ⊎ (self.old.room < length bytes.now)) × (self.new ≡ record self.old { append_faults = risen self.old.append_faults })) }
     {

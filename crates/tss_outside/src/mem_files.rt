@@ -1,7 +1,7 @@
 // Files in memory.
-ghost use Rattle.std.specs.Prelude.{◌≡◌, ◌<◌, ◌+◌, ◌≤◌, ◌++◌, ◌∷◌, [], ℕ, List, Bool, false, Option, Some, None, length, vec_len, IfOk, OnOk, OnErr, IfSome, IsErrOf, IsTrue, IsFalse, MatchResult, ◌↔◌, position, unwrap_or};
+ghost use Rattle.std.specs.Prelude.{◌≡◌, ◌≢◌, ◌<◌, ◌+◌, ◌≤◌, ◌++◌, ◌∷◌, [], ℕ, List, Bool, false, Option, Some, None, length, vec_len, IfOk, OnOk, OnErr, IfSome, IsErr, IsErrOf, IsTrue, IsFalse, MatchResult, ◌↔◌, position, unwrap_or};
 ghost use Rattle.tss_outside.specs.Outside.{Held, Rose, AppendsTo, PutsPrefixTo, RaisesOnly, risen};
-ghost use Rattle.tss_outside.specs.MemFiles.{ChangesFile, bytes_of, is_known, read_faults_of, append_faults_of, file_of, file_or_new, fails_append, fails_read, has_name, no_files};
+ghost use Rattle.tss_outside.specs.MemFiles.{ChangesFile, bytes_of, is_known, read_faults_of, append_faults_of, file_or_new, room_of, fails_append, fails_read, has_name, no_files};
 
 use crate::files::{Failed, FileFault, Files};
 use crate::mem_file::MemFile;
@@ -151,7 +151,22 @@ impl Files for MemFiles {
 
     ghost append_faults = { append_faults_of };
 
-    fn read(&mut self, alloc: Global, name: &str, limit: u64) -> Result<Vec<u8>, FileFault> {
+    fn read(&mut self, alloc: Global, name: &str, limit: u64) -> Result<Vec<u8>, FileFault>
+        ensures bytes { IfOk result (λ v. bytes_of self.old name.now ≡ Some v.items) }
+        ensures short { IfOk result (λ v. vec_len v ≤ limit) }
+        ensures too_long { (n : ℕ) → IsErrOf result (FileFault.TooLong n) → limit < n }
+        ensures longer { (n : ℕ) → IsErrOf result (FileFault.TooLong n) → (b : List ℕ) × (bytes_of self.old name.now ≡ Some b) × (n ≤ length b) }
+        ensures cause { IsErrOf result FileFault.Failed → Rose (read_faults_of self.old name.now) (read_faults_of self.new name.now) }
+        ensures counts { RaisesOnly (is_known self.old) (read_faults_of self.old) (read_faults_of self.new) name.now }
+        ensures held { ◌≡◌ {A = Option Held} (Some (bytes_of self.new)) (Some (bytes_of self.old)) }
+        ensures knows { (n : List ℕ) → is_known self.new n ≡ is_known self.old n }
+        ensures append_faults { (n : List ℕ) → append_faults_of self.new n ≡ append_faults_of self.old n }
+
+        // It fails exactly where its number is listed or there is no such file.
+        ensures exact { IsErrOf result FileFault.Failed ↔ IsTrue (fails_read self.old name.now) }
+        ensures rest { self.new ≡ record self.old { files = self.new.files; reads = risen self.old.reads; other_read_faults = self.new.other_read_faults } }
+        ensures rooms { (n : List ℕ) → room_of self.new n ≡ room_of self.old n }
+    {
         self.reads = self.reads.saturating_add(1);
         let failing = self.failing_reads.contains(&self.reads);
         match place_of(self.files.as_slice(), name) {
@@ -166,7 +181,21 @@ impl Files for MemFiles {
         }
     }
 
-    fn append(&mut self, name: &str, bytes: &[u8]) -> Result<(), Failed> {
+    fn append(&mut self, name: &str, bytes: &[u8]) -> Result<(), Failed>
+        ensures ok { OnOk result (AppendsTo (Some (bytes_of self.old)) (Some (bytes_of self.new)) name.now bytes.now) }
+        ensures prefix { OnErr result (PutsPrefixTo (Some (bytes_of self.old)) (Some (bytes_of self.new)) name.now bytes.now) }
+        ensures cause { OnErr result (Rose (append_faults_of self.old name.now) (append_faults_of self.new name.now)) }
+        ensures counts { RaisesOnly (is_known self.old) (append_faults_of self.old) (append_faults_of self.new) name.now }
+        ensures knows { (n : List ℕ) → is_known self.new n ≡ is_known self.old n }
+        ensures read_faults { (n : List ℕ) → read_faults_of self.new n ≡ read_faults_of self.old n }
+
+        // It fails exactly where its number is listed or room is missing, and then nothing is put.
+        ensures exact { IsErr result ↔ IsTrue (fails_append self.old name.now (length bytes.now)) }
+        ensures nothing { OnErr result ((n : List ℕ) → bytes_of self.new n ≡ bytes_of self.old n) }
+        ensures rest { self.new ≡ record self.old { files = self.new.files; appends = risen self.old.appends; other_append_faults = self.new.other_append_faults } }
+        ensures rooms { (n : List ℕ) → n ≢ name.now → room_of self.new n ≡ room_of self.old n }
+        ensures room { OnOk result (room_of self.new name.now + length bytes.now ≡ room_of self.old name.now) }
+    {
         self.appends = self.appends.saturating_add(1);
         let failing = self.failing_appends.contains(&self.appends);
         match place_of(self.files.as_slice(), name) {

@@ -1,9 +1,11 @@
 -- What a read of a file in memory leaves.
-use Rattle.std.proofs.Common.{◌≡◌, ◌≤◌, ℕ, List, Bool, true, false, cond, Option, Some, None, sym, ap, ◌∙◌, refl, arith, Result, Ok, Err, Vec, Global, vec_len}
-use Rattle.std.specs.Prelude.{position, is_some, IfOk}
+use Rattle.std.proofs.Common.{◌≡◌, subst, ◌≤◌, ℕ, List, Bool, true, false, cond, Option, Some, None, sym, ap, ◌∙◌, refl, arith, Result, Ok, Err, Vec, Global, vec_len}
+use Rattle.std.specs.Prelude.{is_none, ◌||◌, ◌↔◌, IsErrOf, IsTrue, position, is_some, IfOk}
 use Rattle.std.specs.Option.{option_and_then, option_map_or}
 use Rattle.tss_outside.specs.Outside.{is_failed, risen}
-use Rattle.tss_outside.specs.MemFiles.{FileState, has_name, file_of, is_known, bytes_of, append_faults_of, read_faults_of}
+use Rattle.tss_outside.specs.declared.files.FileFault.TheVariants.{Failed}
+use Rattle.tss_outside.specs.MemSink.{is_listed}
+use Rattle.tss_outside.specs.MemFiles.{fails_read, room_of, FileState, has_name, file_of, is_known, bytes_of, append_faults_of, read_faults_of}
 use Rattle.tss_outside.proofs.FileLemmas.{at_most, change_here, change_now, change_beside, change_same, change_counts, not_found}
 use Rattle.tss_outside.proofs.mem_files.MemFilesFiles.read.Goals as goal
 
@@ -91,3 +93,53 @@ returns-in-None-clause-cause c e =
     let count = λ (o : Option FileState) (d : ℕ). option_map_or (λ (x : FileState). x.read_faults) o d in
     let risen_to = c.saturating_add-self-inside-in-None in
     at_most (ap (λ s. risen (read_faults_of s n)) (sym c.self.view_is) ∙ ap (λ o. risen (count o c.self.inside.other_read_faults)) (not_found fs n at)) (ap (λ o. count o risen_to.result) (not_found fs n at)) (omega (arith, risen_to.ensures))
+
+or_true : (b : Bool) → b || true ≡ true
+or_true true = refl
+or_true false = refl
+
+-- the number of the call is listed
+listed : (c : goal.After-self-in-Some-1) → c.contains-failing.result ≡ is_listed c.args.self.now.failing_reads (risen c.args.self.now.reads)
+listed c =
+    c.contains-failing.ensures.value
+    ∙ ap (λ ns. is_listed ns c.saturating_add-self-inside.result) c.deref.ensures.value
+    ∙ ap (is_listed c.self.inside.failing_reads.items) c.saturating_add-self-inside.ensures
+    ∙ ap (λ s. is_listed s.failing_reads (risen s.reads)) c.self.view_is
+
+pub returns-in-Some-clause-exact : goal.returns-in-Some-clause-exact
+returns-in-Some-clause-exact c =
+    let bytes = λ (o : Option FileState). option_and_then (λ (x : FileState). x.bytes) o in
+    let is : c.contains-failing.result || is_none c.index_mut-file.result.now.bytes ≡ fails_read c.args.self.now c.args.name.now =
+    ap (λ b. b || is_none c.index_mut-file.result.now.bytes) (listed c)
+    ∙ ap (λ o. is_listed c.args.self.now.failing_reads (risen c.args.self.now.reads) || is_none (bytes o)) (sym (here c)) in
+    subst (λ b. IsErrOf c.read.result Failed ↔ IsTrue b) is c.read.ensures.exact
+
+pub returns-in-Some-clause-rooms : goal.returns-in-Some-clause-rooms
+returns-in-Some-clause-rooms c m =
+    let room = λ (x : FileState). x.room in
+    change_same
+    c.self.inside.files.items
+    _
+    c.in-Some.i
+    (place c)
+    _
+    _
+    c.index_mut-file.ensures.value
+    (name c)
+    ℕ
+    (λ o. option_map_or room o 0)
+    (kept c ℕ room refl)
+    m
+    ∙ ap (λ s. room_of s m) c.self.view_is
+
+pub returns-in-None-clause-exact : goal.returns-in-None-clause-exact
+returns-in-None-clause-exact c =
+    let n = c.args.name.now in
+    let fs = c.self.inside.files.items in
+    let at : position (has_name n) fs ≡ None =
+    ap (position (has_name n)) (sym c.as_slice.ensures.value) ∙ sym c.place_of.ensures ∙ c.in-None.is in
+    let fails : fails_read c.args.self.now n ≡ true =
+    ap (λ s. fails_read s n) (sym c.self.view_is)
+    ∙ ap (λ o. is_listed c.self.inside.failing_reads.items (risen c.self.inside.reads) || is_none (option_and_then (λ (x : FileState). x.bytes) o)) (not_found fs n at)
+    ∙ or_true _ in
+    (λ _. fails, λ _. refl)
