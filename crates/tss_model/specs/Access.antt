@@ -1,5 +1,5 @@
 -- Where main and a task may load and store.
-use Rattle.std.specs.Prelude.{ℕ, Bool, true, false, ◌&&◌, ◌||◌, not, if◌then◌else◌, List, take, Option, Some, None}
+use Rattle.std.specs.Prelude.{Bool, true, false, ◌&&◌, ◌||◌, not, if◌then◌else◌, List, take, Option, Some, None}
 use Rattle.std.specs.List.{list_any}
 use Rattle.tss_base.specs.declared.range.Range.{Range}
 use Rattle.tss_base.specs.declared.operand.Mode.{Mode}
@@ -52,6 +52,12 @@ abbrev pub writes : Mode → Bool
 writes Input = false
 writes Output = true
 writes Inout = true
+
+-- the modes in which a task has its object's value at its start
+abbrev pub reads : Mode → Bool
+reads Input = true
+reads Output = false
+reads Inout = true
 
 -- the operands of a task
 abbrev pub operands_of : Task → List Operand

@@ -1,7 +1,7 @@
--- One step of an actor. It reads bytes and words by two functions, the byte at each address and the word at each pc, and
--- answers with the registers and the write that it leaves, or why it leaves nothing.
+-- One step of an actor. It reads by two functions, the byte at each address and the word at each pc, and answers with
+-- the registers and the write that it leaves, or why it leaves nothing.
 use Rattle.std.specs.Prelude.{ℕ, ◌+◌, ◌-◌, ◌*◌, ◌/◌, ◌%◌, ◌^◌, ◌==◌, nat_lt, nat_le, not, Bool, if◌then◌else◌, List, Option, Some, None, ℤ, pos, negsuc, int_lt, bit_and, bit_or, bit_xor}
-use Rattle.std.specs.Int.{cast_signed, cast_unsigned, w32, bytes_low_first}
+use Rattle.std.specs.Int.{cast_signed, w32, bytes_low_first}
 use Rattle.tss_base.specs.declared.range.Range.{Range}
 use Rattle.tss_base.specs.declared.ending.Trap.{Trap}
 use Rattle.tss_isa.specs.declared.instr.Test.{Test}
@@ -19,17 +19,18 @@ use Rattle.tss_isa.specs.declared.instr.Instr.TheVariants.{Lui, Auipc, Jal, Jalr
 use Rattle.tss_isa.specs.Fields.{signed}
 use Rattle.tss_isa.specs.InstrTable.{instr_of, twos}
 use Rattle.tss_model.specs.Memory.{number_at}
-use Rattle.tss_model.specs.Access.{Actor, Purpose, Loads, Stores, Access, Granted, Denied, Touch, access_of}
-use Rattle.tss_model.specs.Registers.{Registers, register_at, with_register, next_pc, completed, onward, end_pc, trap_of, jump_misaligned, fetch_outside, illegal, breakpoint, load_misaligned, load_denied, store_misaligned, store_denied}
+use Rattle.tss_model.specs.Access.{Actor, Loads, Stores, Access, Granted, Denied, Touch, access_of}
+use Rattle.tss_model.specs.Registers.{Registers, register_at, with_register, next_pc, completed, onward, end_pc, trap_of}
+use Rattle.tss_model.specs.Causes.{jump_misaligned, fetch_outside, illegal, breakpoint, load_misaligned, load_denied, store_misaligned, store_denied}
 
 -- bytes to be written from an address on
 pub record Write : Type 0 where
   pub at : ℕ
   pub bytes : List ℕ
 
--- what a step does: it executes an instruction, with a write where that is a store; it meets ECALL, which is left to the
--- actor; the actor stands where a task has ended; it traps; or main touches an object that it has named. But for the
--- first of these nothing changes
+-- what a step does: it executes an instruction, with a write where that is a store; it meets ECALL, which is left to
+-- the actor; the actor stands where a task has ended; it traps; or main touches an object that it has named. But for
+-- the first of these nothing changes
 pub data Stepped : Type 0 where
   Executed : Registers → Option Write → Stepped
   Called : Stepped
@@ -138,10 +139,18 @@ load_on Granted r rd at v = result_in r rd v
 load_on Denied r rd at v = Trapped (trap_of r load_denied at)
 load_on Touch r rd at v = Touched
 
+-- what a load reads
+abbrev pub loaded_value : (ℕ → ℕ) → LoadKind → ℕ → ℕ
+loaded_value byte kind at = extended kind (number_at byte at (load_width kind))
+
+abbrev pub load_range : LoadKind → ℕ → Range
+load_range kind at = record { base = at; len = load_width kind }
+
+-- a load from an address: whether that is a multiple of its width is tested before whether the actor may load there
 abbrev pub load_from : Actor → (ℕ → ℕ) → Registers → LoadKind → ℕ → ℕ → Stepped
 load_from actor byte r kind rd at =
     if at % load_width kind == 0
-    then load_on (access_of actor Loads (record { base = at; len = load_width kind })) r rd at (extended kind (number_at byte at (load_width kind)))
+    then load_on (access_of actor Loads (load_range kind at)) r rd at (loaded_value byte kind at)
     else Trapped (trap_of r load_misaligned at)
 
 -- a store that is answered
@@ -150,10 +159,18 @@ store_on Granted r w = Executed (onward r) (Some w)
 store_on Denied r w = Trapped (trap_of r store_denied w.at)
 store_on Touch r w = Touched
 
+-- what a store writes
+abbrev pub stored_value : StoreKind → ℕ → ℕ → Write
+stored_value kind at v = record { at = at; bytes = low_bytes (store_width kind) v }
+
+abbrev pub store_range : StoreKind → ℕ → Range
+store_range kind at = record { base = at; len = store_width kind }
+
+-- a store to an address, with the same order of tests
 abbrev pub store_to : Actor → Registers → StoreKind → ℕ → ℕ → Stepped
 store_to actor r kind at v =
     if at % store_width kind == 0
-    then store_on (access_of actor Stores (record { base = at; len = store_width kind })) r (record { at = at; bytes = low_bytes (store_width kind) v })
+    then store_on (access_of actor Stores (store_range kind at)) r (stored_value kind at v)
     else Trapped (trap_of r store_misaligned at)
 
 -- JALR clears bit 0 of its target

@@ -1,6 +1,5 @@
--- The registers of an actor with its pc and the number of instructions that it has completed, and the numbers of the
--- causes of traps.
-use Rattle.std.specs.Prelude.{ℕ, ◌+◌, ◌-◌, ◌%◌, ◌^◌, ◌==◌, if◌then◌else◌, List, [], ◌∷◌, ◌++◌, take, replicate, slice_index, slice_set, Option, Some, None}
+-- The registers of an actor with its pc and the number of instructions that it has completed.
+use Rattle.std.specs.Prelude.{ℕ, ◌+◌, ◌-◌, ◌%◌, ◌^◌, ◌==◌, if◌then◌else◌, List, [], ◌∷◌, ◌++◌, take, replicate, slice_index, slice_set}
 use Rattle.tss_base.specs.declared.operand.Task.{Task}
 use Rattle.tss_base.specs.declared.ending.Trap.{Trap}
 
@@ -38,58 +37,18 @@ end_pc = 0xFFFFFFF0
 abbrev pub main_registers : ℕ → Registers
 main_registers entry = record { values = 0 ∷ 0 ∷ 0xFFFF0000 ∷ replicate 29 0; pc = entry; done = 0 }
 
--- a task at first: x1 is where it ends, x2 the end of its scratch, x10 and on the bases of its operands as listed, the
--- next its argument, and the other registers are 0
+-- what a task has from x10 on: the bases of its operands as listed, and its argument
+abbrev pub starting_words : Task → List ℕ
+starting_words t = take t.listed t.bases ++ t.argument ∷ []
+
+-- a task at first: x1 is where it ends, x2 the end of its scratch, its starting words from x10 on, and the other
+-- registers are 0
 abbrev pub task_registers : Task → Registers
 task_registers t = record {
-  values = (0 ∷ end_pc ∷ 0xFFFE0000 ∷ replicate 7 0) ++ take t.listed t.bases ++ t.argument ∷ replicate (21 - t.listed) 0;
+  values = (0 ∷ end_pc ∷ 0xFFFE0000 ∷ replicate 7 0) ++ starting_words t ++ replicate (21 - t.listed) 0;
   pc = t.entry;
   done = 0;
 }
-
--- ---- traps
-
--- a taken branch or a jump has a target that isn't a multiple of 4: the value is the target
-abbrev pub jump_misaligned : ℕ
-jump_misaligned = 0
-
--- there is no word at the pc: the value is the pc
-abbrev pub fetch_outside : ℕ
-fetch_outside = 1
-
--- the word is no instruction: the value is the word
-abbrev pub illegal : ℕ
-illegal = 2
-
--- EBREAK: the value is the pc
-abbrev pub breakpoint : ℕ
-breakpoint = 3
-
--- a load's address isn't a multiple of its width; the actor may not load there: the value is the address
-abbrev pub load_misaligned : ℕ
-load_misaligned = 4
-
-abbrev pub load_denied : ℕ
-load_denied = 5
-
--- the same of a store
-abbrev pub store_misaligned : ℕ
-store_misaligned = 6
-
-abbrev pub store_denied : ℕ
-store_denied = 7
-
--- ECALL in a task: the value is x17
-abbrev pub call_in_task : ℕ
-call_in_task = 8
-
--- a task has completed as many instructions as its budget: the value is 0
-abbrev pub budget_spent : ℕ
-budget_spent = 9
-
--- ECALL of main with no call's number in x17: the value is x17
-abbrev pub unknown_call : ℕ
-unknown_call = 10
 
 -- a trap of the instruction at the pc
 abbrev pub trap_of : Registers → ℕ → ℕ → Trap
