@@ -169,7 +169,7 @@ module _ {K X : Type 0} {R : K → K → Ordering} (order : IsKeyOrder R) where
   ]
 
   -- the least key above another is what its name says
-  pub least_above_some : (m : FinMap R X) (k q : K) → least_above m k ≡ Some q → IsLeastAbove m k q
+  pub least_above_some : (m : FinMap R X) (k q : K) → least_above R m k ≡ Some q → IsLeastAbove m k q
   unfolding least_above key_at
   least_above_some m k q e =
       let t = find_there (λ q. is_lt (R k q)) (keys m) q e in
@@ -182,7 +182,7 @@ module _ {K X : Type 0} {R : K → K → Ordering} (order : IsKeyOrder R) where
       }
 
   -- where there is none, no key is above the other
-  pub least_above_none : (m : FinMap R X) (k : K) → least_above m k ≡ None → (q : K) (y : X) → get m q ≡ Some y →
+  pub least_above_none : (m : FinMap R X) (k : K) → least_above R m k ≡ None → (q : K) (y : X) → get m q ≡ Some y →
       R k q ≢ Less
   unfolding least_above key_at
   least_above_none m k e q y g up =
@@ -190,10 +190,10 @@ module _ {K X : Type 0} {R : K → K → Ordering} (order : IsKeyOrder R) where
       test_not_less (R k q) up (find_nowhere (λ q. is_lt (R k q)) (keys m) e s.0 q s.1)
 
   -- what is the least above another is the least key above it
-  pub least_above_is : (m : FinMap R X) (k q : K) → IsLeastAbove m k q → least_above m k ≡ Some q
-  least_above_is m k q is = by (least_above m k) refl
+  pub least_above_is : (m : FinMap R X) (k q : K) → IsLeastAbove m k q → least_above R m k ≡ Some q
+  least_above_is m k q is = by (least_above R m k) refl
     where
-      by : (o : Option K) → least_above m k ≡ o → o ≡ Some q
+      by : (o : Option K) → least_above R m k ≡ o → o ≡ Some q
       by None e = absurd (least_above_none m k e q is.there.0 is.there.1 is.above)
       by (Some p) e = elim (decide_key order p q) [
         | inl same ↦ ap Some same
@@ -205,7 +205,7 @@ module _ {K X : Type 0} {R : K → K → Ordering} (order : IsKeyOrder R) where
       ]
 
   -- above the key at a place the least is the key at the next place
-  pub least_above_place : (m : FinMap R X) (i : ℕ) (k : K) → key_at m i ≡ Some k → least_above m k ≡ key_at m (suc i)
+  pub least_above_place : (m : FinMap R X) (i : ℕ) (k : K) → key_at m i ≡ Some k → least_above R m k ≡ key_at m (suc i)
   unfolding least_above key_at
   least_above_place m i k at =
       find_first (λ q. is_lt (R k q)) (keys m) (suc i) (λ j q l e. not_above j q l e)

@@ -14,5 +14,5 @@ abbrev pub least : {K X : Type 0} {R : K → K → Ordering} → FinMap R X → 
 least m = key_at m 0
 
 -- the least of the keys above a given one
-unfoldable pub least_above : {K X : Type 0} {R : K → K → Ordering} → FinMap R X → K → Option K
-least_above {R = R} m k = find (λ q. is_lt (R k q)) (keys m)
+unfoldable pub least_above : {K X : Type 0} (R : K → K → Ordering) → FinMap R X → K → Option K
+least_above R m k = find (λ q. is_lt (R k q)) (keys m)
