@@ -82,3 +82,8 @@ fails_after o p r kept keeps rest before mid now result text done part more is f
 -- the parts from one on are it and those after it
 pub joined_from : (xs : List (Bor (List ℕ))) (i : ℕ) (d : Bor (List ℕ)) → i < length xs → joined (map (λ b. b.now) (drop i xs)) ≡ (get_or xs i d).now ++ joined (map (λ b. b.now) (drop (i + 1) xs))
 joined_from xs i d h = rw (add-one, drop-cons xs i d)
+
+-- a text that is the same
+pub same_text : {o p : Option (List ℕ)} {kept keeps : List ℕ} {before now : ℕ} {result : Result (Unit {0}) Failed} {text same : List ℕ} → text ≡ same → Emits o kept p keeps before now result text → Emits o kept p keeps before now result same
+same_text {o = o} {p = p} {kept = kept} {keeps = keeps} {before = before} {now = now} {result = result} e h =
+    subst (λ t. Emits o kept p keeps before now result t) e h

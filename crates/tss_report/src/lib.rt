@@ -4,5 +4,6 @@
 #![tactic(auto)]
 
 mod pieces;
+mod report;
 
 pub use pieces::Pieces;
