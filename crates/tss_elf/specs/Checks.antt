@@ -1,5 +1,6 @@
 -- The checks that an image has to pass, in their order, and the first that fails.
-use Rattle.std.specs.Prelude.{ℕ, ◌+◌, ◌*◌, ◌%◌, ◌==◌, nat_lt, nat_eq, Bool, false, ◌&&◌, ◌||◌, not, if◌then◌else◌, List, [], ◌∷◌, ◌++◌, length, slice_index, flat_map, sum_by, Option, None, Some}
+use Rattle.std.specs.Prelude.{ℕ, ◌+◌, ◌*◌, ◌%◌, ◌==◌, nat_lt, nat_eq, Bool, false, ◌&&◌, ◌||◌, not, if◌then◌else◌, List}
+use Rattle.std.specs.Prelude.{[], ◌∷◌, ◌++◌, length, slice_index, flat_map, sum_by, Option, None, Some}
 use Rattle.std.specs.Int.{bit_at}
 use Rattle.std.specs.List.{list_any, starts_with}
 use Rattle.tss_base.specs.Image.{segments_end, max_segments, max_image_bytes}
@@ -7,7 +8,8 @@ use Rattle.tss_base.specs.Range.{end_of, meets, contains}
 use Rattle.tss_elf.specs.declared.header.ProgramHeader.{ProgramHeader}
 use Rattle.tss_elf.specs.declared.refusal.Refusal.{Refusal}
 use Rattle.tss_elf.specs.declared.refusal.Refusal.TheVariants as check
-use Rattle.tss_elf.specs.Fields.{half_at, word_at, file_header_len, program_header_len, entry_of, headers_place, header_size, header_count, headers, is_loaded, kept_headers, is_code, range_of}
+use Rattle.tss_elf.specs.Fields.{half_at, word_at, file_header_len, program_header_len, entry_of, headers_place}
+use Rattle.tss_elf.specs.Fields.{header_size, header_count, headers, is_loaded, kept_headers, is_code, range_of}
 
 -- Of the file header. It has fewer bytes than a file header
 abbrev pub is_short : List ℕ → Bool
@@ -46,12 +48,15 @@ has_float_abi bytes = names_float_abi (word_at bytes 36)
 
 -- it has too many program headers, or some of another length
 abbrev pub has_bad_header_size : List ℕ → Bool
-has_bad_header_size bytes = nat_lt max_segments (header_count bytes) || nat_lt 0 (header_count bytes) && not (header_size bytes == program_header_len)
+has_bad_header_size bytes =
+    nat_lt max_segments (header_count bytes)
+    || nat_lt 0 (header_count bytes) && not (header_size bytes == program_header_len)
 
 -- it has program headers that pass the end of the file
 abbrev pub has_misplaced_headers : List ℕ → Bool
 has_misplaced_headers bytes =
-    nat_lt 0 (header_count bytes) && nat_lt (length bytes) (headers_place bytes + program_header_len * header_count bytes)
+    nat_lt 0 (header_count bytes)
+    && nat_lt (length bytes) (headers_place bytes + program_header_len * header_count bytes)
 
 -- Of a program header. It asks for a dynamic linker
 abbrev pub is_dynamic : ProgramHeader → Bool
@@ -59,7 +64,9 @@ is_dynamic h = h.kind == 2 || h.kind == 3
 
 -- its bytes pass the end of a file of this length, or its segment passes the last address that a segment may have
 abbrev pub is_misplaced : ℕ → ProgramHeader → Bool
-is_misplaced file_len h = is_loaded h && (nat_lt file_len (h.offset + h.file_size) || nat_lt segments_end (end_of (range_of h)))
+is_misplaced file_len h =
+    is_loaded h
+    && (nat_lt file_len (h.offset + h.file_size) || nat_lt segments_end (end_of (range_of h)))
 
 -- more bytes of the file than of memory belong to it
 abbrev pub is_oversized : ProgramHeader → Bool
@@ -121,7 +128,9 @@ kept_checks entry hs =
 -- all of them: those of one program header come before those of the next
 unfoldable pub checks : List ℕ → List (Refusal × Bool)
 checks bytes =
-    file_checks bytes ++ flat_map (header_checks (length bytes)) (headers bytes) ++ kept_checks (entry_of bytes) (kept_headers bytes)
+    file_checks bytes
+    ++ flat_map (header_checks (length bytes)) (headers bytes)
+    ++ kept_checks (entry_of bytes) (kept_headers bytes)
 
 -- the first that fails
 abbrev pub first_failing : List (Refusal × Bool) → Option Refusal
