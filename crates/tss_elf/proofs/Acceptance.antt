@@ -20,7 +20,8 @@ use Rattle.tss_elf.specs.declared.header.ProgramHeader.{ProgramHeader}
 use Rattle.tss_elf.specs.declared.refusal.Refusal.{Refusal}
 use Rattle.tss_elf.specs.declared.refusal.Refusal.TheVariants as check
 use Rattle.tss_elf.specs.Fields.{headers, header_count, kept_headers, is_kept, is_loaded, is_code, range_of, entry_of}
-use Rattle.tss_elf.specs.Checks.{file_checks, header_checks, kept_checks, first_failing, has_code_at, is_misplaced}
+use Rattle.tss_elf.specs.Checks.{each_header_checks, file_checks, header_checks, kept_checks, first_failing}
+use Rattle.tss_elf.specs.Checks.{has_code_at, is_misplaced}
 use Rattle.tss_elf.specs.Checks.{is_oversized, has_bad_header_size}
 use Rattle.tss_elf.specs.Elf.{CanLoad, by_address, segment_of, loaded_image}
 use Rattle.tss_elf.proofs.Failing.{passed_before, passed_after, length-headers}
@@ -143,7 +144,7 @@ module _ (bytes : List ℕ) where
         )
 
   -- kept headers can be loaded where all headers pass, and are few where the file header passes
-  pub kept_can_load : first_failing (flat_map (header_checks (length bytes)) (headers bytes)) ≡ None
+  pub kept_can_load : first_failing (each_header_checks bytes) ≡ None
       → All (CanLoad (length bytes)) (kept_headers bytes)
   kept_can_load each = all_can_load (length bytes) (headers bytes) each
 
@@ -164,7 +165,7 @@ module _ (bytes : List ℕ) where
 
   -- an image whose headers pass, and whose kept segments pass together: no two of them share an address
   module _ (file : first_failing (file_checks bytes) ≡ None)
-      (each : first_failing (flat_map (header_checks (length bytes)) (headers bytes)) ≡ None)
+      (each : first_failing (each_header_checks bytes) ≡ None)
       (together : first_failing (kept_checks (entry_of bytes) (kept_headers bytes)) ≡ None) where
     kept_apart : AllPairs AreApart (kept_headers bytes)
     kept_apart =

@@ -1,7 +1,7 @@
 -- The verdict on bytes, by the part in which the first check fails, or none.
 use Rattle.std.proofs.Common.{◌≡◌, ℕ, ◌%◌, Bool, not, ◌||◌, List, [], ◌∷◌, ◌++◌, length, get_or, take, drop, false}
 use Rattle.std.proofs.Common.{arith, ◌<◌, ◌≤◌, refl, sym, ap, ◌∙◌, subst, Option, Some, None, Result, Ok, Err}
-use Rattle.std.specs.Prelude.{All, map, flat_map, IsErrAnd, nat_lt, nat_eq}
+use Rattle.std.specs.Prelude.{All, map, IsErrAnd, nat_lt, nat_eq}
 use Rattle.std.specs.List.Sorted.{IsPermutation, IsNonDecreasingBy}
 use Rattle.std.proofs.lemmas.Bool.Decides.{nat_tests}
 use Rattle.std.proofs.lemmas.List.{append-nil, take_all, drop_all}
@@ -13,8 +13,9 @@ use Rattle.tss_elf.specs.declared.refusal.ImageFault.{ImageFault}
 use Rattle.tss_elf.specs.declared.refusal.ImageFault.TheVariants as fault
 use Rattle.tss_elf.specs.declared.refusal.Refusal.{Refusal}
 use Rattle.tss_elf.specs.declared.refusal.Refusal.TheVariants as check
-use Rattle.tss_elf.specs.Fields.{headers, kept_headers, entry_of, is_code}
-use Rattle.tss_elf.specs.Checks.{checks, file_checks, header_checks, kept_checks, first_failing, has_code_at}
+use Rattle.tss_elf.specs.Fields.{kept_headers, entry_of, is_code}
+use Rattle.tss_elf.specs.Checks.{each_header_checks, checks, file_checks, kept_checks, first_failing}
+use Rattle.tss_elf.specs.Checks.{has_code_at}
 use Rattle.tss_elf.specs.Elf.{Verdict, Refused, Accepted, CanLoad, number_of, by_address, segment_of, verdict_on}
 use Rattle.tss_elf.specs.Elf.{loaded_image, image_of, Passes, Gives, IfAccepted}
 use Rattle.tss_elf.proofs.Failing.{failing_before, failing_after, passed_before, passed_after}
@@ -38,10 +39,6 @@ failing-IsPermutation entry hs gs moved =
     ∷ [])
 
 module _ (bytes : List ℕ) where
-  -- the checks of all program headers
-  abbrev all_headers : List (Refusal × Bool)
-  all_headers = flat_map (header_checks (length bytes)) (headers bytes)
-
   abbrev all_kept : List (Refusal × Bool)
   all_kept = kept_checks (entry_of bytes) (kept_headers bytes)
 
@@ -55,32 +52,35 @@ module _ (bytes : List ℕ) where
   pub refused_file : (r : Refusal) → first_failing (file_checks bytes) ≡ Some r → image_of bytes ≡ Refused (number_of r)
   unfolding checks
   refused_file r e =
-      verdict_is (Some r) (failing_before (file_checks bytes ++ all_headers) all_kept r
-      (failing_before (file_checks bytes) all_headers r e))
+      verdict_is (Some r) (failing_before (file_checks bytes ++ each_header_checks bytes) all_kept r
+      (failing_before (file_checks bytes) (each_header_checks bytes) r e))
 
   module _ (file : first_failing (file_checks bytes) ≡ None) where
     -- one of a program header
-    pub refused_header : (r : Refusal) → first_failing all_headers ≡ Some r → image_of bytes ≡ Refused (number_of r)
+    pub refused_header : (r : Refusal) → first_failing (each_header_checks bytes) ≡ Some r
+        → image_of bytes ≡ Refused (number_of r)
     unfolding checks
     refused_header r e =
-        verdict_is (Some r) (failing_before (file_checks bytes ++ all_headers) all_kept r
-        (failing_after (file_checks bytes) all_headers file ∙ e))
+        verdict_is (Some r) (failing_before (file_checks bytes ++ each_header_checks bytes) all_kept r
+        (failing_after (file_checks bytes) (each_header_checks bytes) file ∙ e))
 
-    module _ (each : first_failing (flat_map (header_checks (length bytes)) (headers bytes)) ≡ None) where
-      before_kept : first_failing (file_checks bytes ++ all_headers) ≡ None
-      before_kept = failing_after (file_checks bytes) all_headers file ∙ each
+    module _ (each : first_failing (each_header_checks bytes) ≡ None) where
+      before_kept : first_failing (file_checks bytes ++ each_header_checks bytes) ≡ None
+      before_kept = failing_after (file_checks bytes) (each_header_checks bytes) file ∙ each
 
       -- one of the kept segments together, in any order of them
       pub refused_kept : (r : Refusal) → first_failing (kept_checks (entry_of bytes) (kept_headers bytes)) ≡ Some r
           → image_of bytes ≡ Refused (number_of r)
       unfolding checks
-      refused_kept r e = verdict_is (Some r) (failing_after (file_checks bytes ++ all_headers) all_kept before_kept ∙ e)
+      refused_kept r e =
+          verdict_is (Some r) (failing_after (file_checks bytes ++ each_header_checks bytes) all_kept before_kept ∙ e)
 
       -- none
       pub accepted_all : first_failing (kept_checks (entry_of bytes) (kept_headers bytes)) ≡ None
           → image_of bytes ≡ Accepted (loaded_image bytes)
       unfolding checks
-      accepted_all e = verdict_is None (failing_after (file_checks bytes ++ all_headers) all_kept before_kept ∙ e)
+      accepted_all e =
+          verdict_is None (failing_after (file_checks bytes ++ each_header_checks bytes) all_kept before_kept ∙ e)
 
   -- an accepted image can be run
   accepted_on : (first : Option Refusal) → first_failing (checks bytes) ≡ first
@@ -88,10 +88,10 @@ module _ (bytes : List ℕ) where
   unfolding checks
   accepted_on (Some r) e = tt
   accepted_on None e =
-      let before = passed_before (file_checks bytes ++ all_headers) all_kept e in
-      let after = passed_after (file_checks bytes ++ all_headers) all_kept e in
-      IsAccepted-loaded_image bytes (passed_before (file_checks bytes) all_headers before)
-      (passed_after (file_checks bytes) all_headers before) after
+      let before = passed_before (file_checks bytes ++ each_header_checks bytes) all_kept e in
+      let after = passed_after (file_checks bytes ++ each_header_checks bytes) all_kept e in
+      IsAccepted-loaded_image bytes (passed_before (file_checks bytes) (each_header_checks bytes) before)
+      (passed_after (file_checks bytes) (each_header_checks bytes) before) after
 
   pub image_is_accepted : IfAccepted (image_of bytes) IsAccepted
   unfolding image_of
@@ -107,7 +107,7 @@ gives_refused (Err e) bytes r is h = subst (λ f. Gives (Err f) (image_of bytes)
 -- an answer that reading the headers gave is the verdict, where it is one
 pub headers_failed : (bytes : List ℕ) {X : Type 0} (P : X → Type 0) (e : ImageFault) (first : Option Refusal)
     → first_failing (file_checks bytes) ≡ None
-    → first_failing (flat_map (header_checks (length bytes)) (headers bytes)) ≡ first → Passes (Err e) first P
+    → first_failing (each_header_checks bytes) ≡ first → Passes (Err e) first P
     → Gives (Err e) (image_of bytes)
 headers_failed bytes P fault.NoMemory first file is h = tt
 headers_failed bytes P (fault.Check n) (Some r) file is h =
@@ -121,7 +121,7 @@ below_from_apart g h apart up some_g some_h = grind (arith, nat_tests)
 
 -- the headers that are kept, in any order
 module _ (bytes : List ℕ) (hs : List ProgramHeader) (moved : IsPermutation (kept_headers bytes) hs) where
-  pub any_can_load : first_failing (flat_map (header_checks (length bytes)) (headers bytes)) ≡ None
+  pub any_can_load : first_failing (each_header_checks bytes) ≡ None
       → All (CanLoad (length bytes)) hs
   any_can_load each = All-permutation (CanLoad (length bytes)) (kept_headers bytes) hs moved (kept_can_load bytes each)
 
@@ -136,7 +136,7 @@ module _ (bytes : List ℕ) (hs : List ProgramHeader) (moved : IsPermutation (ke
       ∙ ap (λ n. first_failing (kept_checks n hs)) (sym at) ∙ sym e
 
   -- in the order of their addresses, where all pass
-  pub in_order : first_failing (flat_map (header_checks (length bytes)) (headers bytes)) ≡ None
+  pub in_order : first_failing (each_header_checks bytes) ≡ None
       → IsNonDecreasingBy (λ h. h.address) hs
       → first_failing (kept_checks (entry_of bytes) (kept_headers bytes)) ≡ None
       → hs ≡ by_address (kept_headers bytes)

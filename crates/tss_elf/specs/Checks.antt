@@ -11,7 +11,9 @@ use Rattle.tss_elf.specs.declared.refusal.Refusal.TheVariants as check
 use Rattle.tss_elf.specs.Fields.{half_at, word_at, file_header_len, program_header_len, entry_of, headers_place}
 use Rattle.tss_elf.specs.Fields.{header_size, header_count, headers, is_loaded, kept_headers, is_code, range_of}
 
--- Of the file header. It has fewer bytes than a file header
+-- The tests, each of which says that its check fails.
+
+-- of the file header: it isn't there whole
 abbrev pub is_short : List ℕ → Bool
 is_short bytes = nat_lt (length bytes) file_header_len
 
@@ -58,7 +60,7 @@ has_misplaced_headers bytes =
     nat_lt 0 (header_count bytes)
     && nat_lt (length bytes) (headers_place bytes + program_header_len * header_count bytes)
 
--- Of a program header. It asks for a dynamic linker
+-- of a program header: it asks for a dynamic linker
 abbrev pub is_dynamic : ProgramHeader → Bool
 is_dynamic h = h.kind == 2 || h.kind == 3
 
@@ -72,7 +74,7 @@ is_misplaced file_len h =
 abbrev pub is_oversized : ProgramHeader → Bool
 is_oversized h = is_loaded h && nat_lt h.memory_size h.file_size
 
--- Of the kept segments together. Some two share an address
+-- of the kept segments together: some two share an address
 abbrev pub shares_address : ProgramHeader → ProgramHeader → Bool
 shares_address g h = meets (range_of g) (range_of h)
 
@@ -91,7 +93,7 @@ has_code_at entry h = is_code h && contains (range_of h) (record { base = entry;
 abbrev pub has_misplaced_entry : ℕ → List ProgramHeader → Bool
 has_misplaced_entry entry hs = not (entry % 4 == 0) || not (list_any (has_code_at entry) hs)
 
--- they have too many bytes
+-- they have too many bytes together
 abbrev pub is_too_large : List ProgramHeader → Bool
 is_too_large hs = nat_lt max_image_bytes (sum_by (λ h. h.memory_size) hs)
 
@@ -125,12 +127,13 @@ kept_checks entry hs =
     ∷ (check.TooLarge, is_too_large hs)
     ∷ []
 
--- all of them: those of one program header come before those of the next
+-- those of one program header come before those of the next
+abbrev pub each_header_checks : List ℕ → List (Refusal × Bool)
+each_header_checks bytes = flat_map (header_checks (length bytes)) (headers bytes)
+
+-- all of them
 unfoldable pub checks : List ℕ → List (Refusal × Bool)
-checks bytes =
-    file_checks bytes
-    ++ flat_map (header_checks (length bytes)) (headers bytes)
-    ++ kept_checks (entry_of bytes) (kept_headers bytes)
+checks bytes = file_checks bytes ++ each_header_checks bytes ++ kept_checks (entry_of bytes) (kept_headers bytes)
 
 -- the first that fails
 abbrev pub first_failing : List (Refusal × Bool) → Option Refusal

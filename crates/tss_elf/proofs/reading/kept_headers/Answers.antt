@@ -2,7 +2,7 @@ use Rattle.std.proofs.Common.{◌<◌, length, ap, sym, ◌∙◌, arith, true, 
 use Rattle.std.proofs.lemmas.List.{take_all, append-nil}
 use Rattle.std.specs.Prelude.{flat_map, filter}
 use Rattle.tss_elf.specs.Fields.{headers, header_count, is_kept}
-use Rattle.tss_elf.specs.Checks.{first_failing, header_checks}
+use Rattle.tss_elf.specs.Checks.{each_header_checks, first_failing, header_checks}
 use Rattle.tss_elf.proofs.Failing.{fails_at, passed_more, kept_more, failed, length-headers, header_read}
 use Rattle.tss_elf.proofs.reading.kept_headers.Goals as goal
 use Rattle.tss_elf.proofs.reading.kept_headers.Goals.{then-is_kept+in_ok-push, else-is_kept}
@@ -20,7 +20,7 @@ returns-in_err-check c =
     fails_at (header_checks (length bytes)) (headers bytes) c.loop-i.i c.read-header.result
     c.in_err-check.field-0.0 inside c.loop-i.invariant.passed fails in
     failed c.from_residual-in_err-check.result
-    (first_failing (flat_map (header_checks (length bytes)) (headers bytes))) _ c.in_err-check.field-0.0 first
+    (first_failing (each_header_checks bytes)) _ c.in_err-check.field-0.0 first
     c.from_residual-in_err-check.ensures.1
 
 pub loop-i-preserved : goal.loop-i-preserved

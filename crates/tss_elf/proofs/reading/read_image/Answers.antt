@@ -1,10 +1,8 @@
 use Rattle.std.proofs.Common.{◌≡◌, length, refl, sym, ◌∙◌, subst, arith}
-use Rattle.std.specs.Prelude.{flat_map}
 use Rattle.std.specs.List.Sorted.{IsNonDecreasingBy}
 use Rattle.std.proofs.lemmas.List.Sorted.{length_permutation}
 use Rattle.tss_elf.specs.declared.header.ProgramHeader.{ProgramHeader}
-use Rattle.tss_elf.specs.Fields.{headers}
-use Rattle.tss_elf.specs.Checks.{first_failing, header_checks}
+use Rattle.tss_elf.specs.Checks.{each_header_checks, first_failing}
 use Rattle.tss_elf.specs.Elf.{image_of}
 use Rattle.tss_elf.proofs.Verdicts.{refused_file, gives_refused, headers_failed, gives_same, written_whole}
 use Rattle.tss_elf.proofs.Verdicts.{image_is_accepted}
@@ -24,7 +22,7 @@ returns-in_err-kept-clause-exact c =
     let bytes = c.args.bytes.now in
     let fails =
     headers_failed bytes _ c.in_err-kept.field-0.0
-    (first_failing (flat_map (header_checks (length bytes)) (headers bytes)))
+    (first_failing (each_header_checks bytes))
     (sym c.in_ok-check_file.ensures.first) refl c.in_err-kept.ensures in
     gives_same c.from_residual-in_err-kept.result c.in_err-kept.field-0.0 (image_of bytes) fails
     c.from_residual-in_err-kept.ensures.1
