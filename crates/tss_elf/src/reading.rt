@@ -1,9 +1,9 @@
 // From bytes to an image.
-ghost use Rattle.std.specs.Prelude.{◌≡◌, ◌+◌, ◌*◌, ◌<◌, ◌≤◌, length, flat_map, All, IfOk, IfErr, map, None};
+ghost use Rattle.std.specs.Prelude.{◌≡◌, ◌+◌, ◌*◌, ◌<◌, ◌≤◌, length, All, IfOk, IfErr, map, None};
 ghost use Rattle.std.specs.List.Sorted.{IsNonDecreasingBy, IsPermutation};
 ghost use Rattle.tss_base.specs.Image.{IsAccepted};
-ghost use Rattle.tss_elf.specs.Fields.{headers, headers_place, header_count, kept_headers as kept_of};
-ghost use Rattle.tss_elf.specs.Checks.{each_header_checks, first_failing, file_checks, header_checks};
+ghost use Rattle.tss_elf.specs.Fields.{headers_place, header_count, kept_headers as kept_of};
+ghost use Rattle.tss_elf.specs.Checks.{each_header_checks, first_failing, file_checks};
 ghost use Rattle.tss_elf.specs.Elf.{CanLoad, Passes, segment_of, image_of, Gives, IfAccepted};
 
 use crate::checking::{check_file, check_kept};
