@@ -45,6 +45,78 @@ const LINKED: &str =
     420100001c00000000000000000000000100000000000000010000000300000000000000000000005e01000038000000\
     00000000000000000100000000000000";
 
+/// Changes of the bytes of `LINKER`, and the number of the check that then fails: another class, a segment far beyond the
+/// file, too many headers, and a segment that begins at the last byte of the one before.
+const LINKER_CASES: [(&[(usize, u8)], u32); 4] = [
+    (&[(4, 2)], 3),
+    (
+        &[
+            (88, 0xFF),
+            (89, 0xFF),
+            (90, 0xFF),
+            (91, 0xFF),
+            (100, 0xFF),
+            (101, 0xFF),
+            (102, 0xFF),
+            (103, 0xFF),
+        ],
+        12,
+    ),
+    (&[(44, 1), (45, 1)], 9),
+    (&[(124, 0xFF), (125, 1), (126, 1)], 14),
+];
+
+/// Changes of the bytes of `EXIT`, and the number of the check that then fails, 0 where none does.
+const CASES: [(&[(usize, u8)], u32); 40] = [
+    (&[], 0),
+    // The file header. Bits 0 and 3 of the flags are ignored.
+    (&[(0, 0)], 2),
+    (&[(3, 0x47)], 2),
+    (&[(4, 2)], 3),
+    (&[(5, 2)], 4),
+    (&[(6, 0)], 5),
+    (&[(20, 2)], 5),
+    (&[(16, 3)], 6),
+    (&[(18, 0xF4)], 7),
+    (&[(36, 2)], 8),
+    (&[(36, 4)], 8),
+    (&[(36, 9)], 0),
+    (&[(44, 1), (45, 1)], 9),
+    (&[(42, 33)], 9),
+    (&[(28, 65)], 10),
+    (&[(31, 0xFF)], 10),
+    // No header: neither its size nor its place is looked at, but there is no code.
+    (&[(28, 0xFF), (42, 33), (44, 0)], 15),
+    // The program headers.
+    (&[(84, 2)], 11),
+    (&[(84, 3)], 11),
+    (&[(84, 4)], 0),
+    (&[(88, 128)], 0),
+    (&[(88, 129)], 12),
+    (&[(92, 0), (93, 0xF0), (94, 0xFC), (95, 0xFF)], 0),
+    (&[(92, 1), (93, 0xF0), (94, 0xFC), (95, 0xFF)], 12),
+    (&[(72, 11)], 13),
+    // The segments together: a shared byte, and neighbours that touch.
+    (&[(92, 0x0B), (94, 1)], 14),
+    (&[(92, 0x0C), (94, 1)], 0),
+    (&[(93, 0xF0), (94, 0)], 0),
+    (&[(92, 1), (93, 0xF0), (94, 0)], 14),
+    // A segment of no bytes isn't kept, wherever it is said to be.
+    (&[(94, 1), (105, 0)], 0),
+    (&[(76, 4)], 15),
+    (&[(68, 0), (72, 0)], 15),
+    (&[(24, 2)], 16),
+    (&[(24, 8)], 0),
+    (&[(24, 12)], 16),
+    (&[(26, 2)], 16),
+    // 64 MiB together, and a byte more.
+    (&[(104, 0xF4), (105, 0xFF), (106, 0xFF), (107, 3)], 0),
+    (&[(104, 0xF5), (105, 0xFF), (106, 0xFF), (107, 3)], 17),
+    // Two fail: the earlier check, the earlier header, and then the earlier check of one header.
+    (&[(4, 2), (36, 2)], 3),
+    (&[(72, 11), (84, 2)], 13),
+];
+
 /// The number of the check that the bytes fail, 0 where they are accepted, 99 where memory ran out.
 fn verdict(alloc: Global, bytes: &[u8]) -> u32 {
     match read_image(alloc, bytes) {
@@ -106,7 +178,7 @@ fn check_image(
 }
 
 #[test]
-fn linked_images_are_read(rt: HostRuntime) -> Result<(), Fail> {
+fn a_program_that_gcc_linked_is_read(rt: HostRuntime) -> Result<(), Fail> {
     let linked = hex::decode(rt.alloc(), LINKED)?;
     let wanted = [
         Wanted {
@@ -127,6 +199,11 @@ fn linked_images_are_read(rt: HostRuntime) -> Result<(), Fail> {
         },
     ];
     check_image(&rt, rt.alloc(), &linked, 0x10094, wanted)?;
+    Ok(())
+}
+
+#[test]
+fn headers_of_other_types_are_passed_over(rt: HostRuntime) -> Result<(), Fail> {
     let mut linker = hex::decode(rt.alloc(), LINKER)?;
     linker.resize(LINKER_LEN, 0)?;
     let wanted = [
@@ -193,25 +270,7 @@ fn cuts_and_changes_of_a_linked_image_are_refused(rt: HostRuntime) -> Result<(),
             .map_or(99, |part| verdict(rt.alloc(), part));
         assert_eq!(rt; found, want, "cut to {len}");
     }
-    let second = 52 + 32;
-    let third = second + 32;
-    let past_all = [
-        (second + 4, 0xFF),
-        (second + 5, 0xFF),
-        (second + 6, 0xFF),
-        (second + 7, 0xFF),
-        (second + 16, 0xFF),
-        (second + 17, 0xFF),
-        (second + 18, 0xFF),
-        (second + 19, 0xFF),
-    ];
-    let cases: [(&[(usize, u8)], u32); 4] = [
-        (&[(4, 2)], 3),
-        (&past_all, 12),
-        (&[(44, 1), (45, 1)], 9),
-        (&[(third + 8, 0xFF), (third + 9, 1), (third + 10, 1)], 14),
-    ];
-    for (changes, want) in &cases {
+    for (changes, want) in &LINKER_CASES {
         let mut changed = Vec::from_slice(rt.alloc(), &image)?;
         patch(&mut changed, changes);
         assert_eq!(rt; verdict(rt.alloc(), &changed), *want);
@@ -221,57 +280,8 @@ fn cuts_and_changes_of_a_linked_image_are_refused(rt: HostRuntime) -> Result<(),
 
 #[test]
 fn each_check_refuses_what_fails_it_alone(rt: HostRuntime) -> Result<(), Fail> {
-    let cases: [(&[(usize, u8)], u32); 40] = [
-        (&[], 0),
-        // The file header. Bits 0 and 3 of the flags are ignored.
-        (&[(0, 0)], 2),
-        (&[(3, 0x47)], 2),
-        (&[(4, 2)], 3),
-        (&[(5, 2)], 4),
-        (&[(6, 0)], 5),
-        (&[(20, 2)], 5),
-        (&[(16, 3)], 6),
-        (&[(18, 0xF4)], 7),
-        (&[(36, 2)], 8),
-        (&[(36, 4)], 8),
-        (&[(36, 9)], 0),
-        (&[(44, 1), (45, 1)], 9),
-        (&[(42, 33)], 9),
-        (&[(28, 65)], 10),
-        (&[(31, 0xFF)], 10),
-        // No header: neither its size nor its place is looked at, but there is no code.
-        (&[(28, 0xFF), (42, 33), (44, 0)], 15),
-        // The program headers.
-        (&[(84, 2)], 11),
-        (&[(84, 3)], 11),
-        (&[(84, 4)], 0),
-        (&[(88, 128)], 0),
-        (&[(88, 129)], 12),
-        (&[(92, 0), (93, 0xF0), (94, 0xFC), (95, 0xFF)], 0),
-        (&[(92, 1), (93, 0xF0), (94, 0xFC), (95, 0xFF)], 12),
-        (&[(72, 11)], 13),
-        // The segments together: a shared byte, and neighbours that touch.
-        (&[(92, 0x0B), (94, 1)], 14),
-        (&[(92, 0x0C), (94, 1)], 0),
-        (&[(93, 0xF0), (94, 0)], 0),
-        (&[(92, 1), (93, 0xF0), (94, 0)], 14),
-        // A segment of no bytes isn't kept, wherever it is said to be.
-        (&[(94, 1), (105, 0)], 0),
-        (&[(76, 4)], 15),
-        (&[(68, 0), (72, 0)], 15),
-        (&[(24, 2)], 16),
-        (&[(24, 8)], 0),
-        (&[(24, 12)], 16),
-        (&[(26, 2)], 16),
-        // 64 MiB together, and a byte more.
-        (&[(104, 0xF4), (105, 0xFF), (106, 0xFF), (107, 3)], 0),
-        (&[(104, 0xF5), (105, 0xFF), (106, 0xFF), (107, 3)], 17),
-        // Two fail: the earlier check, the earlier header, and then the earlier check of one header.
-        (&[(4, 2), (36, 2)], 3),
-        (&[(72, 11), (84, 2)], 13),
-    ];
     let image = hex::decode(rt.alloc(), EXIT)?;
-    for (i, (changes, want)) in cases.iter().enumerate() {
+    for (i, (changes, want)) in CASES.iter().enumerate() {
         let mut changed = Vec::from_slice(rt.alloc(), &image)?;
         patch(&mut changed, changes);
         assert_eq!(rt; verdict(rt.alloc(), &changed), *want, "case {i}");
