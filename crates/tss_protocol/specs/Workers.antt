@@ -1,5 +1,5 @@
 -- The worker cores: each runs a task over the storages of its operands and a scratch of its own.
-use Rattle.std.specs.Prelude.{ℕ, ◌-◌, ◌==◌, Bool, false, ◌&&◌, ◌||◌, not, nat_lt, if◌then◌else◌, List, [], ◌∷◌, find, slice_index, Option, Some, None, is_none, is_some}
+use Rattle.std.specs.Prelude.{ℕ, ◌-◌, ◌==◌, Bool, false, ◌&&◌, ◌||◌, not, nat_lt, if◌then◌else◌, List, [], ◌∷◌, find, slice_index, Option, Some, None, is_none, is_some, take}
 use Rattle.std.specs.FinMap.{insert}
 use Rattle.tss_base.specs.declared.range.Range.{Range}
 use Rattle.tss_base.specs.declared.operand.Operand.{Operand}
@@ -7,7 +7,7 @@ use Rattle.tss_base.specs.declared.ending.Trap.{Trap}
 use Rattle.tss_base.specs.declared.machine.Limits.{Limits}
 use Rattle.tss_base.specs.Names.{Named}
 use Rattle.tss_base.specs.Image.{SegmentState}
-use Rattle.tss_model.specs.Memory.{Memory, scratch_range, covers, zeros, list_put, byte_at, zeroed}
+use Rattle.tss_model.specs.Memory.{Memory, scratch_range, covers, zeros, list_put, byte_at, bytes_of, zeroed}
 use Rattle.tss_model.specs.Registers.{task_registers, end_pc}
 use Rattle.tss_model.specs.Access.{TaskActor, operands_of, reads}
 use Rattle.tss_model.specs.Core.{Write}
@@ -51,6 +51,11 @@ byte_in s (Some p) a = storage_byte s p.object p.storage a
 -- the byte at an address: of an operand in its storage, and any other at home
 abbrev pub worker_byte : List Placed → Stores → ℕ → ℕ
 worker_byte placed s a = byte_in s (placed_at placed a) a
+
+-- the bytes of an object in its storage
+abbrev pub stored_bytes : Stores → Range → StorageName → List ℕ
+stored_bytes s object Home = bytes_of s.home object
+stored_bytes s object (Buffer n) = take object.len (buffer_bytes s.contents n)
 
 -- bytes written to an object in its storage
 abbrev pub storage_write : Stores → Range → StorageName → Write → Stores
