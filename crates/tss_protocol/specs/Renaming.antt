@@ -56,6 +56,13 @@ pub data Wait : Type 0 where
   VersionsFull : Wait
   BuffersFull : Wait
 
+-- their numbers, in the order in which they are tested
+abbrev pub wait_number : Wait → ℕ
+wait_number Retiring = 1
+wait_number EntriesFull = 2
+wait_number VersionsFull = 3
+wait_number BuffersFull = 4
+
 -- the first of two waits
 abbrev pub wait_or : Bool → Wait → Option Wait → Option Wait
 wait_or waits w rest = if waits then Some w else rest

@@ -3,6 +3,7 @@ use Rattle.std.specs.Prelude.{ℕ, ◌-◌, ◌==◌, Bool, false, ◌&&◌, ◌
 use Rattle.std.specs.FinMap.{insert}
 use Rattle.tss_base.specs.declared.range.Range.{Range}
 use Rattle.tss_base.specs.declared.operand.Operand.{Operand}
+use Rattle.tss_base.specs.declared.operand.Task.{Task}
 use Rattle.tss_base.specs.declared.ending.Trap.{Trap}
 use Rattle.tss_base.specs.declared.machine.Limits.{Limits}
 use Rattle.tss_base.specs.Names.{Named}
@@ -90,14 +91,18 @@ outputs_zeroed limits s [] ss = s
 outputs_zeroed limits s (o ∷ os) [] = s
 outputs_zeroed limits s (o ∷ os) (storage ∷ ss) = output_zeroed limits (outputs_zeroed limits s os ss) o storage
 
-abbrev pub busy_at_start : Flying → Busy
-busy_at_start x = record {
-  task = x.task;
-  storages = storages_of x;
-  registers = task_registers x.task;
+-- a worker with a task before its first instruction
+abbrev pub busy_with : Task → List StorageName → Busy
+busy_with t storages = record {
+  task = t;
+  storages = storages;
+  registers = task_registers t;
   scratch = zeros scratch_range.len;
   trap = None;
 }
+
+abbrev pub busy_at_start : Flying → Busy
+busy_at_start x = busy_with x.task (storages_of x)
 
 abbrev pub stores_after_start : Limits → Stores → Flying → Stores
 stores_after_start limits s x = outputs_zeroed limits s (operands_of x.task) (storages_of x)
