@@ -7,8 +7,10 @@ use Rattle.tss_protocol.specs.State.{State}
 use Rattle.tss_protocol.specs.Counts.{event_bound}
 use Rattle.tss_laws.specs.Runs.{OverRuns}
 
+-- no more events than the bound
 abbrev pub IsBounded : Machine → ImageState → List Event → State → Type 0
 IsBounded m i es S = length es ≤ event_bound m
 
+-- every run is
 abbrev pub EventsLaw : Type 0
 EventsLaw = OverRuns IsBounded

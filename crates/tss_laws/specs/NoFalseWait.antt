@@ -7,8 +7,10 @@ use Rattle.tss_protocol.specs.State.{State, initial_state}
 use Rattle.tss_protocol.specs.Needs.{HasNoFalseWait, round_of}
 use Rattle.tss_laws.specs.Runs.{OverRuns}
 
+-- for the tasks that the run has spawned since its last barrier
 abbrev pub WaitsRightly : Machine → ImageState → List Event → State → Type 0
 WaitsRightly m i es S = HasNoFalseWait S (round_of m (initial_state i) es)
 
+-- every run leaves such a state
 abbrev pub QueuedLaw : Type 0
 QueuedLaw = OverRuns WaitsRightly

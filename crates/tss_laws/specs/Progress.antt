@@ -16,8 +16,10 @@ GoesOn m i es S = is_finished S ≡ false → (e : Event) × IsEnabled m S e
 abbrev pub IsOver : Machine → ImageState → List Event → State → Type 0
 IsOver m i es S = IsFinished S → (e : Event) → is_enabled m S e ≡ false
 
+-- every run leaves such a state
 abbrev pub EnabledLaw : Type 0
 EnabledLaw = OverRuns GoesOn
 
+-- and such a one
 abbrev pub FinishedLaw : Type 0
 FinishedLaw = OverRuns IsOver

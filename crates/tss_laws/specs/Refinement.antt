@@ -26,12 +26,14 @@ use Rattle.tss_laws.specs.Runs.{OverRuns}
 
 -- ---- the result
 
+-- a task's trap is the ending
 abbrev pub is_task_trap : Ending → Bool
 is_task_trap (Exit status) = false
 is_task_trap (MainTrap trap) = false
 is_task_trap (TaskTrap task trap) = true
 is_task_trap (Refused number pc) = false
 
+-- ending, tasks and output of program order, as those of a run
 abbrev pub reference_result : ReferenceState → RunResult
 reference_result r = record { ending = r.ending; tasks = r.tasks; output = r.output }
 
@@ -109,6 +111,7 @@ abbrev pub inbox_claims : Option Task → ℕ → Bool
 inbox_claims None a = false
 inbox_claims (Some t) a = list_any (λ o. covers o.object a) (operands_of t)
 
+-- it lies in one that has an entry, stands in the inbox, or is still to be decoded
 abbrev pub is_claimed : State → ℕ → Bool
 is_claimed S a =
     list_any (λ e. covers e.object a) (values S.entries)
@@ -129,17 +132,22 @@ HasMainState m i es S = (f : Flat) → main_after i m.limits S.main.registers.do
 
 -- ---- the laws
 
+-- a finished run has the result of program order
 abbrev pub ResultLaw : Type 0
 ResultLaw = OverRuns RefinesResult
 
+-- no table exceeds its size
 abbrev pub SizesLaw : Type 0
 SizesLaw = OverRuns StaysWithinSizes
 
+-- produced versions have the bytes of program order
 abbrev pub ProducedBytesLaw : Type 0
 ProducedBytesLaw = OverRuns HasProducedBytes
 
+-- workers follow the tasks of program order
 abbrev pub WorkerBytesLaw : Type 0
 WorkerBytesLaw = OverRuns HasWorkerBytes
 
+-- main and what lies outside the objects in use follow program order
 abbrev pub MainStateLaw : Type 0
 MainStateLaw = OverRuns HasMainState

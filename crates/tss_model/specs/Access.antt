@@ -88,6 +88,7 @@ abbrev pub task_may_within : Purpose → List Operand → Range → Option Bool 
 task_may_within Loads operands r within = task_may_load operands r within
 task_may_within Stores operands r within = task_may_store operands r
 
+-- its answer
 abbrev pub task_answer : Purpose → List Operand → Range → Option Bool → Access
 task_answer purpose operands r within = if task_may_within purpose operands r within then Granted else Denied
 
@@ -97,6 +98,7 @@ task_access ranges operands purpose r = task_answer purpose operands r (range_of
 
 -- ---- both
 
+-- the answer to an access of either
 abbrev pub access_of : Actor → Purpose → Range → Access
 access_of (MainActor ranges named) purpose r = main_access ranges named purpose r
 access_of (TaskActor ranges operands) purpose r = task_access ranges operands purpose r

@@ -20,6 +20,7 @@ abbrev pub main_after_task : MainState → Task → Option Trap → MainState
 main_after_task m t None = m
 main_after_task m t (Some trap) = main_ended m (TaskTrap t.number trap)
 
+-- main and memory after the task
 abbrev pub task_ran : MainState → Task → TaskEnd → Flat
 task_ran m t e = record { main = main_after_task m t e.trap; memory = e.memory }
 
@@ -33,6 +34,7 @@ abbrev pub flat_by : List SegmentState → Limits → Flat → Option Call → F
 flat_by code limits f None = main_step code limits f
 flat_by code limits f (Some c) = call_ran code limits f.memory (main_call limits f.memory f.main c)
 
+-- the same, where the next step says whether it is a call
 unfoldable pub flat_step : List SegmentState → Limits → Flat → Flat
 flat_step code limits f = flat_by code limits f (next_call code limits f)
 
@@ -66,6 +68,7 @@ abbrev pub task_called : Limits → Flat → Option Call → Option Task
 task_called limits f None = None
 task_called limits f (Some call) = (main_call limits f.memory f.main call).1
 
+-- the task that main spawns next, where there is a state
 abbrev pub started_in : List SegmentState → Limits → Option Flat → Option Started
 started_in code limits None = None
 started_in code limits (Some f) =
@@ -89,6 +92,7 @@ pub record ReferenceState : Type 0 where
   pub output : List ℕ
   pub memory : Memory
 
+-- that of a flat machine that has ended
 abbrev pub reference_of : Flat → ReferenceState
 reference_of f = record {
   ending = unwrap_or f.main.ending (Refused main_budget_spent f.main.registers.pc);

@@ -41,6 +41,7 @@ task_write write s (Some w) =
     if covers scratch_range w.at then record s { scratch = list_put s.scratch (w.at - scratch_range.base) w.bytes }
     else record s { memory = write s.memory w }
 
+-- a task traps
 abbrev pub task_trapped : {M : Type 0} → TaskState M → Trap → TaskState M
 task_trapped s t = record s { trap = Some t }
 
@@ -67,6 +68,7 @@ task_stretch byte write budget code actor n s = repeated (task_step byte write b
 
 -- ---- on the one flat memory
 
+-- a write to memory
 abbrev pub memory_write : Memory → Write → Memory
 memory_write m w = put_bytes m w.at w.bytes
 
@@ -74,6 +76,7 @@ memory_write m w = put_bytes m w.at w.bytes
 abbrev pub zeroed_output : Memory → Operand → Memory
 zeroed_output m o = if reads o.mode then m else zeroed m o.object
 
+-- the same for all operands
 abbrev pub zeroed_outputs : Memory → List Operand → Memory
 zeroed_outputs m [] = m
 zeroed_outputs m (o ∷ os) = zeroed_output (zeroed_outputs m os) o
@@ -107,6 +110,7 @@ pub record TaskEnd : Type 0 where
   pub memory : Memory
   pub trap : Option Trap
 
+-- that of a task that is over
 abbrev pub end_of_task : TaskState Memory → TaskEnd
 end_of_task s = record { memory = s.memory; trap = s.trap }
 

@@ -38,6 +38,7 @@ sent_by_retire v object (Some (Buffer n)) = []
 abbrev pub new_copy : OpName → Range → OpName → CopyState
 new_copy v object n = record { version = v; object = object; buffer = n; moved = 0 }
 
+-- the copies where a version retires
 abbrev pub copies_after_retire : Numbered CopyState → ℕ → OpName → Range → Option StorageName → Numbered CopyState
 copies_after_retire copies bank v object None = copies
 copies_after_retire copies bank v object (Some Home) = copies
@@ -45,12 +46,15 @@ copies_after_retire copies bank v object (Some (Buffer n)) = insert copies bank 
 
 -- ---- copy: the next 64 bytes go home, or the fewer that are left
 
+-- the bytes of the next piece
 abbrev pub piece_len : CopyState → ℕ
 piece_len c = min 64 (c.object.len - c.moved)
 
+-- the next piece of a buffer
 abbrev pub piece_of : CopyState → List ℕ → List ℕ
 piece_of c bytes = take (piece_len c) (drop c.moved bytes)
 
+-- home with the next piece
 abbrev pub home_after_copy : Memory → CopyState → List ℕ → Memory
 home_after_copy home c bytes = put_bytes home (c.object.base + c.moved) (piece_of c bytes)
 
@@ -63,6 +67,7 @@ abbrev pub copies_after_copy : Numbered CopyState → ℕ → CopyState → Bool
 copies_after_copy copies bank c true = remove copies bank
 copies_after_copy copies bank c false = insert copies bank (record c { moved = c.moved + piece_len c })
 
+-- the message after the last
 abbrev pub sent_by_copy : CopyState → Bool → List Message
 sent_by_copy c true = Gone c.version (retired c.object (Some c.buffer)) ∷ []
 sent_by_copy c false = []

@@ -77,6 +77,7 @@ unfoldable pub peak_counts : Machine → State → List Event → Counts
 peak_counts m S [] = counts_of m S
 peak_counts m S (e ∷ es) = greater_counts (counts_of m S) (peak_counts m (after_event m S e) es)
 
+-- the number of events of a run, and the greatest of each count
 abbrev pub peaks_of : Machine → State → List Event → Peaks
 peaks_of m S es = record { events = length es; counts = peak_counts m S es }
 

@@ -30,6 +30,7 @@ abbrev pub held_with : Named (Unit {0}) → List OpName → Named (Unit {0})
 held_with gateway [] = gateway
 held_with gateway (o ∷ os) = held_with (insert gateway o tt) os
 
+-- with operands it holds them all
 abbrev pub gateway_after_take : Named (Unit {0}) → Task → Named (Unit {0})
 gateway_after_take gateway t = held_with gateway (names_of t)
 
@@ -38,10 +39,12 @@ abbrev pub decodes_from : ℕ → ℕ → List Operand → List Message
 decodes_from task place [] = []
 decodes_from task place (o ∷ os) = Decode (operand_name task place) o ∷ decodes_from task (suc place) os
 
+-- a decode for each of a task's operands
 abbrev pub sent_by_take : Task → List Message
 sent_by_take t = decodes_from t.number 0 (operands_of t)
 
 -- ---- ack: an operand is acknowledged. After the last the gateway is idle
 
+-- it no longer holds the operand
 abbrev pub gateway_after_ack : Named (Unit {0}) → OpName → Named (Unit {0})
 gateway_after_ack gateway o = remove gateway o

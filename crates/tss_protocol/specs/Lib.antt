@@ -15,3 +15,4 @@ pub mod Counts
 pub mod Needs
 pub mod Text
 pub mod Schedule
+pub mod Codes

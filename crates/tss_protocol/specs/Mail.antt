@@ -92,6 +92,7 @@ pub record Mail : Type 0 where
   pub retires : Named (Unit {0})
   pub gones : Named GoneContents
 
+-- no message
 abbrev pub no_mail : Mail
 no_mail = record {
   decodes = empty;
@@ -181,6 +182,7 @@ early_names m =
     ++ map event.Ready (keys m.readies)
     ++ map event.Link (keys m.links)
 
+-- those after the finish
 abbrev pub late_names : Mail → List Event
 late_names m =
     map event.Release (keys m.releases)
@@ -189,6 +191,7 @@ late_names m =
     ++ map event.Nack (keys m.nacks)
     ++ map event.Retire (keys m.retires)
 
+-- those of gone, which come after the copies
 abbrev pub gone_names : Mail → List Event
 gone_names m = map event.Gone (keys m.gones)
 
@@ -200,6 +203,7 @@ message_names m = early_names m ++ late_names m ++ gone_names m
 abbrev pub early_count : Mail → ℕ
 early_count m = len m.decodes + len m.acks + len m.opens + len m.uses + len m.readies + len m.links
 
+-- how many of the second group
 abbrev pub late_count : Mail → ℕ
 late_count m = len m.releases + len m.byes + len m.idles + len m.nacks + len m.retires
 

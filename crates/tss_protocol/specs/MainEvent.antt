@@ -26,6 +26,7 @@ is_drained S = has_no_task S && has_no_object S && is_silent S.mail
 abbrev pub flat_of : State → Flat
 flat_of S = record { main = S.main; memory = S.home }
 
+-- the state with main and home of a flat machine
 abbrev pub with_flat : State → Flat → State
 with_flat S f = record S { main = f.main; home = f.memory }
 
@@ -42,6 +43,7 @@ may_call S (Some Barrier) = is_drained S
 may_call S (Some Print) = true
 may_call S (Some (Unknown n)) = true
 
+-- main's event may happen
 abbrev pub can_main : Machine → State → Bool
 can_main m S = is_none S.main.ending && is_none S.trap && may_call S (call_next m S)
 
@@ -50,9 +52,11 @@ abbrev pub after_call : State → MainState × Option Task → State
 after_call S (main, None) = record S { main = main }
 after_call S (main, Some t) = record S { main = main; inbox = Some t }
 
+-- a call alone, or a stretch
 abbrev pub main_by : Machine → State → Option Call → State
 main_by m S None = with_flat S (main_stretch S.code m.limits m.sizes.quantum (flat_of S))
 main_by m S (Some call) = after_call S (main_call m.limits S.home S.main call)
 
+-- the state after main's event
 abbrev pub after_main : Machine → State → State
 after_main m S = main_by m S (call_next m S)

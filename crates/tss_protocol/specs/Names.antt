@@ -21,6 +21,7 @@ station_of sizes task = (task - 1) % sizes.stations
 abbrev pub operand_name : ℕ → ℕ → OpName
 operand_name task place = record { task = task; place = place }
 
+-- two names are equal
 abbrev pub same_name : OpName → OpName → Bool
 same_name = eq_by_cmp name_cmp
 

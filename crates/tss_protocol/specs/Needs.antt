@@ -30,6 +30,7 @@ round_after_call round ExitCall d = round
 round_after_call round Print d = round
 round_after_call round (Unknown n) d = round
 
+-- the tasks after main's event, by its call
 abbrev pub round_after_main : Machine → State → List Task → Option Call → List Task
 round_after_main m S round None = round
 round_after_main m S round (Some call) = round_after_call round call (main_call m.limits S.home S.main call)
@@ -39,6 +40,7 @@ abbrev pub round_after_event : Machine → State → List Task → Event → Lis
 round_after_event m S round event.Main = round_after_main m S round (call_next m S)
 round_after_event m S round e = round
 
+-- the tasks after events, where these were spawned before
 unfoldable pub round_from : Machine → State → List Task → List Event → List Task
 round_from m S round [] = round
 round_from m S round (e ∷ es) = round_from m (after_event m S e) (round_after_event m S round e) es
@@ -54,20 +56,25 @@ pub record Users : Type 0 where
   pub writer : Option ℕ
   pub readers : List ℕ
 
+-- a task writes an object
 abbrev pub has_written : Range → Task → Bool
 has_written object t = list_any (λ o. same_range o.object object && writes o.mode) (operands_of t)
 
+-- a task only reads it
 abbrev pub has_read : Range → Task → Bool
 has_read object t = list_any (λ o. same_range o.object object && not (writes o.mode)) (operands_of t)
 
+-- after one more task
 abbrev pub users_with : Users → ℕ → Bool → Bool → Users
 users_with u task true read = record { writer = Some task; readers = [] }
 users_with u task false true = record u { readers = u.readers ++ task ∷ [] }
 users_with u task false false = u
 
+-- nobody
 abbrev pub no_users : Users
 no_users = record { writer = None; readers = [] }
 
+-- after tasks in order
 abbrev pub users_of : Range → List Task → Users
 users_of object ts = fold (λ u t. users_with u t.number (has_written object t) (has_read object t)) no_users ts
 
@@ -81,6 +88,7 @@ needs_by Inout u = option_to_list u.writer ++ u.readers
 abbrev pub needed_after : List Task → Task → List ℕ
 needed_after earlier t = flat_map (λ o. needs_by o.mode (users_of o.object earlier)) (operands_of t)
 
+-- the tasks of a round that were spawned before one
 abbrev pub earlier_in : List Task → Task → List Task
 earlier_in round t = filter (λ s. nat_lt s.number t.number) round
 
@@ -94,12 +102,14 @@ Needs round t n = list_any (λ k. k == n) (needed_tasks round t) ≡ true
 
 -- ---- no false wait
 
+-- it is past waiting
 abbrev pub runs_or_finished : Stage → Bool
 runs_or_finished stage.Waiting = false
 runs_or_finished stage.Queued = false
 runs_or_finished stage.Running = true
 runs_or_finished stage.Finished = true
 
+-- it is the task in the inbox
 abbrev pub is_in_inbox : Option Task → ℕ → Bool
 is_in_inbox None n = false
 is_in_inbox (Some t) n = t.number == n
@@ -109,9 +119,11 @@ abbrev pub is_past_by : State → ℕ → Option Flying → Bool
 is_past_by S n (Some x) = has_finished x.stage
 is_past_by S n None = not (is_in_inbox S.inbox n)
 
+-- the same, by its number
 abbrev pub is_past : State → ℕ → Bool
 is_past S n = is_past_by S n (get S.flight n)
 
+-- it is in the ready queue
 abbrev pub is_in_queue : State → ℕ → Bool
 is_in_queue S n = list_any (λ k. k == n) S.queue
 
@@ -124,5 +136,6 @@ waits_rightly S round x =
 abbrev pub has_no_false_wait : State → List Task → Bool
 has_no_false_wait S round = not (is_silent S.mail) || list_all (waits_rightly S round) (values S.flight)
 
+-- the fact
 abbrev pub HasNoFalseWait : State → List Task → Type 0
 HasNoFalseWait S round = has_no_false_wait S round ≡ true

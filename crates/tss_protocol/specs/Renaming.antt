@@ -31,15 +31,19 @@ pub record Tables : Type 0 where
   pub places : Named ℕ
   pub buffers : Named ℕ
 
+-- the entries of a bank
 abbrev pub entries_in : Sizes → ℕ → Numbered Entry → ℕ
 entries_in sizes bank entries = count_of (λ base e. bank_of sizes e.object == bank) entries
 
+-- the places held of a bank
 abbrev pub places_in : ℕ → Named ℕ → ℕ
 places_in bank places = count_of (λ v b. b == bank) places
 
+-- the buffers held of a bank
 abbrev pub buffers_in : ℕ → Named ℕ → ℕ
 buffers_in bank buffers = count_of (λ v b. b == bank) buffers
 
+-- what a bank has in use
 abbrev pub fill_of : Sizes → Tables → ℕ → Fill
 fill_of sizes t bank = record {
   entries = entries_in sizes bank t.entries;
@@ -71,9 +75,11 @@ wait_or waits w rest = if waits then Some w else rest
 abbrev pub needs_entry : Sizes → Fill → Option Wait → Option Wait
 needs_entry sizes fill rest = wait_or (nat_le sizes.entries fill.entries) EntriesFull rest
 
+-- a free place
 abbrev pub needs_place : Sizes → Fill → Option Wait → Option Wait
 needs_place sizes fill rest = wait_or (nat_le sizes.versions fill.places) VersionsFull rest
 
+-- a free buffer
 abbrev pub needs_buffer : Sizes → Fill → Option Wait → Option Wait
 needs_buffer sizes fill rest = wait_or (nat_le sizes.buffers fill.buffers) BuffersFull rest
 
@@ -94,6 +100,7 @@ abbrev pub operand_wait : Sizes → Tables → Operand → Option Wait
 operand_wait sizes t operand =
     decode_wait sizes (fill_of sizes t (bank_of sizes operand.object)) (get t.entries operand.object.base) operand.mode
 
+-- it waits for nothing
 abbrev pub can_decode : Sizes → Tables → Operand → Bool
 can_decode sizes t operand = is_none (operand_wait sizes t operand)
 
@@ -109,6 +116,7 @@ live_entry o e Input = record e { sent = suc e.sent }
 live_entry o e Output = record e { latest = o; sent = 0 }
 live_entry o e Inout = record e { latest = o; sent = 0 }
 
+-- the object's entry after the decode
 abbrev pub entry_after_decode : OpName → Operand → Option Entry → Entry
 entry_after_decode o operand None =
     record { object = operand.object; latest = o; sent = first_readers operand.mode; retiring = false }
@@ -128,9 +136,11 @@ takes_buffer (Some e) Input = false
 takes_buffer (Some e) Output = true
 takes_buffer (Some e) Inout = false
 
+-- the places, one more where a place is taken
 abbrev pub places_after_decode : Named ℕ → OpName → ℕ → Bool → Named ℕ
 places_after_decode places o bank takes = if takes then insert places o bank else places
 
+-- the buffers, one more where a buffer is taken
 abbrev pub buffers_after_decode : Named ℕ → OpName → ℕ → Bool → Named ℕ
 buffers_after_decode buffers o bank takes = if takes then insert buffers o bank else buffers
 
@@ -158,13 +168,16 @@ live_message o operand e Input = Use o e.latest
 live_message o operand e Output = opens_beside o operand e
 live_message o operand e Inout = opens_over o operand e
 
+-- the message where there may be no entry
 abbrev pub decode_message : OpName → Operand → Option Entry → Message
 decode_message o operand None = opens_first o operand
 decode_message o operand (Some e) = live_message o operand e operand.mode
 
+-- that message, and an ack for the gateway
 abbrev pub sent_by_decode : OpName → Operand → Option Entry → List Message
 sent_by_decode o operand entry = decode_message o operand entry ∷ Ack o ∷ []
 
+-- the tables and messages, by the object's entry
 abbrev pub decoded_by : Tables → OpName → Operand → ℕ → Option Entry → Outcome Tables
 decoded_by t o operand bank entry = record {
   part = record {
@@ -175,6 +188,7 @@ decoded_by t o operand bank entry = record {
   sent = sent_by_decode o operand entry;
 }
 
+-- the same in the bank of the operand's object
 abbrev pub after_decode : Sizes → Tables → OpName → Operand → Outcome Tables
 after_decode sizes t o operand =
     decoded_by t o operand (bank_of sizes operand.object) (get t.entries operand.object.base)
@@ -186,23 +200,28 @@ abbrev pub may_retire : OpName → ℕ → Option Entry → Bool
 may_retire v count None = false
 may_retire v count (Some e) = same_name e.latest v && (e.sent == count)
 
+-- an entry that is about to leave
 abbrev pub retiring_entry : Numbered Entry → ℕ → Option Entry → Numbered Entry
 retiring_entry entries base None = entries
 retiring_entry entries base (Some e) = insert entries base (record e { retiring = true })
 
+-- the entries and the answer
 abbrev pub idle_by : Numbered Entry → OpName → ℕ → Option Entry → Bool → Outcome (Numbered Entry)
 idle_by entries v base entry true = record { part = retiring_entry entries base entry; sent = Retire v ∷ [] }
 idle_by entries v base entry false = record { part = entries; sent = Nack v ∷ [] }
 
+-- the same for a version that asks
 abbrev pub after_idle : Numbered Entry → OpName → ℕ → ℕ → Outcome (Numbered Entry)
 after_idle entries v base count = idle_by entries v base (get entries base) (may_retire v count (get entries base))
 
 -- ---- gone: a version's place is free, its buffer where that ends with it, and the entry with the last of an object
 
+-- the buffers without one that is free again
 abbrev pub buffers_after_gone : Named ℕ → Option OpName → Named ℕ
 buffers_after_gone buffers None = buffers
 buffers_after_gone buffers (Some b) = remove buffers b
 
+-- the tables after it
 abbrev pub after_gone : Tables → OpName → GoneContents → Tables
 after_gone t v g = record {
   entries = if g.retired then remove t.entries g.object.base else t.entries;

@@ -6,6 +6,7 @@ use Rattle.tss_model.specs.MainStep.{Piece, output_of}
 use Rattle.tss_protocol.specs.State.{State, HeldTrap}
 use Rattle.tss_protocol.specs.MainEvent.{is_drained}
 
+-- the fact
 abbrev pub IsDrained : State → Type 0
 IsDrained S = is_drained S ≡ true
 
@@ -13,6 +14,7 @@ IsDrained S = is_drained S ≡ true
 abbrev pub is_finished : State → Bool
 is_finished S = is_drained S && (is_some S.main.ending || is_some S.trap)
 
+-- the fact
 abbrev pub IsFinished : State → Type 0
 IsFinished S = is_finished S ≡ true
 
@@ -35,6 +37,7 @@ pieces_by (Some h) pieces = filter (λ p. nat_lt p.before h.task) pieces
 abbrev pub tasks_of : State → ℕ
 tasks_of S = tasks_by S.trap S.main.spawned
 
+-- what counts of what main has printed
 abbrev pub printed_of : State → List ℕ
 printed_of S = output_of (pieces_by S.trap S.main.pieces)
 
@@ -44,6 +47,7 @@ pub record RunResult : Type 0 where
   pub tasks : ℕ
   pub output : List ℕ
 
+-- the result with an ending
 abbrev pub result_with : State → Option Ending → Option RunResult
 result_with S None = None
 result_with S (Some e) = Some (record { ending = e; tasks = tasks_of S; output = printed_of S })

@@ -23,6 +23,7 @@ chosen_event m S w = slice_get (enabled_events m S) (w % length (enabled_events 
 abbrev pub seeded : ℕ → Lcg
 seeded n = pcg32_of_seed (pcg32_seed 16 n)
 
+-- a drawn event, and those after it
 abbrev pub seeded_on : Machine → State → (State → List Event) → Option Event → List Event
 seeded_on m S rest None = []
 seeded_on m S rest (Some e) = e ∷ rest (after_event m S e)
@@ -53,12 +54,15 @@ pub record Judgement : Type 0 where
   pub events : List Event
   pub fault : Option LogFault
 
+-- a fault before any further event
 abbrev pub faulted : LogFault → Judgement
 faulted f = record { events = []; fault = Some f }
 
+-- an event that is done before others
 abbrev pub judged_after : Event → Judgement → Judgement
 judged_after e j = record j { events = e ∷ j.events }
 
+-- a line, by its event
 abbrev pub judged_line : Machine → State → ℕ → (State → Judgement) → Option Event → Judgement
 judged_line m S n rest None = faulted (BadLine n)
 judged_line m S n rest (Some e) =
@@ -66,6 +70,7 @@ judged_line m S n rest (Some e) =
     else if is_enabled m S e then judged_after e (rest (after_event m S e))
     else faulted (NotEnabled n)
 
+-- no line is left
 abbrev pub judged_end : State → ℕ → Judgement
 judged_end S n = record { events = []; fault = if is_finished S then None else Some (Short n) }
 

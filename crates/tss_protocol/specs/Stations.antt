@@ -30,16 +30,13 @@ operand_at flight o = option_and_then (λ x. slice_get x.operands o.place) (get 
 abbrev pub is_ready : OperandState → Bool
 is_ready r = is_some r.source
 
+-- the farewell is done
 abbrev pub has_left : Farewell → Bool
 has_left farewell.Nothing = false
 has_left farewell.Promised = false
 has_left farewell.Left = true
 
-abbrev pub is_promised : Farewell → Bool
-is_promised farewell.Nothing = false
-is_promised farewell.Promised = true
-is_promised farewell.Left = false
-
+-- the task has finished
 abbrev pub has_finished : Stage → Bool
 has_finished stage.Waiting = false
 has_finished stage.Queued = false
@@ -75,9 +72,11 @@ abbrev pub first_stage : List Operand → Stage
 first_stage [] = stage.Queued
 first_stage (o ∷ os) = stage.Waiting
 
+-- a task that enters
 abbrev pub entered : Task → Flying
 entered t = record { task = t; stage = first_stage (operands_of t); operands = map new_operand (operands_of t) }
 
+-- the tasks in flight with one more
 abbrev pub flight_after_take : Numbered Flying → Task → Numbered Flying
 flight_after_take flight t = insert flight t.number (entered t)
 
@@ -89,6 +88,7 @@ link_after_ready link.Nothing = link.Nothing
 link_after_ready (link.Held next) = link.Passed
 link_after_ready link.Passed = link.Passed
 
+-- the record with what it was told
 abbrev pub operand_after_ready : OperandState → Source → OperandState
 operand_after_ready r source = record r { source = Some source; link = link_after_ready r.link }
 
@@ -116,19 +116,23 @@ pub record Woken : Type 0 where
   pub sent : List Message
   pub queued : Bool
 
+-- its task
 abbrev pub task_after_ready : Flying → ℕ → OperandState → Source → Flying
 task_after_ready x place r source = with_operand x place (operand_after_ready r source)
 
+-- what a ready leaves, by the record
 abbrev pub woken_by : Numbered Flying → OpName → Source → Flying → Option OperandState → Woken
 woken_by flight o source x None = record { flight = flight; sent = []; queued = false }
 woken_by flight o source x (Some r) =
     let y = task_after_ready x o.place r source in
     record { flight = insert flight o.task (awaited y); sent = sent_by_ready r.link source; queued = is_complete y }
 
+-- by the task
 abbrev pub woken_in : Numbered Flying → OpName → Source → Option Flying → Woken
 woken_in flight o source None = record { flight = flight; sent = []; queued = false }
 woken_in flight o source (Some x) = woken_by flight o source x (slice_get x.operands o.place)
 
+-- by the operand's name
 abbrev pub after_ready : Numbered Flying → OpName → Source → Woken
 after_ready flight o source = woken_in flight o source (get flight o.task)
 
@@ -139,6 +143,7 @@ abbrev pub link_after_link : Option Source → OpName → LinkState
 link_after_link None next = link.Held next
 link_after_link (Some source) next = link.Passed
 
+-- the next operand of a passed link is told what the operand was told
 abbrev pub sent_by_link : Option Source → OpName → List Message
 sent_by_link None next = []
 sent_by_link (Some source) next = Ready next source ∷ []
@@ -149,10 +154,12 @@ farewell_after_link farewell.Nothing = farewell.Nothing
 farewell_after_link farewell.Promised = farewell.Left
 farewell_after_link farewell.Left = farewell.Left
 
+-- the record with both
 abbrev pub operand_after_link : OperandState → OpName → OperandState
 operand_after_link r next =
     record r { link = link_after_link r.source next; farewell = farewell_after_link r.farewell }
 
+-- what a link leaves, by the record
 abbrev pub linked_by : Numbered Flying → OpName → OpName → Flying → Option OperandState → Outcome (Numbered Flying)
 linked_by flight o next x None = record { part = flight; sent = [] }
 linked_by flight o next x (Some r) = record {
@@ -160,15 +167,18 @@ linked_by flight o next x (Some r) = record {
   sent = sent_by_link r.source next;
 }
 
+-- by the task
 abbrev pub linked_in : Numbered Flying → OpName → OpName → Option Flying → Outcome (Numbered Flying)
 linked_in flight o next None = record { part = flight; sent = [] }
 linked_in flight o next (Some x) = linked_by flight o next x (slice_get x.operands o.place)
 
+-- by the operand's name
 abbrev pub after_link : Numbered Flying → OpName → OpName → Outcome (Numbered Flying)
 after_link flight o next = linked_in flight o next (get flight o.task)
 
 -- ---- start: a queued task runs
 
+-- the tasks in flight where one runs
 abbrev pub flight_after_start : Numbered Flying → ℕ → Flying → Numbered Flying
 flight_after_start flight task x = insert flight task (record x { stage = stage.Running })
 
@@ -177,6 +187,7 @@ abbrev pub storage_of : Option Source → StorageName
 storage_of None = Home
 storage_of (Some source) = source.storage
 
+-- the storages of a task's operands
 abbrev pub storages_of : Flying → List StorageName
 storages_of x = map (λ r. storage_of r.source) x.operands
 
@@ -193,6 +204,7 @@ abbrev pub releases_from : ℕ → ℕ → List OperandState → List Message
 releases_from task place [] = []
 releases_from task place (r ∷ rs) = release_of (operand_name task place) r r.source ++ releases_from task (suc place) rs
 
+-- what a finish leaves, by the task
 abbrev pub finished_in : Numbered Flying → ℕ → Option Flying → Outcome (Numbered Flying)
 finished_in flight task None = record { part = flight; sent = [] }
 finished_in flight task (Some x) = record {
@@ -200,11 +212,13 @@ finished_in flight task (Some x) = record {
   sent = releases_from task 0 x.operands;
 }
 
+-- by the task's number
 abbrev pub flight_after_finish : Numbered Flying → ℕ → Outcome (Numbered Flying)
 flight_after_finish flight task = finished_in flight task (get flight task)
 
 -- ---- bye: an operand that has released its version is told whether a link is still to come
 
+-- the link has passed
 abbrev pub has_passed : LinkState → Bool
 has_passed link.Nothing = false
 has_passed (link.Held next) = false
@@ -214,17 +228,21 @@ has_passed link.Passed = true
 abbrev pub farewell_after_bye : LinkState → Bool → Farewell
 farewell_after_bye l promised = if promised && not (has_passed l) then farewell.Promised else farewell.Left
 
+-- the record with it
 abbrev pub operand_after_bye : OperandState → Bool → OperandState
 operand_after_bye r promised = record r { farewell = farewell_after_bye r.link promised }
 
+-- what a bye leaves, by the record
 abbrev pub parted_by : Numbered Flying → OpName → Bool → Flying → Option OperandState → Numbered Flying
 parted_by flight o promised x None = flight
 parted_by flight o promised x (Some r) =
     remaining_tasks flight o.task (with_operand x o.place (operand_after_bye r promised))
 
+-- by the task
 abbrev pub parted_in : Numbered Flying → OpName → Bool → Option Flying → Numbered Flying
 parted_in flight o promised None = flight
 parted_in flight o promised (Some x) = parted_by flight o promised x (slice_get x.operands o.place)
 
+-- by the operand's name
 abbrev pub after_bye : Numbered Flying → OpName → Bool → Numbered Flying
 after_bye flight o promised = parted_in flight o promised (get flight o.task)

@@ -34,6 +34,7 @@ event_text (Retire v) = codes "retire " ++ name_text v
 event_text (Copy b) = codes "copy " ++ decimal b
 event_text (Gone v) = codes "gone " ++ name_text v
 
+-- what ends a line
 abbrev pub line_feed : ℕ
 line_feed = 10
 
@@ -47,12 +48,15 @@ log_text es = flat_map (λ e. event_text e ++ line_feed ∷ []) es
 abbrev pub number_in : List ℕ → ℕ
 number_in digits = fold (λ n c. 10 * n + (c - 48)) 0 digits
 
+-- what ends the word of a kind
 abbrev pub is_space : ℕ → Bool
 is_space c = c == 32
 
+-- what stands between a task and a place
 abbrev pub is_full_stop : ℕ → Bool
 is_full_stop c = c == 46
 
+-- the name that a text would be
 abbrev pub name_in : List ℕ → OpName
 name_in text = operand_name (number_in (before_first is_full_stop text)) (number_in (after_first is_full_stop text))
 

@@ -26,15 +26,19 @@ use Rattle.tss_protocol.specs.MainEvent.{can_main, after_main}
 
 -- ---- the units' parts of the state
 
+-- the renaming tables
 abbrev pub tables_of : State → Tables
 tables_of S = record { entries = S.entries; places = S.places; buffers = S.buffers }
 
+-- the state with other tables
 abbrev pub with_tables : State → Tables → State
 with_tables S t = record S { entries = t.entries; places = t.places; buffers = t.buffers }
 
+-- home and the contents of the buffers
 abbrev pub stores_of : State → Stores
 stores_of S = record { home = S.home; contents = S.contents }
 
+-- the state with others
 abbrev pub with_stores : State → Stores → State
 with_stores S s = record S { home = s.home; contents = s.contents }
 
@@ -50,6 +54,7 @@ without S e = record S { mail = taken S.mail e }
 abbrev pub with_versioned : State → Versioned → State
 with_versioned S d = with_sent (record S { versions = d.part }) d.sent
 
+-- the same of the stations
 abbrev pub with_flight : State → Outcome (Numbered Flying) → State
 with_flight S d = with_sent (record S { flight = d.part }) d.sent
 
@@ -60,16 +65,19 @@ queue_with queue task false = queue
 
 -- ---- take
 
+-- take may happen, by the inbox's task
 abbrev pub can_take : Machine → State → Option Task → Bool
 can_take m S None = false
 can_take m S (Some t) = is_idle S.gateway && has_slot m.sizes S.flight t.number
 
+-- the stage is queued
 abbrev pub is_queued : Stage → Bool
 is_queued stage.Waiting = false
 is_queued stage.Queued = true
 is_queued stage.Running = false
 is_queued stage.Finished = false
 
+-- a task is taken
 abbrev pub take_task : State → Task → State
 take_task S t = with_sent (record S {
   inbox = None;
@@ -78,63 +86,77 @@ take_task S t = with_sent (record S {
   queue = queue_with S.queue t.number (is_queued (entered t).stage);
 }) (sent_by_take t)
 
+-- the state after take, by the inbox
 abbrev pub after_take : State → Option Task → State
 after_take S None = S
 after_take S (Some t) = take_task S t
 
 -- ---- decode, ack
 
+-- decode may happen, by its message
 abbrev pub can_decode_message : Machine → State → Option Operand → Bool
 can_decode_message m S None = false
 can_decode_message m S (Some operand) = can_decode m.sizes (tables_of S) operand
 
+-- the state with a bank's outcome
 abbrev pub with_decoded : State → Outcome Tables → State
 with_decoded S d = with_sent (with_tables S d.part) d.sent
 
+-- the state after decode, by its message
 abbrev pub decode_message_taken : Machine → State → OpName → Option Operand → State
 decode_message_taken m S o None = S
 decode_message_taken m S o (Some operand) = with_decoded S (after_decode m.sizes (tables_of S) o operand)
 
+-- the state after ack
 abbrev pub ack_message_taken : State → OpName → State
 ack_message_taken S o = record S { gateway = gateway_after_ack S.gateway o }
 
 -- ---- open, use
 
+-- open may happen, by its message
 abbrev pub can_open_message : State → Option OpenContents → Bool
 can_open_message S None = false
 can_open_message S (Some opening) = can_open S.versions opening
 
+-- the state after open, by its message
 abbrev pub open_message_taken : State → OpName → Option OpenContents → State
 open_message_taken S o None = S
 open_message_taken S o (Some opening) = with_versioned S (after_open S.versions o opening)
 
+-- use may happen, by its message
 abbrev pub can_use_message : State → Option OpName → Bool
 can_use_message S None = false
 can_use_message S (Some v) = can_use S.versions v
 
+-- the state after use, by its message
 abbrev pub use_message_taken : State → OpName → Option OpName → State
 use_message_taken S o None = S
 use_message_taken S o (Some v) = with_versioned S (after_use S.versions o v)
 
 -- ---- ready, link, bye
 
+-- the state with what a ready leaves of a task
 abbrev pub with_woken : State → ℕ → Woken → State
 with_woken S task w = with_sent (record S { flight = w.flight; queue = queue_with S.queue task w.queued }) w.sent
 
+-- the state after ready, by its message
 abbrev pub ready_message_taken : State → OpName → Option Source → State
 ready_message_taken S o None = S
 ready_message_taken S o (Some source) = with_woken S o.task (after_ready S.flight o source)
 
+-- the state after link, by its message
 abbrev pub link_message_taken : State → OpName → Option OpName → State
 link_message_taken S o None = S
 link_message_taken S o (Some next) = with_flight S (after_link S.flight o next)
 
+-- the state after bye, by its message
 abbrev pub bye_message_taken : State → OpName → Option Bool → State
 bye_message_taken S o None = S
 bye_message_taken S o (Some promised) = record S { flight = after_bye S.flight o promised }
 
 -- ---- start, exec, finish
 
+-- a task starts, where it is in flight
 abbrev pub start_task : Machine → State → ℕ → ℕ → List ℕ → Option Flying → State
 start_task m S w t ts None = S
 start_task m S w t ts (Some x) =
@@ -144,18 +166,22 @@ start_task m S w t ts (Some x) =
       workers = insert S.workers w (busy_at_start x);
     }) (stores_after_start m.limits (stores_of S) x)
 
+-- the state after start, by the queue
 abbrev pub after_start : Machine → State → ℕ → List ℕ → State
 after_start m S w [] = S
 after_start m S w (t ∷ ts) = start_task m S w t ts (get S.flight t)
 
+-- the state with a stretch of a worker
 abbrev pub with_executed : State → ℕ → Busy → TaskState Stores → State
 with_executed S w b s = with_stores (record S { workers = insert S.workers w (busy_after b s) }) s.memory
 
+-- the state after exec, by the worker
 abbrev pub after_exec : Machine → State → ℕ → Option Busy → State
 after_exec m S w None = S
 after_exec m S w (Some b) =
     with_executed S w b (exec_stretch S.code m.limits m.sizes.quantum b (stores_of S))
 
+-- a task finishes
 abbrev pub finish_task : State → ℕ → Busy → State
 finish_task S w b =
     with_flight (record S {
@@ -163,32 +189,39 @@ finish_task S w b =
       trap = trap_after_finish S.trap b.task.number b.trap;
     }) (flight_after_finish S.flight b.task.number)
 
+-- the state after finish, by the worker
 abbrev pub after_finish : State → ℕ → Option Busy → State
 after_finish S w None = S
 after_finish S w (Some b) = finish_task S w b
 
 -- ---- release
 
+-- the state after release, by its message
 abbrev pub release_message_taken : State → OpName → Option ReleaseContents → State
 release_message_taken S o None = S
 release_message_taken S o (Some r) = with_versioned S (after_release S.versions o r)
 
 -- ---- idle, nack, retire, copy, gone
 
+-- the state with other entries, and messages
 abbrev pub with_entries : State → Outcome (Numbered Entry) → State
 with_entries S d = with_sent (record S { entries = d.part }) d.sent
 
+-- the state after idle, by its message
 abbrev pub idle_message_taken : State → OpName → Option IdleContents → State
 idle_message_taken S v None = S
 idle_message_taken S v (Some i) = with_entries S (after_idle S.entries v i.base i.count)
 
+-- the state after nack
 abbrev pub nack_message_taken : State → OpName → State
 nack_message_taken S v = with_versioned S (after_nack S.versions v)
 
+-- retire may happen, by its version
 abbrev pub can_retire : Machine → State → Option Version → Bool
 can_retire m S None = false
 can_retire m S (Some x) = can_retire_from x.storage (get S.copies (bank_of m.sizes x.object))
 
+-- the state after retire, by its version
 abbrev pub retire_version : Machine → State → OpName → Option Version → State
 retire_version m S v None = S
 retire_version m S v (Some x) =
@@ -197,9 +230,11 @@ retire_version m S v (Some x) =
       copies = copies_after_retire S.copies (bank_of m.sizes x.object) v x.object x.storage;
     }) (sent_by_retire v x.object x.storage)
 
+-- the state after retire
 abbrev pub retire_message_taken : Machine → State → OpName → State
 retire_message_taken m S v = retire_version m S v (get S.versions v)
 
+-- the state after copy, by the bank's copy
 abbrev pub after_copy : State → ℕ → Option CopyState → State
 after_copy S b None = S
 after_copy S b (Some c) =
@@ -208,6 +243,7 @@ after_copy S b (Some c) =
       copies = copies_after_copy S.copies b c (is_last_piece c);
     }) (sent_by_copy c (is_last_piece c))
 
+-- the state after gone, by its message
 abbrev pub gone_message_taken : State → OpName → Option GoneContents → State
 gone_message_taken S v None = S
 gone_message_taken S v (Some g) =
@@ -236,6 +272,7 @@ is_enabled m S (event.Retire v) = is_some (get S.mail.retires v) && can_retire m
 is_enabled m S (event.Copy b) = is_some (get S.copies b)
 is_enabled m S (event.Gone v) = is_some (get S.mail.gones v)
 
+-- the fact
 abbrev pub IsEnabled : Machine → State → Event → Type 0
 IsEnabled m S e = is_enabled m S e ≡ true
 
@@ -269,6 +306,7 @@ worker_events m S =
     ++ map event.Exec (keys S.workers)
     ++ map event.Finish (keys S.workers)
 
+-- those of banks that copy
 abbrev pub copy_events : State → List Event
 copy_events S = map event.Copy (keys S.copies)
 

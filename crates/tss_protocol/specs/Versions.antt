@@ -28,9 +28,11 @@ sending ms d = record d { sent = ms ++ d.sent }
 
 -- ---- changes of the versions
 
+-- a version stands under its name
 abbrev pub put_version : Named Version → OpName → Version → Named Version
 put_version vs v x = insert vs v x
 
+-- a version is removed
 abbrev pub drop_version : Named Version → OpName → Named Version
 drop_version vs v = remove vs v
 
@@ -39,6 +41,7 @@ abbrev pub version_changed : Named Version → OpName → (Version → Version) 
 version_changed vs v f None = vs
 version_changed vs v f (Some x) = put_version vs v (f x)
 
+-- the same by its name
 abbrev pub change_version : Named Version → OpName → (Version → Version) → Named Version
 change_version vs v f = version_changed vs v f (get vs v)
 
@@ -54,6 +57,7 @@ abbrev pub ready_with : OpName → OpName → Option StorageName → List Messag
 ready_with o v None = []
 ready_with o v (Some s) = Ready o (record { version = v; storage = s }) ∷ []
 
+-- the buffer of a storage
 abbrev pub buffer_of : Option StorageName → Option OpName
 buffer_of None = None
 buffer_of (Some Home) = None
@@ -69,6 +73,7 @@ died v object buffer = Gone v (record { object = object; buffer = buffer; retire
 abbrev pub may_die : Version → ℕ → Bool
 may_die x last = x.produced && (x.released == last) && is_none x.asked
 
+-- a number is there, and is this one
 abbrev pub is_count : Option ℕ → ℕ → Bool
 is_count None n = false
 is_count (Some k) n = k == n
@@ -101,12 +106,14 @@ abbrev pub settle_beside : Named Version → OpName → Version → OpName → S
 settle_beside vs v x s settle_next =
     sending (died v x.object (buffer_of x.storage) ∷ []) (settle_next (unlinked vs v x s) s)
 
+-- the other way, where s takes the storage
 abbrev pub settle_over : Named Version → OpName → Version → OpName → Versioned
 settle_over vs v x s = record {
   part = change_version (unlinked vs v x s) s (λ y. record y { storage = x.storage });
   sent = died v x.object None ∷ ready_with s s x.storage;
 }
 
+-- v gives way, by how it is followed
 abbrev pub settle_how : Named Version → OpName → Version → Follow → Settling → How → Versioned
 settle_how vs v x f settle_next Beside = settle_beside vs v x f.version settle_next
 settle_how vs v x f settle_next Over = settle_over vs v x f.version
@@ -118,13 +125,16 @@ settle_asking vs v x = record {
   sent = Idle v (record { base = x.object.base; count = x.registered }) ∷ [];
 }
 
+-- nothing is done
 abbrev pub unchanged : Named Version → Versioned
 unchanged vs = record { part = vs; sent = [] }
 
+-- by whether v has a successor
 abbrev pub settle_by : Named Version → OpName → Version → Settling → Option Follow → Versioned
 settle_by vs v x settle_next None = if may_ask x then settle_asking vs v x else unchanged vs
 settle_by vs v x settle_next (Some f) = if may_die x f.last then settle_how vs v x f settle_next f.how else unchanged vs
 
+-- by whether v is registered
 abbrev pub settle_at : Named Version → OpName → Settling → Option Version → Versioned
 settle_at vs v settle_next None = unchanged vs
 settle_at vs v settle_next (Some x) = settle_by vs v x settle_next x.successor
@@ -163,6 +173,7 @@ first_version o object storage Input =
 first_version o object storage Output = new_version object storage
 first_version o object storage Inout = new_version object storage
 
+-- a version that follows nothing
 abbrev pub opened_first : Named Version → OpName → OpenContents → Versioned
 opened_first vs o opening = record {
   part = put_version vs o (first_version o opening.operand.object opening.storage opening.operand.mode);
@@ -183,10 +194,12 @@ opened_how vs o opening f Beside =
     sending (ready_with o o opening.storage) (settled (followed vs o opening f) f.version)
 opened_how vs o opening f Over = settled (followed vs o opening f) f.version
 
+-- by what it follows
 abbrev pub opened_by : Named Version → OpName → OpenContents → Option Follow → Versioned
 opened_by vs o opening None = opened_first vs o opening
 opened_by vs o opening (Some f) = opened_how vs o opening f f.how
 
+-- the versions and messages after open
 abbrev pub after_open : Named Version → OpName → OpenContents → Versioned
 after_open vs o opening = opened_by vs o opening opening.follows
 
@@ -195,11 +208,13 @@ abbrev pub is_followable : Named Version → Option Follow → Bool
 is_followable vs None = true
 is_followable vs (Some f) = contains_key vs f.version
 
+-- open may happen
 abbrev pub can_open : Named Version → OpenContents → Bool
 can_open vs opening = is_followable vs opening.follows
 
 -- ---- use: a reader is enlisted at the end of a version's chain
 
+-- use may happen
 abbrev pub can_use : Named Version → OpName → Bool
 can_use vs v = contains_key vs v
 
@@ -217,10 +232,12 @@ abbrev pub used_behind : Named Version → OpName → OpName → Version → Opt
 used_behind vs o v x None = used_alone vs o v x x.produced
 used_behind vs o v x (Some last) = record { part = put_version vs v (enlisted x o); sent = Link last o ∷ [] }
 
+-- what a use leaves, by the version
 abbrev pub used_at : Named Version → OpName → OpName → Option Version → Versioned
 used_at vs o v None = unchanged vs
 used_at vs o v (Some x) = used_behind vs o v x x.tail
 
+-- the versions and messages after use
 abbrev pub after_use : Named Version → OpName → OpName → Versioned
 after_use vs o v = used_at vs o v (get vs v)
 
@@ -231,6 +248,7 @@ abbrev pub head_ready : OpName → Version → Option OpName → List Message
 head_ready v x None = []
 head_ready v x (Some o) = ready_with o v x.storage
 
+-- the version is produced
 abbrev pub produced_now : Version → Version
 produced_now x = record x { produced = true; head = None }
 
@@ -244,9 +262,11 @@ abbrev pub is_last : OpName → Option OpName → Bool
 is_last o None = false
 is_last o (Some last) = same_name last o
 
+-- the tail without a reader
 abbrev pub tail_without : OpName → Option OpName → Option OpName
 tail_without o tail = if is_last o tail then None else tail
 
+-- one more reader has released it
 abbrev pub released_once : Version → OpName → Version
 released_once x o = record x { released = suc x.released; tail = tail_without o x.tail }
 
@@ -255,26 +275,32 @@ abbrev pub released_by_reader : Named Version → OpName → OpName → Version 
 released_by_reader vs o v x =
     sending (Bye o (not (is_last o x.tail)) ∷ []) (settled (put_version vs v (released_once x o)) v)
 
+-- by who releases
 abbrev pub released_by : Named Version → OpName → OpName → Version → Bool → Versioned
 released_by vs o v x true = released_by_producer vs o v x
 released_by vs o v x false = released_by_reader vs o v x
 
+-- what a release leaves, by the version
 abbrev pub released_at : Named Version → OpName → OpName → Bool → Option Version → Versioned
 released_at vs o v producer None = unchanged vs
 released_at vs o v producer (Some x) = released_by vs o v x producer
 
+-- the versions and messages after release
 abbrev pub after_release : Named Version → OpName → ReleaseContents → Versioned
 after_release vs o r = released_at vs o r.version r.producer (get vs r.version)
 
 -- ---- nack: a version may not retire
 
+-- it was refused with the number for which it asked
 abbrev pub refused_once : Version → Version
 refused_once x = record x { refused = x.asked; asked = None }
 
+-- what a nack leaves, by the version
 abbrev pub nacked_at : Named Version → OpName → Option Version → Versioned
 nacked_at vs v None = unchanged vs
 nacked_at vs v (Some x) = settled (put_version vs v (refused_once x)) v
 
+-- the versions and messages after nack
 abbrev pub after_nack : Named Version → OpName → Versioned
 after_nack vs v = nacked_at vs v (get vs v)
 
@@ -284,5 +310,6 @@ after_nack vs v = nacked_at vs v (get vs v)
 abbrev pub retired : Range → Option OpName → GoneContents
 retired object buffer = record { object = object; buffer = buffer; retired = true }
 
+-- the versions after retire
 abbrev pub after_retire : Named Version → OpName → Named Version
 after_retire vs v = drop_version vs v

@@ -45,6 +45,7 @@ abbrev pub storage_byte : Stores → Range → StorageName → ℕ → ℕ
 storage_byte s object Home a = byte_at s.home a
 storage_byte s object (Buffer n) a = slice_index (buffer_bytes s.contents n) (a - object.base)
 
+-- the byte at an address, by the object in which it lies
 abbrev pub byte_in : Stores → Option Placed → ℕ → ℕ
 byte_in s None a = byte_at s.home a
 byte_in s (Some p) a = storage_byte s p.object p.storage a
@@ -64,15 +65,18 @@ storage_write s object Home w = record s { home = memory_write s.home w }
 storage_write s object (Buffer n) w =
     record s { contents = insert s.contents n (list_put (buffer_bytes s.contents n) (w.at - object.base) w.bytes) }
 
+-- a write, by the object in which it begins
 abbrev pub write_in : Stores → Option Placed → Write → Stores
 write_in s None w = record s { home = memory_write s.home w }
 write_in s (Some p) w = storage_write s p.object p.storage w
 
+-- a write to the object in which it begins
 abbrev pub worker_write : List Placed → Stores → Write → Stores
 worker_write placed s w = write_in s (placed_at placed w.at) w
 
 -- ---- start: the front task of the queue runs on an idle worker
 
+-- start may happen, by the worker and the queue
 abbrev pub can_start : ℕ → ℕ → Option Busy → List ℕ → Bool
 can_start workers w busy [] = false
 can_start workers w busy (t ∷ ts) = nat_lt w workers && is_none busy
@@ -86,6 +90,7 @@ storage_zeroed limits s object (Buffer n) = record s { contents = insert s.conte
 abbrev pub output_zeroed : Limits → Stores → Operand → StorageName → Stores
 output_zeroed limits s o storage = if reads o.mode then s else storage_zeroed limits s o.object storage
 
+-- the same for all operands
 abbrev pub outputs_zeroed : Limits → Stores → List Operand → List StorageName → Stores
 outputs_zeroed limits s [] ss = s
 outputs_zeroed limits s (o ∷ os) [] = s
@@ -101,9 +106,11 @@ busy_with t storages = record {
   trap = None;
 }
 
+-- a worker with a queued task
 abbrev pub busy_at_start : Flying → Busy
 busy_at_start x = busy_with x.task (storages_of x)
 
+-- the storages at its start
 abbrev pub stores_after_start : Limits → Stores → Flying → Stores
 stores_after_start limits s x = outputs_zeroed limits s (operands_of x.task) (storages_of x)
 
@@ -113,6 +120,7 @@ stores_after_start limits s x = outputs_zeroed limits s (operands_of x.task) (st
 abbrev pub has_ended : Busy → Bool
 has_ended b = is_some b.trap || (b.registers.pc == end_pc)
 
+-- exec may happen
 abbrev pub can_exec : Option Busy → Bool
 can_exec None = false
 can_exec (Some b) = not (has_ended b)
@@ -134,11 +142,13 @@ exec_stretch code limits quantum b s =
     quantum
     (task_state_of b s)
 
+-- the worker after a stretch
 abbrev pub busy_after : Busy → TaskState Stores → Busy
 busy_after b s = record b { registers = s.registers; scratch = s.scratch; trap = s.trap }
 
 -- ---- finish: a worker whose task is over becomes idle
 
+-- finish may happen
 abbrev pub can_finish : Option Busy → Bool
 can_finish None = false
 can_finish (Some b) = has_ended b
@@ -148,6 +158,7 @@ abbrev pub lower_trap : ℕ → Trap → Option HeldTrap → HeldTrap
 lower_trap task trap None = record { task = task; trap = trap }
 lower_trap task trap (Some h) = if nat_lt task h.task then record { task = task; trap = trap } else h
 
+-- the held trap, where a task may have trapped
 abbrev pub trap_after_finish : Option HeldTrap → ℕ → Option Trap → Option HeldTrap
 trap_after_finish held task None = held
 trap_after_finish held task (Some trap) = Some (lower_trap task trap held)
