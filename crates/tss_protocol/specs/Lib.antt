@@ -16,3 +16,4 @@ pub mod Needs
 pub mod Text
 pub mod Schedule
 pub mod Codes
+pub mod StateCodes
