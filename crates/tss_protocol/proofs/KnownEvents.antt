@@ -39,7 +39,7 @@ exits = record {
       ∷ [];
 }
 
-abbrev small : Machine
+abbrev pub small : Machine
 small = record {
   limits = record {
     main_budget = 1000;

@@ -4,3 +4,6 @@ mod EventOrder
 mod EnabledList
 mod KnownEvents
 mod KnownRows
+mod RacingProgram
+mod FirstReader
+mod IdleRace
