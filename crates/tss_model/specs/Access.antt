@@ -38,8 +38,8 @@ main_may purpose None = false
 abbrev pub touches : List Range → Range → Bool
 touches named r = list_any (λ object. meets object r) named
 
--- its answer, by whether the range of memory in which the access lies wholly can be written, and by whether it touches a
--- named object
+-- its answer, by whether the range of memory in which the access lies wholly can be written, and by whether it touches
+-- a named object
 abbrev pub main_answer : Purpose → Option Bool → Bool → Access
 main_answer purpose within touched =
     if main_may purpose within then (if touched then Touch else Granted)

@@ -164,7 +164,9 @@ module _ (vs : Named Version) (o : OpName) (operand : Operand) (f : Follow) (apa
       unfolding settle
       waits n =
           ap (settle_at joined f.version (settle n)) (at_inserted name_order (put_version vs o opened) f.version linked)
-          ∙ ap (λ b. if b && (p.released == f.last) && is_none p.asked then given_way n else unchanged joined) open_still
+          ∙ ap
+          (λ b. if b && (p.released == f.last) && is_none p.asked then given_way n else unchanged joined)
+          open_still
 
       pub over_waits : after_open vs o opening ≡ unchanged joined
       over_waits =
