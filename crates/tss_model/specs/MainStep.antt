@@ -14,7 +14,7 @@ use Rattle.tss_model.specs.Causes.{fetch_outside, load_denied, unknown_call, mai
 use Rattle.tss_model.specs.Access.{MainActor, touches}
 use Rattle.tss_model.specs.Core.{Write, Stepped, Executed, Called, Ended, Trapped, Touched, core_step}
 use Rattle.tss_model.specs.Spawn.{SpawnCall, spawn_of, name_objects, objects_of}
-use Rattle.tss_model.specs.TaskRun.{memory_write}
+use Rattle.tss_model.specs.TaskRun.{memory_write, repeated}
 use Rattle.tss_model.specs.Access.{operands_of}
 
 -- bytes that main printed, with the number of tasks that it had spawned before
@@ -85,6 +85,10 @@ main_step code limits f =
     if is_some f.main.ending then f
     else if has_spent limits f.main then record f { main = main_refused f.main main_budget_spent }
     else main_on f (main_core code f)
+
+-- a stretch of so many steps, fewer where main ends before or its next step is a call
+abbrev pub main_stretch : List SegmentState → Limits → ℕ → Flat → Flat
+main_stretch code limits n f = repeated (main_step code limits) n f
 
 -- ---- calls
 

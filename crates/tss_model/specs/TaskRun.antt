@@ -60,6 +60,11 @@ task_step byte write budget code actor s =
     else if nat_le budget s.registers.done then task_trapped s (trap_of s.registers budget_spent 0)
     else task_on write s (core_step actor (task_byte byte s) (code_word code) s.registers)
 
+-- a stretch of so many steps, fewer where the task is over before
+abbrev pub task_stretch : {M : Type 0} → (M → ℕ → ℕ) → (M → Write → M) → ℕ → List SegmentState → Actor → ℕ → TaskState M
+    → TaskState M
+task_stretch byte write budget code actor n s = repeated (task_step byte write budget code actor) n s
+
 -- ---- on the one flat memory
 
 abbrev pub memory_write : Memory → Write → Memory
@@ -89,7 +94,7 @@ task_actor m t = TaskActor m.ranges (operands_of t)
 -- the task after so many steps, fewer where it is over before
 abbrev pub task_stepped : List SegmentState → Limits → Memory → Task → ℕ → TaskState Memory
 task_stepped code limits m t n =
-    repeated (task_step byte_at memory_write limits.task_budget code (task_actor m t)) n (task_start m t)
+    task_stretch byte_at memory_write limits.task_budget code (task_actor m t) n (task_start m t)
 
 -- the task after j completed instructions, where it gets there
 abbrev pub task_after : List SegmentState → Limits → Memory → Task → ℕ → Option (TaskState Memory)

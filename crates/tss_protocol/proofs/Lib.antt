@@ -1,0 +1,6 @@
+mod MessageNames
+mod DrainedStates
+mod EventOrder
+mod EnabledList
+mod KnownEvents
+mod KnownRows

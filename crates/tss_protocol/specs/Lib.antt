@@ -1,0 +1,17 @@
+pub mod Names
+pub mod Mail
+pub mod State
+pub mod Gateway
+pub mod Stations
+pub mod Renaming
+pub mod Versions
+pub mod Buffers
+pub mod Workers
+pub mod MainEvent
+pub mod UnitMachine
+pub mod Run
+pub mod Result
+pub mod Counts
+pub mod Needs
+pub mod Text
+pub mod Schedule
