@@ -1,5 +1,5 @@
 -- The blocks that a space is made of, and the memory that they are. No public clause speaks of them.
-use Rattle.std.specs.Prelude.{◌≡◌, ℕ, ◌+◌, ◌-◌, ◌<◌, ◌≤◌, Bool, true, IsTrue, List, ◌++◌, map, length, take, drop, flat_map, find, Some, slice_get}
+use Rattle.std.specs.Prelude.{◌≡◌, ℕ, ◌+◌, ◌-◌, ◌<◌, ◌≤◌, Bool, true, IsTrue, List, ◌++◌, map, length, take, drop, flat_map, IsSomeAnd, slice_get}
 use Rattle.std.specs.List.{enumerate_from}
 use Rattle.std.specs.FinMap.{from_entries}
 use Rattle.tss_base.specs.declared.range.Range.{Range}
@@ -43,13 +43,9 @@ memory_of blocks = record { ranges = ranges_in blocks; bytes = from_entries (ent
 abbrev pub AreBlocks : List BlockState → Type 0
 AreBlocks blocks = AreRanges (ranges_in blocks)
 
--- the range lies in the block at this place, which is the first in which it does
+-- there is a block at this place, and the range lies in it
 abbrev pub IsInBlock : List BlockState → Range → ℕ → Type 0
-IsInBlock blocks r i =
-    (b : BlockState)
-    × (slice_get blocks i ≡ Some b)
-    × IsTrue (contains (block_range b) r)
-    × (find (λ m. contains m.range r) (ranges_in blocks) ≡ Some (memory_range_of b))
+IsInBlock blocks r i = IsSomeAnd (slice_get blocks i) (λ b. IsTrue (contains (block_range b) r))
 
 -- the bytes from a place on, so many of them
 abbrev pub part_of : List ℕ → ℕ → ℕ → List ℕ

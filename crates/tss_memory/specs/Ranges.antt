@@ -1,5 +1,5 @@
 -- The ranges of memory: what holds of all of them, where bytes may be read and written, and a range that was found.
-use Rattle.std.specs.Prelude.{◌≡◌, ℕ, ◌+◌, ◌<◌, ◌≤◌, true, IsTrue, List, length, slice_get, All, AllPairs, Some, IsSome, IsSomeAnd}
+use Rattle.std.specs.Prelude.{◌≡◌, ℕ, ◌+◌, ◌<◌, ◌≤◌, true, IsTrue, List, length, slice_get, All, AllPairs, Option, Some, IsSome, IsSomeAnd, find}
 use Rattle.tss_base.specs.declared.range.Range.{Range}
 use Rattle.tss_base.specs.Range.{end_of, contains}
 use Rattle.tss_memory.specs.declared.found.Found.{Found}
@@ -22,6 +22,10 @@ pub record AreRanges (ranges : List MemoryRange) : Type 0 where
   pub few : length ranges ≤ max_ranges
   pub each : All IsPlaced ranges
   pub ordered : AllPairs (λ m n. end_of m.range ≤ n.range.base) ranges
+
+-- the first range of memory that contains r
+abbrev pub range_with : List MemoryRange → Range → Option MemoryRange
+range_with ranges r = find (λ m. contains m.range r) ranges
 
 -- so many bytes from an address on, where there are any, lie in one range of memory
 abbrev pub CanRead : List MemoryRange → ℕ → ℕ → Type 0

@@ -1,5 +1,5 @@
 // Blocks: the bytes of one range of memory.
-ghost use Rattle.std.specs.Prelude.{◌≡◌, ◌<◌, ◌≤◌, ◌-◌, IfOk, IsTrue, length};
+ghost use Rattle.std.specs.Prelude.{◌≡◌, ◌<◌, ◌≤◌, ◌-◌, IfOk, IsTrue, length, map, ◌++◌, ◌∷◌, []};
 ghost use Rattle.tss_base.specs.Range.{contains};
 ghost use Rattle.tss_model.specs.Memory.{zeros};
 ghost use Rattle.tss_memory.specs.Blocks.{IsBlock, block_end, block_of, block_range, part_of, put_block, stack_block};
@@ -7,7 +7,7 @@ ghost use Rattle.tss_memory.specs.Blocks.{IsBlock, block_end, block_of, block_ra
 use std::alloc::{AllocError, Global};
 use std::marker::Model;
 
-use tss_base::{Range, Segment};
+use tss_base::{Image, Range, Segment};
 
 /// The base of main's stack.
 pub(crate) const STACK_BASE: u32 = 0xFFFE0000;
@@ -55,7 +55,7 @@ impl Block {
     {
         Ok(Block {
             base: STACK_BASE,
-            bytes: vec![in alloc; 0; STACK_BYTES]?,
+            bytes: zero_bytes(alloc, STACK_BYTES)?,
             writable: true,
         })
     }
@@ -115,6 +115,33 @@ impl Block {
         ensures { self.new ≡ put_block self.old r.now.base (zeros r.now.len) }
     {
         let first = (r.base - self.base) as usize;
-        self.bytes[first..first + r.len as usize].fill(0);
+        clear(&mut self.bytes[first..first + r.len as usize]);
     }
+}
+
+/// A block for each segment, in address order, and the one of main's stack.
+pub(crate) fn blocks_of(alloc: Global, image: &Image) -> Result<Vec<Block>, AllocError>
+    ensures { IfOk result (λ blocks. blocks.items ≡ map block_of image.now.segments ++ stack_block ∷ []) }
+{
+    let count = image.count();
+    let mut blocks = Vec::with_capacity(alloc, count as usize + 1)?;
+    for i in 0..count {
+        blocks.push(Block::of_segment(alloc, image.segment(i))?)?;
+    }
+    blocks.push(Block::stack(alloc)?)?;
+    Ok(blocks)
+}
+
+/// Puts a zero in each place.
+fn clear(bytes: &mut [u8])
+    ensures { bytes.new ≡ zeros (length bytes.old) }
+{
+    bytes.fill(0);
+}
+
+/// So many zeros.
+fn zero_bytes(alloc: Global, count: usize) -> Result<Vec<u8>, AllocError>
+    ensures { IfOk result (λ bytes. bytes.items ≡ zeros count) }
+{
+    vec![in alloc; 0; count]
 }

@@ -8,6 +8,7 @@ mod block;
 mod code;
 mod found;
 mod numbers;
+mod placing;
 mod space;
 
 pub use code::Code;

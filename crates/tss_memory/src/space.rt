@@ -1,20 +1,20 @@
 // A flat space of bytes.
-ghost use Rattle.std.specs.Prelude.{◌≡◌, ◌<◌, ◌≤◌, IfOk, IfSome, OnSome, IsSome, IsNone, IsTrue, Some, None, option_map, slice_get, length, map, find, true};
-ghost use Rattle.tss_base.specs.Range.{contains, end_of};
+ghost use Rattle.std.specs.Prelude.{◌≡◌, ◌<◌, ◌≤◌, IfOk, IfSome, OnSome, IsTrue, option_map, slice_get, length};
+ghost use Rattle.tss_base.specs.Range.{end_of};
 ghost use Rattle.tss_model.specs.Memory.{range_of, byte_at, bytes_of, set_byte, put_bytes, zeroed, number_at, loaded, frozen};
 ghost use Rattle.tss_model.specs.Core.{low_bytes};
 ghost use Rattle.tss_memory.specs.Ranges.{AreRanges, CanRead, CanWrite, IsFound, memory_end};
-ghost use Rattle.tss_memory.specs.Blocks.{AreBlocks, IsInBlock, memory_of, ranges_in, block_of};
 
-use std::alloc::{AllocError, Global};
+use std::alloc::Global;
 use std::marker::Model;
 
 use tss_base::{Image, NoMemory, Range};
 
-use crate::block::Block;
+use crate::block::{Block, blocks_of};
 use crate::code::Code;
 use crate::found::Found;
 use crate::numbers::number_of;
+use crate::placing::{known_place, place_in, place_near, put_in, put_number_in, range_from, zero_in};
 
 /// Main's memory: its ranges, and a byte at each of their addresses.
 #[derive(Drop, Debug)]
@@ -43,8 +43,7 @@ impl Space {
         ensures space { IfOk result (λ p. p.0 ≡ loaded image.now) }
         ensures code { IfOk result (λ p. p.1 ≡ frozen image.now) }
     {
-        let mut blocks = segment_blocks(alloc, image)?;
-        blocks.push(Block::stack(alloc)?)?;
+        let blocks = blocks_of(alloc, image)?;
         Ok((Space { blocks }, Code::load(alloc, image)?))
     }
 
@@ -101,8 +100,8 @@ impl Space {
         requires { CanRead self.now.ranges at (length into.old) }
         ensures { into.new ≡ bytes_of self.now (record { base = at; len = length into.old }) }
     {
-        let len = into.len() as u32;
-        into.copy_from_slice(self.bytes(&Range { base: at, len }));
+        let r = range_from(self.blocks.as_slice(), at, into.len());
+        into.copy_from_slice(self.bytes(&r));
     }
 
     /// Writes bytes from an address on.
@@ -113,9 +112,9 @@ impl Space {
         if from.is_empty() {
             return;
         }
-        let len = from.len() as u32;
-        let i = known_place(self.blocks.as_slice(), &Range { base: at, len });
-        self.blocks[i].put(at, from);
+        let r = range_from(self.blocks.as_slice(), at, from.len());
+        let i = known_place(self.blocks.as_slice(), &r);
+        put_in(self.blocks.as_mut_slice(), i, at, from);
     }
 
     /// Writes zeros in a range.
@@ -127,7 +126,7 @@ impl Space {
             return;
         }
         let i = known_place(self.blocks.as_slice(), r);
-        self.blocks[i].zero(r);
+        zero_in(self.blocks.as_mut_slice(), i, r);
     }
 
     /// The range of memory that contains r, where the one at the place `near` is tried first: a run of accesses in one
@@ -163,66 +162,6 @@ impl Space {
         requires width { r.now.len ≤ 4 }
         ensures { self.new ≡ put_bytes self.old r.now.base (low_bytes r.now.len value) }
     {
-        let bytes = value.to_le_bytes();
-        self.blocks[found.index as usize].put(r.base, &bytes[..r.len as usize]);
-    }
-}
-
-/// A block for each segment, in address order, with room for one more.
-fn segment_blocks(alloc: Global, image: &Image) -> Result<Vec<Block>, AllocError>
-    ensures { IfOk result (λ blocks. blocks.items ≡ map block_of image.now.segments) }
-{
-    let count = image.count();
-    let mut blocks = Vec::with_capacity(alloc, count as usize + 1)?;
-    for i in 0..count {
-        blocks.push(Block::of_segment(alloc, image.segment(i))?)?;
-    }
-    Ok(blocks)
-}
-
-/// How many blocks end before an address.
-fn blocks_before(blocks: &[Block], end: u64) -> usize
-    requires { AreBlocks blocks.now }
-{
-    blocks.partition_point(|b| b.end() < end)
-}
-
-/// The place of the first block that contains the range.
-fn place_in(blocks: &[Block], r: &Range) -> Option<usize>
-    requires { AreBlocks blocks.now }
-    ensures none { IsNone result → find (λ m. contains m.range r.now) (ranges_in blocks.now) ≡ None }
-    ensures some { IfSome result (IsInBlock blocks.now r.now) }
-{
-    let i = blocks_before(blocks, r.end());
-    if i < blocks.len() && blocks[i].contains(r) {
-        Some(i)
-    } else {
-        None
-    }
-}
-
-/// The same, where the block at a place is tried first.
-fn place_near(blocks: &[Block], r: &Range, near: usize) -> Option<usize>
-    requires blocks { AreBlocks blocks.now }
-    requires some { 0 < r.now.len }
-    ensures none { IsNone result → find (λ m. contains m.range r.now) (ranges_in blocks.now) ≡ None }
-    ensures some { IfSome result (IsInBlock blocks.now r.now) }
-{
-    if near < blocks.len() && blocks[near].contains(r) {
-        Some(near)
-    } else {
-        place_in(blocks, r)
-    }
-}
-
-/// The place of the first block that contains the range, where there is one.
-fn known_place(blocks: &[Block], r: &Range) -> usize
-    requires blocks { AreBlocks blocks.now }
-    requires there { IsSome (range_of (ranges_in blocks.now) r.now) }
-    ensures { IsInBlock blocks.now r.now result }
-{
-    match place_in(blocks, r) {
-        Some(i) => i,
-        None => unreachable!(),
+        put_number_in(self.blocks.as_mut_slice(), found.index as usize, r, value);
     }
 }
