@@ -47,7 +47,7 @@ pairs_map {A} {B} R f (x ∷ xs) all i j d h within =
     let inside : j < length (x ∷ xs) = omega (arith, length-map (x ∷ xs) f) in
     let both = all i j x h inside in
     let left : R (get_or (map f (x ∷ xs)) i d) (f (get_or (x ∷ xs) j x)) =
-        subst (λ (y : B). R y (f (get_or (x ∷ xs) j x))) (sym (get_or-map f (x ∷ xs) i x d (omega arith))) both in
+    subst (λ (y : B). R y (f (get_or (x ∷ xs) j x))) (sym (get_or-map f (x ∷ xs) i x d (omega arith))) both in
     subst (λ (y : B). R (get_or (map f (x ∷ xs)) i d) y) (sym (get_or-map f (x ∷ xs) j x d inside)) left
 
 -- ---- the blocks of an image
@@ -83,8 +83,8 @@ module _ (i : ImageState) (accepted : IsAccepted i) where
     few = omega (arith, length-append (map memory_range i.segments) (record { range = stack_range; writable = true } ∷ []), length-map i.segments memory_range, accepted.few);
     each = All-push IsPlaced (map memory_range i.segments) (record { range = stack_range; writable = true }) each_placed (omega arith, omega arith);
     ordered =
-      all_pairs_push (λ m n. end_of m.range ≤ n.range.base) (map memory_range i.segments) (record { range = stack_range; writable = true })
-      (pairs_map (λ m n. end_of m.range ≤ n.range.base) memory_range i.segments accepted.ordered) below_stack;
+        all_pairs_push (λ m n. end_of m.range ≤ n.range.base) (map memory_range i.segments) (record { range = stack_range; writable = true })
+        (pairs_map (λ m n. end_of m.range ≤ n.range.base) memory_range i.segments accepted.ordered) below_stack;
   }
 
   -- blocks that are loaded are in address order
@@ -97,9 +97,10 @@ unfolding loaded loaded_bytes
 memory_of-loaded i blocks e =
     ap memory_of e
     ∙ (λ t. record { ranges = ranges_in-blocks i t; bytes = from_entries (entries t) }) where
-    each : BlockState → List (ℕ × ℕ)
-    each b = enumerate_from b.base b.bytes
-    entries : entries_in (blocks_in i) ≡ flat_map (λ s. enumerate_from s.base s.bytes) i.segments ++ enumerate_from stack_range.base (zeros stack_range.len)
-    entries =
-        flat_map-append each (map block_of i.segments) (stack_block ∷ [])
-        ∙ (λ t. flat_map_map each block_of i.segments t ++ append-nil (enumerate_from stack_range.base (zeros stack_range.len)) t)
+      each : BlockState → List (ℕ × ℕ)
+      each b = enumerate_from b.base b.bytes
+
+      entries : entries_in (blocks_in i) ≡ flat_map (λ s. enumerate_from s.base s.bytes) i.segments ++ enumerate_from stack_range.base (zeros stack_range.len)
+      entries =
+          flat_map-append each (map block_of i.segments) (stack_block ∷ [])
+          ∙ (λ t. flat_map_map each block_of i.segments t ++ append-nil (enumerate_from stack_range.base (zeros stack_range.len)) t)

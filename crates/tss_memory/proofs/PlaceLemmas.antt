@@ -46,7 +46,7 @@ module _ {X : Type 0} (range : X → Range) (xs : List X) (apart : AreApart rang
   in_order i j x y h e f =
       let both : end_of (range (get_or xs i x)) ≤ (range (get_or xs j x)).base = apart i j x h (slice_get_within xs j y f) in
       let left : end_of (range x) ≤ (range (get_or xs j x)).base =
-          subst (λ (z : X). end_of (range z) ≤ (range (get_or xs j x)).base) (get_or_from_slice_get xs i x x e) both in
+      subst (λ (z : X). end_of (range z) ≤ (range (get_or xs j x)).base) (get_or_from_slice_get xs i x x e) both in
       subst (λ (z : X). end_of (range x) ≤ (range z).base) (get_or_from_slice_get xs j y x f) left
 
   -- the ends rise
@@ -54,8 +54,10 @@ module _ {X : Type 0} (range : X → Range) (xs : List X) (apart : AreApart rang
   ends_rise i j d h within = rise (cases_order i j) where
     at_i : slice_get xs i ≡ Some (get_or xs i d)
     at_i = slice_get-get_or xs i d (omega arith)
+
     at_j : slice_get xs j ≡ Some (get_or xs j d)
     at_j = slice_get-get_or xs j d within
+
     rise : (i ≡ j) ⊎ ((i < j) ⊎ (j < i)) → end_of (range (get_or xs i d)) ≤ end_of (range (get_or xs j d))
     rise (inl e) = subst (λ (k : ℕ). end_of (range (get_or xs i d)) ≤ end_of (range (get_or xs k d))) e (omega arith)
     rise (inr (inl l)) =
@@ -97,6 +99,7 @@ module _ {X : Type 0} (range : X → Range) (xs : List X) (apart : AreApart rang
           let ordered = in_order i j (get_or xs i x) x h there e in
           let begins = begins_after (range (get_or xs i x)) r (outside (get_or xs i x) there) (point.1 i x (omega arith) (omega arith)) in
           contains_not_base (range x) r (omega arith)
+
       fails : (j : ℕ) (x : X) → slice_get xs j ≡ Some x → (i ≡ j) ⊎ ((i < j) ⊎ (j < i)) → contains (range x) r ≡ false
       fails j x e (inl s) = outside x (ap (slice_get xs) s ∙ e)
       fails j x e (inr (inl l)) = later j x l e
@@ -113,10 +116,10 @@ module _ (blocks : List BlockState) (are : AreBlocks blocks) where
   pub blocks_apart : AreApart block_range blocks
   blocks_apart i j d h within =
       let both : end_of ((get_or (ranges_in blocks) i (memory_range_of d)).range) ≤ (get_or (ranges_in blocks) j (memory_range_of d)).range.base =
-          are.ordered i j (memory_range_of d) h (omega (arith, length-map blocks memory_range_of)) in
+      are.ordered i j (memory_range_of d) h (omega (arith, length-map blocks memory_range_of)) in
       let left : end_of (block_range (get_or blocks i d)) ≤ (get_or (ranges_in blocks) j (memory_range_of d)).range.base =
-          subst (λ (m : MemoryRange). end_of (m.range) ≤ (get_or (ranges_in blocks) j (memory_range_of d)).range.base)
-          (get_or-map memory_range_of blocks i d (memory_range_of d) (omega arith)) both in
+      subst (λ (m : MemoryRange). end_of (m.range) ≤ (get_or (ranges_in blocks) j (memory_range_of d)).range.base)
+      (get_or-map memory_range_of blocks i d (memory_range_of d) (omega arith)) both in
       subst (λ (m : MemoryRange). end_of (block_range (get_or blocks i d)) ≤ m.range.base)
       (get_or-map memory_range_of blocks j d (memory_range_of d) within) left
 

@@ -107,6 +107,7 @@ module _ (blocks : List BlockState) (are : AreBlocks blocks) (i : ℕ) (b : Bloc
           get-memory_of (slice_set blocks i (put_block b at ys)) q
           ∙ entry-beside blocks i b (put_block b at ys) q there refl as_long out
           ∙ sym (get-memory_of blocks q)
+
       place : (q < b.base) ⊎ (b.base ≤ q) → (q < block_end b) ⊎ (block_end b ≤ q) → get ((memory_of (slice_set blocks i (put_block b at ys))).bytes) q ≡ get (map_put ((memory_of blocks).bytes) at ys) q
       place (inl before) other =
           beside (inl before) ∙ sym (put_outside ((memory_of blocks).bytes) at ys q (inl (omega arith)))

@@ -6,7 +6,6 @@ ghost use Rattle.tss_memory.specs.Blocks.{AreBlocks, block_end, block_of, block_
 
 use std::alloc::{AllocError, Global};
 use std::marker::Model;
-
 use tss_base::{Image, Range, Segment};
 
 /// The base of main's stack.

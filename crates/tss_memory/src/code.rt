@@ -6,12 +6,10 @@ ghost use Rattle.tss_base.specs.Image.{segment_end};
 ghost use Rattle.tss_model.specs.Memory.{code_word, frozen, segment_range, segment_word};
 ghost use Rattle.tss_memory.specs.Segments.{AreApart, segment_with};
 
+use crate::numbers::number_of;
 use std::alloc::{AllocError, Global};
 use std::marker::Model;
-
 use tss_base::{Image, Segment};
-
-use crate::numbers::number_of;
 
 /// The segments that can be executed, with their bytes as loaded. They never change, whatever is stored in memory.
 #[derive(Drop, Debug)]

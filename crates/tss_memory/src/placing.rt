@@ -6,9 +6,8 @@ ghost use Rattle.tss_model.specs.Core.{low_bytes};
 ghost use Rattle.tss_memory.specs.Ranges.{CanRead, range_with};
 ghost use Rattle.tss_memory.specs.Blocks.{AreBlocks, IsInBlock, block_end, memory_of, range_of_block, ranges_in};
 
-use tss_base::Range;
-
 use crate::block::Block;
+use tss_base::Range;
 
 /// How many blocks end before an address.
 fn blocks_before(blocks: &[Block], end: u64) -> usize
