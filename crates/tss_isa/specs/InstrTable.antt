@@ -1,5 +1,5 @@
 -- The table of instructions by the fields of their words, in the manual's order, read in both directions.
-use Rattle.std.specs.Prelude.{ℕ, ◌+◌, ◌-◌, ◌*◌, ◌%◌, ◌^◌, Bool, true, false, ◌&&◌, ◌==◌, nat_lt, if◌then◌else◌, Option, Some, None, ℤ, pos, negsuc}
+use Rattle.std.specs.Prelude.{ℕ, ◌+◌, ◌*◌, ◌%◌, ◌^◌, Bool, true, false, ◌&&◌, ◌==◌, nat_lt, if◌then◌else◌, Option, Some, None, ℤ, pos, negsuc}
 use Rattle.std.specs.Int.{cast_unsigned, w32}
 use Rattle.tss_isa.specs.declared.instr.Test.{Test}
 use Rattle.tss_isa.specs.declared.instr.Test.TheVariants.{Beq, Bne, Blt, Bge, Bltu, Bgeu}
@@ -93,6 +93,10 @@ operand_of Srli w = pos (rs2 w)
 operand_of Srai w = pos (rs2 w)
 operand_of op w = imm_i w
 
+-- JALR has funct3 0
+abbrev pub jalr_of : ℕ → ℕ → Option Instr
+jalr_of f w = if f == 0 then Some (Jalr (rd w) (rs1 w) (imm_i w)) else None
+
 abbrev pub branch_of : Option Test → ℕ → Option Instr
 branch_of (Some t) w = Some (Branch t (rs1 w) (rs2 w) (imm_b w))
 branch_of None w = None
@@ -113,6 +117,10 @@ abbrev pub op_of : Option RegOp → ℕ → Option Instr
 op_of (Some op) w = Some (Op op (rd w) (rs1 w) (rs2 w))
 op_of None w = None
 
+-- FENCE has funct3 0, and all else in it is ignored
+abbrev pub fence_of : ℕ → ℕ → Option Instr
+fence_of f w = if f == 0 then Some (Fence (rd w) (rs1 w) (field w 20 12)) else None
+
 -- SYSTEM has two words
 abbrev pub system_of : ℕ → Option Instr
 system_of w =
@@ -126,13 +134,13 @@ row_of o w =
     if o == 0x37 then Some (Lui (rd w) (imm_u w))
     else if o == 0x17 then Some (Auipc (rd w) (imm_u w))
     else if o == 0x6F then Some (Jal (rd w) (imm_j w))
-    else if o == 0x67 then (if funct3 w == 0 then Some (Jalr (rd w) (rs1 w) (imm_i w)) else None)
+    else if o == 0x67 then jalr_of (funct3 w) w
     else if o == 0x63 then branch_of (test_of (funct3 w)) w
     else if o == 0x03 then load_of (load_kind_of (funct3 w)) w
     else if o == 0x23 then store_of (store_kind_of (funct3 w)) w
     else if o == 0x13 then op_imm_of (imm_op_of (funct3 w) (funct7 w)) w
     else if o == 0x33 then op_of (reg_op_of (funct3 w) (funct7 w)) w
-    else if o == 0x0F then (if funct3 w == 0 then Some (Fence (rd w) (rs1 w) (field w 20 12)) else None)
+    else if o == 0x0F then fence_of (funct3 w) w
     else if o == 0x73 then system_of w
     else None
 
@@ -200,31 +208,42 @@ abbrev pub imm_op_high : ImmOp → ℤ → ℕ
 imm_op_high Srai imm = 32 * 2 ^ 5 + field (twos imm) 0 5
 imm_op_high op imm = field (twos imm) 0 12
 
--- bits 31 to 25 and 11 to 7 of a word with an S immediate
-abbrev pub bits_s : ℕ → ℕ
-bits_s n = field n 5 7 * 2 ^ 25 + field n 0 5 * 2 ^ 7
-
--- the same bits of a word with a B immediate
-abbrev pub bits_b : ℕ → ℕ
-bits_b n = field n 12 1 * 2 ^ 31 + field n 5 6 * 2 ^ 25 + field n 1 4 * 2 ^ 8 + field n 11 1 * 2 ^ 7
-
--- bits 31 to 12 of a word with a J immediate
-abbrev pub bits_j : ℕ → ℕ
-bits_j n = field n 20 1 * 2 ^ 31 + field n 1 10 * 2 ^ 21 + field n 11 1 * 2 ^ 20 + field n 12 8 * 2 ^ 12
-
--- an opcode, and the fields rd, funct3, rs1 and rs2 with what lies above
+-- a word of an opcode, the fields rd, funct3 and rs1, and bits 31 to 20
 abbrev pub joined : ℕ → ℕ → ℕ → ℕ → ℕ → ℕ
 joined o d f s high = o + d * 2 ^ 7 + f * 2 ^ 12 + s * 2 ^ 15 + high * 2 ^ 20
 
+-- a word of an opcode, the field rd, and bits 31 to 12
+abbrev pub joined_upper : ℕ → ℕ → ℕ → ℕ
+joined_upper o d upper = o + d * 2 ^ 7 + upper * 2 ^ 12
+
+-- what a B immediate has in the place of rd: its bits 4 to 1, then bit 11
+abbrev pub low_b : ℕ → ℕ
+low_b n = field n 1 4 * 2 + field n 11 1
+
+-- and in that of funct7: its bit 12, then bits 10 to 5
+abbrev pub high_b : ℕ → ℕ
+high_b n = field n 12 1 * 2 ^ 6 + field n 5 6
+
+-- bits 31 to 12 of a word with a J immediate: its bit 20, bits 10 to 1, bit 11, then bits 19 to 12
+abbrev pub upper_j : ℕ → ℕ
+upper_j n = field n 20 1 * 2 ^ 19 + field n 1 10 * 2 ^ 9 + field n 11 1 * 2 ^ 8 + field n 12 8
+
+-- the words of a branch and of a store, whose immediates stand in the places of rd and funct7
+abbrev pub branch_word : ℕ → ℕ → ℕ → ℕ → ℕ
+branch_word f s r n = joined 0x63 (low_b n) f s (high_b n * 2 ^ 5 + r)
+
+abbrev pub store_word : ℕ → ℕ → ℕ → ℕ → ℕ
+store_word f s r n = joined 0x23 (field n 0 5) f s (field n 5 7 * 2 ^ 5 + r)
+
 -- the word of an instruction
 unfoldable pub word_of : Instr → ℕ
-word_of (Lui d imm) = 0x37 + d * 2 ^ 7 + imm
-word_of (Auipc d imm) = 0x17 + d * 2 ^ 7 + imm
-word_of (Jal d offset) = 0x6F + d * 2 ^ 7 + bits_j (twos offset)
+word_of (Lui d imm) = joined_upper 0x37 d (field imm 12 20)
+word_of (Auipc d imm) = joined_upper 0x17 d (field imm 12 20)
+word_of (Jal d offset) = joined_upper 0x6F d (upper_j (twos offset))
 word_of (Jalr d s offset) = joined 0x67 d 0 s (field (twos offset) 0 12)
-word_of (Branch t s r offset) = joined 0x63 0 (test_code t) s r + bits_b (twos offset)
+word_of (Branch t s r offset) = branch_word (test_code t) s r (twos offset)
 word_of (Load k d s offset) = joined 0x03 d (load_code k) s (field (twos offset) 0 12)
-word_of (Store k r s offset) = joined 0x23 0 (store_code k) s r + bits_s (twos offset)
+word_of (Store k r s offset) = store_word (store_code k) s r (twos offset)
 word_of (OpImm op d s imm) = joined 0x13 d (imm_op_code op) s (imm_op_high op imm)
 word_of (Op op d s r) = joined 0x33 d (reg_op_code op) s (reg_op_high op * 2 ^ 5 + r)
 word_of (Fence d s bits) = joined 0x0F d 0 s bits
@@ -236,10 +255,14 @@ word_of Ebreak = 0x00100073
 abbrev pub is_register : ℕ → Bool
 is_register n = nat_lt n 32
 
--- `count` bits in two's complement reach it: from -2 ^ (count - 1) to 2 ^ (count - 1) - 1
+-- the immediate of LUI and AUIPC: 32 bits, the low twelve zero
+abbrev pub is_upper : ℕ → Bool
+is_upper n = n % 2 ^ 12 == 0 && nat_lt n (2 ^ 32)
+
+-- it lies from -half to half - 1
 abbrev pub is_within : ℕ → ℤ → Bool
-is_within count (pos n) = nat_lt n (2 ^ (count - 1))
-is_within count (negsuc n) = nat_lt n (2 ^ (count - 1))
+is_within half (pos n) = nat_lt n half
+is_within half (negsuc n) = nat_lt n half
 
 abbrev pub is_even : ℤ → Bool
 is_even (pos n) = n % 2 == 0
@@ -254,19 +277,19 @@ abbrev pub is_operand : ImmOp → ℤ → Bool
 is_operand Slli imm = is_distance imm
 is_operand Srli imm = is_distance imm
 is_operand Srai imm = is_distance imm
-is_operand op imm = is_within 12 imm
+is_operand op imm = is_within (2 ^ 11) imm
 
 -- each field of the instruction is in its range
 abbrev pub fits : Instr → Bool
-fits (Lui d imm) = is_register d && (imm % 2 ^ 12 == 0 && nat_lt imm (2 ^ 32))
-fits (Auipc d imm) = is_register d && (imm % 2 ^ 12 == 0 && nat_lt imm (2 ^ 32))
-fits (Jal d offset) = is_register d && (is_within 21 offset && is_even offset)
-fits (Jalr d s offset) = is_register d && (is_register s && is_within 12 offset)
-fits (Branch t s r offset) = is_register s && (is_register r && (is_within 13 offset && is_even offset))
-fits (Load k d s offset) = is_register d && (is_register s && is_within 12 offset)
-fits (Store k r s offset) = is_register r && (is_register s && is_within 12 offset)
-fits (OpImm op d s imm) = is_register d && (is_register s && is_operand op imm)
-fits (Op op d s r) = is_register d && (is_register s && is_register r)
-fits (Fence d s bits) = is_register d && (is_register s && nat_lt bits (2 ^ 12))
+fits (Lui d imm) = is_register d && is_upper imm
+fits (Auipc d imm) = is_register d && is_upper imm
+fits (Jal d offset) = is_register d && is_within (2 ^ 20) offset && is_even offset
+fits (Jalr d s offset) = is_register d && is_register s && is_within (2 ^ 11) offset
+fits (Branch t s r offset) = is_register s && is_register r && is_within (2 ^ 12) offset && is_even offset
+fits (Load k d s offset) = is_register d && is_register s && is_within (2 ^ 11) offset
+fits (Store k r s offset) = is_register r && is_register s && is_within (2 ^ 11) offset
+fits (OpImm op d s imm) = is_register d && is_register s && is_operand op imm
+fits (Op op d s r) = is_register d && is_register s && is_register r
+fits (Fence d s bits) = is_register d && is_register s && nat_lt bits (2 ^ 12)
 fits Ecall = true
 fits Ebreak = true

@@ -1,4 +1,10 @@
 // The instructions of RV32I with their fields.
+/// The word of a call.
+pub(crate) const ECALL: u32 = 0x0000_0073;
+
+/// The word of a breakpoint.
+pub(crate) const EBREAK: u32 = 0x0010_0073;
+
 /// A condition of a branch: equal, not equal, less and at least with sign, and the same two without sign.
 #[derive(Clone, Copy, Debug, PartialEq, Eq)]
 pub enum Test {
