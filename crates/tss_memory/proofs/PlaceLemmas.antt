@@ -1,5 +1,5 @@
 -- Ranges in address order, of blocks or of segments: where they end, and which is the first that contains another.
-use Rattle.std.proofs.Common.{◌≡◌, ℕ, zero, suc, ◌+◌, ◌<◌, ◌≤◌, ◌⊎◌, inl, inr, Bool, true, false, cond, Option, Some, None, List, [], ◌∷◌, length, map, refl, sym, ap, subst, ◌∙◌, arith, get_or}
+use Rattle.std.proofs.Common.{◌≡◌, ℕ, ◌<◌, ◌≤◌, ◌⊎◌, inl, inr, Bool, true, false, cond, Option, Some, None, List, [], ◌∷◌, length, map, refl, sym, ap, subst, ◌∙◌, arith, get_or}
 use Rattle.std.specs.Prelude.{slice_get, find, option_map, IsTrue, IsSomeAnd, AllPairs}
 use Rattle.std.specs.List.Sorted.{IsNonDecreasingBy, IsPartitionPoint}
 use Rattle.std.proofs.lemmas.Option.{slice_get_within, slice_get-get_or, slice_get_read, slice_get-map, get_or_from_slice_get, same_Some}
@@ -9,8 +9,8 @@ use Rattle.tss_base.specs.declared.range.Range.{Range}
 use Rattle.tss_base.specs.Range.{end_of, contains}
 use Rattle.tss_maps.proofs.Places.{find_first}
 use Rattle.tss_model.specs.Memory.{MemoryRange}
-use Rattle.tss_memory.specs.Ranges.{AreRanges, IsPlaced, memory_end, range_with}
-use Rattle.tss_memory.specs.Blocks.{BlockState, AreBlocks, IsInBlock, block_end, block_range, memory_range_of, ranges_in}
+use Rattle.tss_memory.specs.Ranges.{memory_end, range_with}
+use Rattle.tss_memory.specs.Blocks.{BlockState, AreBlocks, IsInBlock, block_range, memory_range_of, ranges_in}
 use Rattle.tss_memory.proofs.RangeLemmas.{some_and, find_none, contains_parts, contains_not_end, contains_not_base, begins_after, range_placed}
 
 -- the first that passes of a list of images

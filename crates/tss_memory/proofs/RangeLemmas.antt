@@ -1,7 +1,7 @@
 -- What holds of each range of memory, by its place, and that a list has nothing that passes a test.
-use Rattle.std.proofs.Common.{◌≡◌, ℕ, ◌+◌, ◌<◌, ◌≤◌, Bool, true, false, inl, inr, Option, Some, None, List, length, map, refl, sym, ap, subst, ◌∙◌, arith, get_or, nat_le, nat_lt}
-use Rattle.std.specs.Prelude.{◌&&◌, IsTrue, IsSome, IsSomeAnd, slice_get, find, option_map}
-use Rattle.std.proofs.lemmas.Option.{slice_get-map, slice_get_within, slice_get_past, get_or_from_slice_get, same_Some, none-some}
+use Rattle.std.proofs.Common.{◌≡◌, ℕ, ◌<◌, ◌≤◌, Bool, true, false, inl, inr, Option, Some, None, List, length, refl, sym, subst, ◌∙◌, arith, nat_le}
+use Rattle.std.specs.Prelude.{IsSome, IsSomeAnd, slice_get, find, option_map}
+use Rattle.std.proofs.lemmas.Option.{slice_get_within, slice_get_past, get_or_from_slice_get, same_Some, none-some}
 use Rattle.std.proofs.lemmas.Bool.{and_parts, leb-true, lt-leb, and_left, and_right, le-leb, leb-false, and_from, and_cases, both_ways, cases_lt}
 use Rattle.tss_base.specs.declared.range.Range.{Range}
 use Rattle.tss_base.specs.Range.{end_of, contains}

@@ -1,6 +1,6 @@
 -- The segment that has a word, and the word in it.
-use Rattle.std.proofs.Common.{◌≡◌, ℕ, ◌+◌, ◌-◌, ◌<◌, ◌≤◌, true, Some, List, length, get_or, take, drop, refl, sym, ap, ◌∙◌, arith, zero-add}
-use Rattle.std.specs.Prelude.{slice_index, slice_get}
+use Rattle.std.proofs.Common.{◌≡◌, ℕ, ◌-◌, true, Some, List, length, get_or, ap, ◌∙◌, arith, zero-add}
+use Rattle.std.specs.Prelude.{slice_index}
 use Rattle.tss_base.specs.Range.{contains}
 use Rattle.tss_base.specs.Image.{SegmentState}
 use Rattle.tss_maps.proofs.Places.{find_there}

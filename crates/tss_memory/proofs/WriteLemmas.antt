@@ -1,9 +1,9 @@
 -- A write in one block is a write in the memory that the blocks are.
-use Rattle.std.proofs.Common.{◌≡◌, ℕ, zero, suc, ◌+◌, ◌-◌, ◌<◌, ◌≤◌, ◌⊎◌, inl, inr, Option, Some, None, List, [], ◌∷◌, length, map, get_or, refl, sym, ap, subst, ◌∙◌, arith}
+use Rattle.std.proofs.Common.{◌≡◌, ℕ, zero, suc, ◌+◌, ◌-◌, ◌<◌, ◌≤◌, ◌⊎◌, inl, inr, Some, List, [], ◌∷◌, length, map, get_or, refl, sym, ap, ◌∙◌, arith}
 use Rattle.std.specs.Prelude.{slice_get, slice_set, IsTrue}
 use Rattle.std.specs.Ordering.{nat_cmp}
 use Rattle.std.specs.Cmp.{nat_cmp_total}
-use Rattle.std.specs.FinMap.{get, from_entries, find, get-from_entries}
+use Rattle.std.specs.FinMap.{get, find, get-from_entries}
 use Rattle.std.proofs.lemmas.Bool.{cases_lt}
 use Rattle.std.proofs.lemmas.Option.{slice_get-get_or, get_or_from_slice_get}
 use Rattle.tss_base.specs.declared.range.Range.{Range}
@@ -11,8 +11,8 @@ use Rattle.tss_base.specs.Range.{contains}
 use Rattle.tss_base.specs.Names.{Numbered}
 use Rattle.tss_maps.proofs.Keys.{nat_order}
 use Rattle.tss_maps.proofs.Changes.{at_inserted, beside_inserted, same_by_get}
-use Rattle.tss_model.specs.Memory.{Memory, map_put, put_bytes}
-use Rattle.tss_memory.specs.Blocks.{BlockState, AreBlocks, IsInBlock, block_end, block_range, entries_in, memory_of, memory_range_of, put_block, ranges_in, with_part}
+use Rattle.tss_model.specs.Memory.{map_put, put_bytes}
+use Rattle.tss_memory.specs.Blocks.{BlockState, AreBlocks, IsInBlock, block_end, block_range, entries_in, memory_of, memory_range_of, put_block, with_part}
 use Rattle.tss_memory.proofs.RangeLemmas.{some_and, contains_parts}
 use Rattle.tss_memory.proofs.PlaceLemmas.{blocks_apart, in_order}
 use Rattle.tss_memory.proofs.PartLemmas.{length-with_part, part_before, part_inside, part_after}

@@ -1,5 +1,5 @@
 -- The blocks that a space is made of, and the memory that they are. No public clause speaks of them.
-use Rattle.std.specs.Prelude.{◌≡◌, ℕ, ◌+◌, ◌-◌, ◌<◌, ◌≤◌, Bool, true, IsTrue, List, ◌++◌, map, length, take, drop, flat_map, Option, option_map, IsSomeAnd, slice_get}
+use Rattle.std.specs.Prelude.{ℕ, ◌+◌, ◌-◌, ◌<◌, ◌≤◌, Bool, true, IsTrue, List, ◌++◌, map, length, take, drop, flat_map, Option, option_map, IsSomeAnd, slice_get}
 use Rattle.std.specs.List.{enumerate_from}
 use Rattle.std.specs.FinMap.{from_entries}
 use Rattle.tss_base.specs.declared.range.Range.{Range}

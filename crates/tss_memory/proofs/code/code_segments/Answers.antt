@@ -1,5 +1,5 @@
 -- One more segment, which is code or isn't. What is left of segments in address order is in address order.
-use Rattle.std.proofs.Common.{◌≡◌, ◌≤◌, List, [], ◌∷◌, ◌++◌, cond, take, subst, sym, ap, ◌∙◌, rules}
+use Rattle.std.proofs.Common.{◌≤◌, List, [], ◌∷◌, ◌++◌, cond, take, subst, sym, ap, ◌∙◌, rules}
 use Rattle.std.specs.Prelude.{filter}
 use Rattle.std.proofs.lemmas.List.{append-nil, take_all}
 use Rattle.std.proofs.lemmas.List.Kept.{AllPairs-filter}

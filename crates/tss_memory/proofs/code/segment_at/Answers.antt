@@ -1,6 +1,5 @@
 -- The first segment that ends no sooner than the four bytes is the first that has them, or none has.
-use Rattle.std.proofs.Common.{◌≡◌, ℕ, ◌+◌, ◌<◌, ◌≤◌, true, List, length, refl, subst, sym, ◌∙◌, arith, rules}
-use Rattle.std.specs.Prelude.{slice_get}
+use Rattle.std.proofs.Common.{◌≡◌, ℕ, ◌+◌, ◌<◌, ◌≤◌, true, length, refl, subst, sym, ◌∙◌, arith, rules}
 use Rattle.std.specs.List.Sorted.{IsPartitionPoint}
 use Rattle.std.proofs.lemmas.Option.{slice_get_within, slice_get_read}
 use Rattle.tss_base.specs.declared.range.Range.{Range}

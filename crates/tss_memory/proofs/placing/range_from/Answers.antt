@@ -1,6 +1,5 @@
 -- Bytes that lie in one block are few.
-use Rattle.std.proofs.Common.{rules, ◌<◌, ◌≤◌, ◌^◌, ◌⊎◌, ◌≡◌, inl, inr, arith}
-use Rattle.std.proofs.lemmas.Bool.{cases_lt}
+use Rattle.std.proofs.Common.{rules}
 use Rattle.tss_memory.specs.Blocks.{ranges_in}
 use Rattle.tss_memory.proofs.RangeLemmas.{count_readable}
 use Rattle.tss_memory.proofs.placing.range_from.Goals as goal

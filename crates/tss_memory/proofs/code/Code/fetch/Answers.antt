@@ -1,6 +1,5 @@
 -- The segments are in address order, and the one that is found has the word.
-use Rattle.std.proofs.Common.{List, subst, sym, ◌∙◌}
-use Rattle.tss_base.specs.Image.{SegmentState}
+use Rattle.std.proofs.Common.{subst, sym}
 use Rattle.tss_memory.specs.Segments.{AreApart}
 use Rattle.tss_memory.proofs.SegmentLemmas.{segment_has}
 use Rattle.tss_memory.proofs.code.Code.fetch.Goals as goal
