@@ -72,7 +72,8 @@ zeroed_none m r e = ap (λ n. put_bytes m r.base (replicate n 0)) (sym e)
 pub take-bytes_low_first : (n more i v : ℕ) → take n (bytes_low_first i (n + more) v) ≡ bytes_low_first i n v
 take-bytes_low_first zero more i v = refl
 take-bytes_low_first (suc n) more i v =
-    ap (λ k. take (suc n) (bytes_low_first i k v)) count ∙ ap (λ bs. byte_at i v ∷ bs) (take-bytes_low_first n more (suc i) v) where
+    ap (λ k. take (suc n) (bytes_low_first i k v)) count
+    ∙ ap (λ bs. byte_at i v ∷ bs) (take-bytes_low_first n more (suc i) v) where
       count : suc n + more ≡ suc (n + more)
       count = omega arith
 

@@ -27,6 +27,7 @@ loop-i-preserved c =
 
 pub returns-clause-apart : goal.returns-clause-apart
 returns-clause-apart c =
-    let apart = AllPairs-filter (λ s t. segment_end s ≤ t.base) (λ s. s.code) c.args.image.now.segments c.count-i-end.ensures.accepted.ordered in
+    let apart = AllPairs-filter (λ s t. segment_end s ≤ t.base)
+    (λ s. s.code) c.args.image.now.segments c.count-i-end.ensures.accepted.ordered in
     let all = take_all c.loop-i.i c.args.image.now.segments (search rules) in
     subst AreApart (sym (c.loop-i.invariant ∙ ap (filter (λ s. s.code)) all)) apart

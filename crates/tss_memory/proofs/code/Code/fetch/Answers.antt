@@ -8,4 +8,5 @@ pub segment_at-requires : goal.segment_at-requires
 segment_at-requires c = subst AreApart (sym c.as_slice.ensures.value) c.self.invariant
 
 pub word_in-requires : goal.word_in-requires
-word_in-requires c = segment_has c.as_slice.result.now c.args.pc c.in_ok-segment.segment.now (sym c.in_ok-segment.ensures)
+word_in-requires c = segment_has c.as_slice.result.now c.args.pc c.in_ok-segment.segment.now
+    (sym c.in_ok-segment.ensures)
