@@ -8,6 +8,8 @@ mod name_table;
 mod rows;
 mod seats;
 mod table;
+#[cfg(test)]
+mod tests;
 
 pub use name_table::NameTable;
 pub use seats::Seats;

@@ -44,7 +44,7 @@ AreFree-push size (p ∷ free) place ok out =
     let was = from_removed nat_order (places_out size free) p place tt out in
     let apart : p ≢ place = λ same. was.0 (sym same) in (
       ap (λ m. get m p) (places_out-push size free place)
-      ∙ beside_removed nat_order (places_out size free) place p apart ∙ ok.0,
+          ∙ beside_removed nat_order (places_out size free) place p apart ∙ ok.0,
       AreFree-push size free place ok.1 was.1,
     )
 
@@ -55,7 +55,7 @@ AreFree-pop size [] place ok = (tt, ok.0)
 AreFree-pop size (p ∷ free) place ok =
     let rest = AreFree-pop size free place ok.1 in
     let was =
-      from_removed nat_order (places_out size free) place p tt (ap (λ m. get m p) (sym (places_out-push size free place)) ∙ ok.0)
+    from_removed nat_order (places_out size free) place p tt (ap (λ m. get m p) (sym (places_out-push size free place)) ∙ ok.0)
     in
     let apart : place ≢ p = λ same. was.0 (sym same) in
     ((was.1, rest.0), beside_removed nat_order (places_out size free) p place apart ∙ rest.1)
@@ -76,7 +76,8 @@ free_last size free n some ok out =
 abbrev pub pool_of : ℕ → ℕ → List ℕ → PoolState
 pool_of number size free = record { number = number; size = size; out = places_out size free }
 
-module _ (number size : ℕ) (free : List ℕ) (p : PoolState) (is : pool_of number size free ≡ p) (ok : AreFree size free) where
+module _ (number size : ℕ) (free : List ℕ) (p : PoolState) (is : pool_of number size free ≡ p)
+    (ok : AreFree size free) where
   -- places out and places free are all places
   pub len-seen : len p.out + length free ≡ p.size
   len-seen =

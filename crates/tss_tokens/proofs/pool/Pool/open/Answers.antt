@@ -15,7 +15,7 @@ loop-place-preserved c =
     let before = c.loop-place.invariant in
     let pushed = c.in-Ok.ensures in
     let last =
-      free_last c.args.size c.loop-place.free.items c.loop-place.place c.loop-place-test.true before.free before.out
+    free_last c.args.size c.loop-place.free.items c.loop-place.place c.loop-place-test.true before.free before.out
     in
     record {
       out = ap (places_out c.args.size) pushed.items ∙ last.0;
