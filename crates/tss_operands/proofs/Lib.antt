@@ -1,2 +1,4 @@
 mod PlacedLemmas
 mod NamingLemmas
+mod ListingLemmas
+mod MergingLemmas

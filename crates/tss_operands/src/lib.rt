@@ -3,6 +3,8 @@
 #![tactic(auto)]
 
 mod epoch;
+mod listing;
+mod merging;
 mod search;
 
 pub use epoch::Epoch;

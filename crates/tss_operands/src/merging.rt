@@ -1,0 +1,62 @@
+// Merging: the listed operands of an object become one.
+ghost use Rattle.std.specs.Prelude.{◌≡◌, ◌≤◌, count_by, filter, length, not};
+ghost use Rattle.tss_model.specs.Spawn.{merged_on, merged_operands, same_range};
+ghost use Rattle.std.specs.List.{list_all, list_any};
+ghost use Rattle.tss_operands.specs.Listing.{is_mode};
+ghost use Rattle.tss_operands.specs.Naming.{is_named};
+
+use crate::epoch::Epoch;
+use crate::listing::Listing;
+use tss_base::{Mode, Operand, Range};
+
+/// One operand for each object that is listed, in order of first appearance.
+pub(crate) fn merged(listed: &[Operand]) -> Listing
+    requires { length listed.now ≤ 7 }
+    ensures { result ≡ merged_operands listed.now }
+{
+    let mut merged = Listing::new();
+    for operand in listed {
+        if !is_listed(merged.as_slice(), &operand.object) {
+            merged.push(merged_on(listed, operand.object));
+        }
+    }
+    merged
+}
+
+/// Whether one of the operands has the object.
+fn is_listed(operands: &[Operand], object: &Range) -> bool
+    ensures { result ≡ list_any (λ o. same_range object.now o.object) operands.now }
+{
+    operands.iter().any(|o| *object == o.object)
+}
+
+/// The listed operands of an object as one.
+fn merged_on(listed: &[Operand], object: Range) -> Operand
+    ensures { result ≡ merged_on listed.now object }
+{
+    let mode = if all_on(listed, &object, Mode::Input) {
+        Mode::Input
+    } else if all_on(listed, &object, Mode::Output) {
+        Mode::Output
+    } else {
+        Mode::Inout
+    };
+    Operand { object, mode }
+}
+
+/// Whether all operands of an object have this mode.
+fn all_on(listed: &[Operand], object: &Range, mode: Mode) -> bool
+    ensures { result ≡ list_all (λ o. is_mode mode o.mode) (filter (λ o. same_range o.object object.now) listed.now) }
+{
+    listed
+        .iter()
+        .filter(|o| o.object == *object)
+        .all(|o| o.mode == mode)
+}
+
+/// How many of the operands have an object that isn't named yet.
+pub(crate) fn fresh(epoch: &Epoch, merged: &[Operand]) -> usize
+    ensures { result ≡ count_by (λ o. not (is_named epoch.now.objects o.object)) merged.now }
+{
+    merged.iter().filter(|o| !epoch.has(&o.object)).count()
+}
