@@ -1,0 +1,7 @@
+mod RangeLemmas
+mod PlaceLemmas
+mod EntryLemmas
+mod PartLemmas
+mod WriteLemmas
+mod ReadLemmas
+mod LoadLemmas
