@@ -2,3 +2,6 @@ mod PlacedLemmas
 mod NamingLemmas
 mod ListingLemmas
 mod MergingLemmas
+mod ReadingLemmas
+mod FreshLemmas
+mod SpawnLemmas

@@ -55,7 +55,8 @@ impl Listing {
 
     /// Its operands.
     pub(crate) fn as_slice(&self) -> &[Operand]
-        ensures { result.now ≡ self.now }
+        ensures items { result.now ≡ self.now }
+        ensures few { length result.now ≤ 7 }
     {
         &self.items[..self.count as usize]
     }

@@ -1,9 +1,9 @@
 // Merging: the listed operands of an object become one.
-ghost use Rattle.std.specs.Prelude.{◌≡◌, ◌≤◌, count_by, filter, length, not};
+ghost use Rattle.std.specs.Prelude.{◌≡◌, ◌≤◌, filter, length};
 ghost use Rattle.tss_model.specs.Spawn.{merged_on, merged_operands, same_range};
 ghost use Rattle.std.specs.List.{list_all, list_any};
 ghost use Rattle.tss_operands.specs.Listing.{is_mode};
-ghost use Rattle.tss_operands.specs.Naming.{is_named};
+ghost use Rattle.tss_operands.specs.Naming.{count_with};
 
 use crate::epoch::Epoch;
 use crate::listing::Listing;
@@ -54,9 +54,14 @@ fn all_on(listed: &[Operand], object: &Range, mode: Mode) -> bool
         .all(|o| o.mode == mode)
 }
 
-/// How many of the operands have an object that isn't named yet.
-pub(crate) fn fresh(epoch: &Epoch, merged: &[Operand]) -> usize
-    ensures { result ≡ count_by (λ o. not (is_named epoch.now.objects o.object)) merged.now }
+/// How many objects are named with those of the merged operands.
+pub(crate) fn named_with(epoch: &Epoch, merged: &Listing) -> u64
+    ensures { result ≡ count_with epoch.now.objects merged.now }
 {
-    merged.iter().filter(|o| !epoch.has(&o.object)).count()
+    let fresh = merged
+        .as_slice()
+        .iter()
+        .filter(|o| !epoch.has(&o.object))
+        .count();
+    u64::from(epoch.count()) + fresh as u64
 }

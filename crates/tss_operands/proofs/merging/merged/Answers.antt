@@ -17,7 +17,7 @@ loop-operand-preserved c =
     let object = (get_or listed i no_operand).object in
     let same = c.loop-operand.invariant in
     let test : c.is_listed.result ≡ list_any (λ o. same_range object o.object) (merged_front listed i) =
-    c.is_listed.ensures ∙ ap (list_any (λ o. same_range object o.object)) (c.as_slice.ensures ∙ same) in
+    c.is_listed.ensures ∙ ap (list_any (λ o. same_range object o.object)) (c.as_slice.ensures.items ∙ same) in
     elim c.if-not-is_listed.branch [
       | then-not-is_listed w ↦
           w.merged-is ∙ w.push.ensures ∙ ap (λ os. os ++ w.merged_on.result ∷ []) same
