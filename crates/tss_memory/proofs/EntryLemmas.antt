@@ -24,8 +24,8 @@ find-inside at [] es k q e h = absurd (omega arith)
 find-inside at (x ∷ xs) es zero q e h =
     ap (λ t. cond t (Some x) (find nat_cmp q (enumerate_from (at + 1) xs ++ es)))
     (ap (λ n. eq_by_cmp nat_cmp q n) first ∙ same_key nat_order q) where
-    first : at ≡ q
-    first = omega arith
+      first : at ≡ q
+      first = omega arith
 find-inside at (x ∷ xs) es (suc k) q e h =
     passed at q x (enumerate_from (at + 1) xs ++ es) (λ s. absurd (omega arith))
     ∙ find-inside (at + 1) xs es k q (omega arith) (omega arith)

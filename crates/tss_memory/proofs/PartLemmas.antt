@@ -73,8 +73,8 @@ pub take-bytes_low_first : (n more i v : ℕ) → take n (bytes_low_first i (n +
 take-bytes_low_first zero more i v = refl
 take-bytes_low_first (suc n) more i v =
     ap (λ k. take (suc n) (bytes_low_first i k v)) count ∙ ap (λ bs. byte_at i v ∷ bs) (take-bytes_low_first n more (suc i) v) where
-    count : suc n + more ≡ suc (n + more)
-    count = omega arith
+      count : suc n + more ≡ suc (n + more)
+      count = omega arith
 
 pub take-to_le_bytes : (n v : ℕ) → n ≤ 4 → take n (to_le_bytes w32 v) ≡ low_bytes n v
 take-to_le_bytes n v h =

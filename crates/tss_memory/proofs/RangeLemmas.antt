@@ -61,13 +61,6 @@ module _ (ranges : List MemoryRange) (are : AreRanges ranges) where
   pub range_placed : (i : ℕ) (m : MemoryRange) → slice_get ranges i ≡ Some m → IsPlaced m
   range_placed i m e = subst IsPlaced (get_or_from_slice_get ranges i m m e) (are.each i m (slice_get_within ranges i m e))
 
-  -- two ranges at places in order
-  pub ranges_apart : (i j : ℕ) (m n : MemoryRange) → i < j → slice_get ranges i ≡ Some m → slice_get ranges j ≡ Some n → end_of m.range ≤ n.range.base
-  ranges_apart i j m n h e f =
-      let both : end_of ((get_or ranges i m).range) ≤ (get_or ranges j m).range.base = are.ordered i j m h (slice_get_within ranges j n f) in
-      let left : end_of m.range ≤ (get_or ranges j m).range.base = subst (λ (x : MemoryRange). end_of x.range ≤ (get_or ranges j m).range.base) (get_or_from_slice_get ranges i m m e) both in
-      subst (λ (x : MemoryRange). end_of m.range ≤ x.range.base) (get_or_from_slice_get ranges j n m f) left
-
   -- where a range lies in one of memory, it ends in time
   pub found_end : (r : Range) (w : Bool) → range_of ranges r ≡ Some w → end_of r ≤ memory_end
   found_end r w e =

@@ -22,7 +22,7 @@ number_at-same f g a b (suc n) same =
     let first : f a ≡ g b = ap f (sym (add-zero a)) ∙ same 0 (omega arith) ∙ ap g (add-zero b) in
     let rest = number_at-same f g (suc a) (suc b) n (λ k h. ap f (later a k) ∙ same (suc k) (omega arith) ∙ ap g (sym (later b k))) in
     λ t. first t + 256 * rest t
-    where
+  where
     later : (x k : ℕ) → suc x + k ≡ x + suc k
     later x k = omega arith
 
@@ -62,10 +62,10 @@ module _ (blocks : List BlockState) (are : AreBlocks blocks) (i : ℕ) (b : Bloc
       same_lists (part_of b.bytes (r.base - b.base) r.len) (bytes_of (memory_of blocks) r)
       (length-part ∙ sym (length-map-range_with_len (byte_at (memory_of blocks)) r.base r.len))
       (λ k d h.
-        let small : k < r.len = omega (arith, length-part) in
-        get_or_default (part_of b.bytes (r.base - b.base) r.len) k d 0 h
-        ∙ sym (byte_at-part k small)
-        ∙ sym (get_or-map-range_with_len (byte_at (memory_of blocks)) r.base r.len k (r.base + k) d small refl))
+      let small : k < r.len = omega (arith, length-part) in
+      get_or_default (part_of b.bytes (r.base - b.base) r.len) k d 0 h
+      ∙ sym (byte_at-part k small)
+      ∙ sym (get_or-map-range_with_len (byte_at (memory_of blocks)) r.base r.len k (r.base + k) d small refl))
 
   number_at-part : number_at (slice_index (part_of b.bytes (r.base - b.base) r.len)) 0 (length (part_of b.bytes (r.base - b.base) r.len)) ≡ number_at (byte_at (memory_of blocks)) r.base r.len
   number_at-part =

@@ -14,7 +14,7 @@ use Rattle.tss_maps.proofs.Changes.{at_inserted, beside_inserted, same_by_get}
 use Rattle.tss_model.specs.Memory.{Memory, map_put, put_bytes}
 use Rattle.tss_memory.specs.Blocks.{BlockState, AreBlocks, IsInBlock, block_end, block_range, entries_in, memory_of, memory_range_of, put_block, ranges_in, with_part}
 use Rattle.tss_memory.proofs.RangeLemmas.{some_and, contains_parts}
-use Rattle.tss_memory.proofs.PlaceLemmas.{blocks_apart}
+use Rattle.tss_memory.proofs.PlaceLemmas.{blocks_apart, in_order}
 use Rattle.tss_memory.proofs.PartLemmas.{length-with_part, part_before, part_inside, part_after}
 use Rattle.tss_memory.proofs.EntryLemmas.{IsOutside, EndBefore, entry-inside, entry-beside}
 
@@ -72,7 +72,7 @@ get-memory_of blocks q = get-from_entries nat_cmp_total (entries_in blocks) q
 module _ (blocks : List BlockState) (are : AreBlocks blocks) (i : ℕ) (b : BlockState) (there : slice_get blocks i ≡ Some b) where
   -- the blocks before one end before it
   pub end_before : EndBefore blocks i b.base
-  end_before j a h e = blocks_apart blocks are j i a b h e there
+  end_before j a h e = in_order block_range blocks (blocks_apart blocks are) j i a b h e there
 
   -- the byte at an address in a block
   pub get-block : (k q : ℕ) → b.base + k ≡ q → k < length b.bytes → get ((memory_of blocks).bytes) q ≡ slice_get b.bytes k
@@ -107,6 +107,7 @@ module _ (blocks : List BlockState) (are : AreBlocks blocks) (i : ℕ) (b : Bloc
           get-memory_of (slice_set blocks i (put_block b at ys)) q
           ∙ entry-beside blocks i b (put_block b at ys) q there refl as_long out
           ∙ sym (get-memory_of blocks q)
+
       place : (q < b.base) ⊎ (b.base ≤ q) → (q < block_end b) ⊎ (block_end b ≤ q) → get ((memory_of (slice_set blocks i (put_block b at ys))).bytes) q ≡ get (map_put ((memory_of blocks).bytes) at ys) q
       place (inl before) other =
           beside (inl before) ∙ sym (put_outside ((memory_of blocks).bytes) at ys q (inl (omega arith)))

@@ -1,5 +1,5 @@
 -- The blocks that a space is made of, and the memory that they are. No public clause speaks of them.
-use Rattle.std.specs.Prelude.{◌≡◌, ℕ, ◌+◌, ◌-◌, ◌<◌, ◌≤◌, Bool, true, IsTrue, List, ◌++◌, map, length, take, drop, flat_map, IsSomeAnd, slice_get}
+use Rattle.std.specs.Prelude.{◌≡◌, ℕ, ◌+◌, ◌-◌, ◌<◌, ◌≤◌, Bool, true, IsTrue, List, ◌++◌, map, length, take, drop, flat_map, Option, option_map, IsSomeAnd, slice_get}
 use Rattle.std.specs.List.{enumerate_from}
 use Rattle.std.specs.FinMap.{from_entries}
 use Rattle.tss_base.specs.declared.range.Range.{Range}
@@ -30,6 +30,10 @@ memory_range_of b = record { range = block_range b; writable = b.writable }
 
 abbrev pub ranges_in : List BlockState → List MemoryRange
 ranges_in blocks = map memory_range_of blocks
+
+-- the range of the block at a place
+abbrev pub range_of_block : List BlockState → ℕ → Option MemoryRange
+range_of_block blocks i = option_map memory_range_of (slice_get blocks i)
 
 -- each address with its byte
 abbrev pub entries_in : List BlockState → List (ℕ × ℕ)

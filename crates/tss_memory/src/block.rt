@@ -2,11 +2,10 @@
 ghost use Rattle.std.specs.Prelude.{◌≡◌, ◌<◌, ◌≤◌, ◌-◌, IfOk, IsTrue, length, map, ◌++◌, ◌∷◌, []};
 ghost use Rattle.tss_base.specs.Range.{contains};
 ghost use Rattle.tss_model.specs.Memory.{zeros};
-ghost use Rattle.tss_memory.specs.Blocks.{IsBlock, block_end, block_of, block_range, part_of, put_block, stack_block};
+ghost use Rattle.tss_memory.specs.Blocks.{AreBlocks, block_end, block_of, block_range, part_of, put_block, stack_block};
 
 use std::alloc::{AllocError, Global};
 use std::marker::Model;
-
 use tss_base::{Image, Range, Segment};
 
 /// The base of main's stack.
@@ -121,7 +120,8 @@ impl Block {
 
 /// A block for each segment, in address order, and the one of main's stack.
 pub(crate) fn blocks_of(alloc: Global, image: &Image) -> Result<Vec<Block>, AllocError>
-    ensures { IfOk result (λ blocks. blocks.items ≡ map block_of image.now.segments ++ stack_block ∷ []) }
+    ensures blocks { IfOk result (λ blocks. blocks.items ≡ map block_of image.now.segments ++ stack_block ∷ []) }
+    ensures placed { IfOk result (λ blocks. AreBlocks blocks.items) }
 {
     let count = image.count();
     let mut blocks = Vec::with_capacity(alloc, count as usize + 1)?;

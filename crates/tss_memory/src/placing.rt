@@ -1,14 +1,13 @@
 // Blocks in address order: where a range lies, and what a write in one of them leaves of the whole.
-ghost use Rattle.std.specs.Prelude.{◌≡◌, ◌<◌, ◌≤◌, IfSome, IsSome, IsNone, None, length, slice_get};
+ghost use Rattle.std.specs.Prelude.{◌≡◌, ◌<◌, ◌≤◌, IfSome, IsSome, IsNone, None, length};
 ghost use Rattle.std.specs.List.Sorted.{IsPartitionPoint};
 ghost use Rattle.tss_model.specs.Memory.{range_of, put_bytes, zeroed};
 ghost use Rattle.tss_model.specs.Core.{low_bytes};
 ghost use Rattle.tss_memory.specs.Ranges.{CanRead, range_with};
-ghost use Rattle.tss_memory.specs.Blocks.{AreBlocks, IsInBlock, block_end, memory_of, ranges_in};
-
-use tss_base::Range;
+ghost use Rattle.tss_memory.specs.Blocks.{AreBlocks, IsInBlock, block_end, memory_of, range_of_block, ranges_in};
 
 use crate::block::Block;
+use tss_base::Range;
 
 /// How many blocks end before an address.
 fn blocks_before(blocks: &[Block], end: u64) -> usize
@@ -23,7 +22,7 @@ pub(crate) fn place_in(blocks: &[Block], r: &Range) -> Option<usize>
     requires { AreBlocks blocks.now }
     ensures none { IsNone result → range_with (ranges_in blocks.now) r.now ≡ None }
     ensures inside { IfSome result (IsInBlock blocks.now r.now) }
-    ensures first { IfSome result (λ i. range_with (ranges_in blocks.now) r.now ≡ slice_get (ranges_in blocks.now) i) }
+    ensures first { IfSome result (λ i. range_with (ranges_in blocks.now) r.now ≡ range_of_block blocks.now i) }
 {
     let i = blocks_before(blocks, r.end());
     if i < blocks.len() && blocks[i].contains(r) {
@@ -39,7 +38,7 @@ pub(crate) fn place_near(blocks: &[Block], r: &Range, near: usize) -> Option<usi
     requires some { 0 < r.now.len }
     ensures none { IsNone result → range_with (ranges_in blocks.now) r.now ≡ None }
     ensures inside { IfSome result (IsInBlock blocks.now r.now) }
-    ensures first { IfSome result (λ i. range_with (ranges_in blocks.now) r.now ≡ slice_get (ranges_in blocks.now) i) }
+    ensures first { IfSome result (λ i. range_with (ranges_in blocks.now) r.now ≡ range_of_block blocks.now i) }
 {
     if near < blocks.len() && blocks[near].contains(r) {
         Some(near)

@@ -5,16 +5,16 @@ ghost use Rattle.tss_model.specs.Memory.{range_of, byte_at, bytes_of, set_byte, 
 ghost use Rattle.tss_model.specs.Core.{low_bytes};
 ghost use Rattle.tss_memory.specs.Ranges.{AreRanges, CanRead, CanWrite, IsFound, memory_end};
 
-use std::alloc::Global;
-use std::marker::Model;
-
-use tss_base::{Image, NoMemory, Range};
-
 use crate::block::{Block, blocks_of};
 use crate::code::Code;
 use crate::found::Found;
 use crate::numbers::number_of;
-use crate::placing::{known_place, place_in, place_near, put_in, put_number_in, range_from, zero_in};
+use crate::placing::{
+    known_place, place_in, place_near, put_in, put_number_in, range_from, zero_in,
+};
+use std::alloc::Global;
+use std::marker::Model;
+use tss_base::{Image, NoMemory, Range};
 
 /// Main's memory: its ranges, and a byte at each of their addresses.
 #[derive(Drop, Debug)]

@@ -4,5 +4,7 @@
 #![tactic(auto)]
 
 mod pieces;
+mod report;
 
 pub use pieces::Pieces;
+pub use report::put_summary;
