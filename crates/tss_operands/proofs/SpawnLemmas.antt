@@ -1,11 +1,11 @@
 -- Accepted spawns: what they list, and that the objects of their tasks can be named.
-use Rattle.std.proofs.Common.{◌≡◌, ℕ, zero, suc, ◌+◌, ◌%◌, ◌<◌, ◌≤◌, inl, inr, Bool, true, false, ◌&&◌, ◌||◌, not, if◌then◌else◌, eqb, List, [], ◌∷◌, ◌++◌, length, map, take, get_or, Option, Some, None, Result, Ok, Err, refl, sym, ap, ◌∙◌, subst, arith}
+use Rattle.std.proofs.Common.{◌≡◌, ℕ, zero, suc, ◌+◌, ◌%◌, ◌<◌, ◌≤◌, inl, inr, Bool, true, false, ◌&&◌, ◌||◌, not, if◌then◌else◌, eqb, List, [], ◌∷◌, ◌++◌, length, get_or, Option, Some, None, Result, Ok, Err, refl, sym, ap, ◌∙◌, subst, arith}
 use Rattle.std.specs.Prelude.{All, IfOk, nat_lt, nat_le, min, max}
 use Rattle.std.specs.List.{list_any}
 use Rattle.std.proofs.lemmas.Bool.{and_right, cases_eq, cond-true, cond-false, eq-eqb, le-leb, le-ltb, lt-leb, lt-ltb, ltb-false, ne_eqb, not_from_true, or_from, or_parts, true≢false}
 use Rattle.std.proofs.lemmas.List.{append_assoc, length-map}
 use Rattle.std.proofs.lemmas.List.Elements.{All-cons, All-nil, All-weaker}
-use Rattle.std.proofs.lemmas.List.Folds.{list_any-append, list_any_at, list_any_none}
+use Rattle.std.proofs.lemmas.List.Folds.{list_any-append, list_any_none}
 use Rattle.tss_base.specs.declared.range.Range.{Range}
 use Rattle.tss_base.specs.declared.operand.Mode.{Mode}
 use Rattle.tss_base.specs.declared.operand.Operand.{Operand}
@@ -15,7 +15,7 @@ use Rattle.tss_base.specs.Range.{end_of, meets}
 use Rattle.tss_model.specs.Memory.{Memory, range_of}
 use Rattle.tss_model.specs.Access.{operands_of, touches}
 use Rattle.tss_model.specs.Causes.{bad_base, bad_length, epoch_full, list_place, main_touch, object_outside, overlap, too_many_operands, too_many_tasks}
-use Rattle.tss_model.specs.Spawn.{SpawnCall, Entry, after_first, entries_at, entries_checked, entry_checked, is_bad_length, is_misplaced, is_outside, list_range, merged_operands, mode_checked, mode_of, name_objects, no_operand, objects_of, operand_checked, overlaps, same_range, spawn_of, task_checked, task_of, with_rest}
+use Rattle.tss_model.specs.Spawn.{SpawnCall, Entry, after_first, entries_at, entries_checked, entry_checked, is_bad_length, is_misplaced, is_outside, list_range, merged_operands, mode_checked, mode_of, name_objects, no_operand, objects_of, overlaps, same_range, spawn_of, task_checked, task_of, with_rest}
 use Rattle.tss_operands.specs.declared.spawn.SpawnFault.{SpawnFault}
 use Rattle.tss_operands.specs.Naming.{CanNameAll, count_with}
 use Rattle.tss_operands.specs.Spawning.{list_checked, numbered}

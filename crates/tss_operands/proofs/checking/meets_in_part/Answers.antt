@@ -1,5 +1,5 @@
 -- A test of the named objects and then of the operands' objects.
-use Rattle.std.proofs.Common.{◌≡◌, sym, ap, ◌∙◌, false, ◌&&◌, ◌||◌, not}
+use Rattle.std.proofs.Common.{sym, ap, ◌∙◌, ◌&&◌, ◌||◌, not}
 use Rattle.std.specs.List.{list_any}
 use Rattle.std.proofs.lemmas.List.Folds.{list_any-append}
 use Rattle.tss_base.specs.declared.range.Range.{Range}

@@ -1,8 +1,7 @@
 -- An entry that passes its checks adds its operand, and one that fails one is the end.
-use Rattle.std.proofs.Common.{arith, ◌≡◌, ◌+◌, ◌-◌, ◌*◌, ap, sym, ◌∙◌, ◌++◌, ◌∷◌, [], Ok, Err, length}
+use Rattle.std.proofs.Common.{arith, ◌≡◌, ◌+◌, ◌-◌, ◌*◌, ap, sym, ◌∙◌, ◌++◌, Ok, Err, length}
 use Rattle.std.proofs.lemmas.List.{length_push}
 use Rattle.std.proofs.lemmas.Result.{err_from_is_err_and}
-use Rattle.tss_base.specs.declared.operand.Operand.{Operand}
 use Rattle.tss_model.specs.Spawn.{objects_of, entry_at, entry_checked}
 use Rattle.tss_operands.proofs.ReadingLemmas.{rest_checked, rest_checked-more, rest_checked-none, rest_checked-over}
 use Rattle.tss_operands.proofs.reading.checked_entries.Goals as goal

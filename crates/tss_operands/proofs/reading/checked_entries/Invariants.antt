@@ -1,5 +1,5 @@
 -- So far the first entries passed their checks, and the answer is that of these operands and the rest.
-use Rattle.std.proofs.Common.{◌≡◌, ℕ, ◌+◌, ◌-◌, ◌*◌, length}
+use Rattle.std.proofs.Common.{◌≡◌, ◌+◌, ◌-◌, ◌*◌, length}
 use Rattle.tss_model.specs.Spawn.{entries_at, entries_checked}
 use Rattle.tss_operands.proofs.ReadingLemmas.{rest_checked}
 use Rattle.tss_operands.proofs.reading.checked_entries.Given as goal

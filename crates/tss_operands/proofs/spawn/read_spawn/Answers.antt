@@ -2,9 +2,8 @@
 use Rattle.std.proofs.Common.{◌≤◌, ap, sym, ◌∙◌}
 use Rattle.std.proofs.lemmas.Bool.{cond-true, cond-false, le-ltb, lt-ltb}
 use Rattle.std.proofs.lemmas.Result.{err_from_is_err_and}
-use Rattle.tss_base.specs.declared.operand.Task.{Task}
 use Rattle.tss_model.specs.Access.{operands_of}
-use Rattle.tss_model.specs.Spawn.{objects_of, spawn_of, task_checked}
+use Rattle.tss_model.specs.Spawn.{objects_of, task_checked}
 use Rattle.tss_operands.specs.Naming.{CanNameAll}
 use Rattle.tss_operands.specs.Spawning.{call_of}
 use Rattle.tss_operands.proofs.SpawnLemmas.{CanNameAll-spawn_of, IfOk-numbered, few-spawn_of, spawn_of-listed}

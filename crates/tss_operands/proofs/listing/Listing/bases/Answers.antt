@@ -1,5 +1,5 @@
 -- Each place's base, also of those that are free.
-use Rattle.std.proofs.Common.{rules, of_calls, arith, ◌≡◌, ap, sym, ◌∙◌, map, take, length, get_or}
+use Rattle.std.proofs.Common.{rules, of_calls, arith, ◌≡◌, ap, sym, ◌∙◌, map, take, get_or}
 use Rattle.std.proofs.lemmas.List.{same_lists, length-map, get_or-map}
 use Rattle.tss_base.specs.declared.operand.Operand.{Operand}
 use Rattle.tss_model.specs.Spawn.{no_operand, seven}

@@ -1,5 +1,5 @@
 -- The places after the new one stay free.
-use Rattle.std.proofs.Common.{arith, ◌≡◌, ◌<◌, subst, sym, length}
+use Rattle.std.proofs.Common.{arith, ◌<◌, subst, sym, length}
 use Rattle.std.proofs.lemmas.List.{length-take}
 use Rattle.tss_operands.proofs.ListingLemmas.{IsListing-push, length-items}
 use Rattle.tss_operands.proofs.listing.Listing.push.Goals as goal
