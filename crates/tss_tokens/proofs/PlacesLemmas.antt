@@ -54,9 +54,8 @@ pub AreFree-pop : (size : ℕ) (free : List ℕ) (place : ℕ) → AreFree size 
 AreFree-pop size [] place ok = (tt, ok.0)
 AreFree-pop size (p ∷ free) place ok =
     let rest = AreFree-pop size free place ok.1 in
-    let was =
-    from_removed nat_order (places_out size free) place p tt (ap (λ m. get m p) (sym (places_out-push size free place)) ∙ ok.0)
-    in
+    let still = ap (λ m. get m p) (sym (places_out-push size free place)) ∙ ok.0 in
+    let was = from_removed nat_order (places_out size free) place p tt still in
     let apart : place ≢ p = λ same. was.0 (sym same) in
     ((was.1, rest.0), beside_removed nat_order (places_out size free) p place apart ∙ rest.1)
 
