@@ -27,8 +27,8 @@ returns-then-is_memory-clause-admissible c = machine_of-admissible c.args.bytes.
 
 pub returns-else-is_memory-clause-exact : goal.returns-else-is_memory-clause-exact
 returns-else-is_memory-clause-exact c =
-    let refused = c.in-Err.ensures.refused (λ memory. false≢true (sym c.if-is_memory.false ∙ c.is_memory.ensures.1 memory)) in
-    machine_of-other c.args.bytes.now refused
+    machine_of-other c.args.bytes.now
+    (c.in-Err.ensures.refused (λ memory. false≢true (sym c.if-is_memory.false ∙ c.is_memory.ensures.1 memory)))
 
 pub returns-else-is_memory-clause-admissible : goal.returns-else-is_memory-clause-admissible
 returns-else-is_memory-clause-admissible c = machine_of-admissible c.args.bytes.now
