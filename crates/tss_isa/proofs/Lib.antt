@@ -1,0 +1,4 @@
+pub mod SignLemmas
+pub mod FieldLemmas
+pub mod InverseLemmas
+pub mod WordLemmas

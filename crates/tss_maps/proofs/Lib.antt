@@ -1,0 +1,6 @@
+pub mod Keys
+pub mod Changes
+pub mod Entries
+pub mod Sums
+pub mod Places
+pub mod OrderedLemmas

@@ -1,0 +1,9 @@
+mod RangeLemmas
+mod PlaceLemmas
+mod EntryLemmas
+mod PartLemmas
+mod WriteLemmas
+mod ReadLemmas
+mod LoadLemmas
+mod SegmentLemmas
+mod StripedLemmas

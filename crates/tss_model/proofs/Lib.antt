@@ -1,0 +1,2 @@
+mod KnownSteps
+mod KnownRuns

@@ -1,0 +1,9 @@
+pub mod Memory
+pub mod Causes
+pub mod Registers
+pub mod Access
+pub mod Core
+pub mod Spawn
+pub mod TaskRun
+pub mod MainStep
+pub mod InOrder

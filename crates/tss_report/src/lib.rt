@@ -1,0 +1,10 @@
+//! The texts that the program prints, in pieces of a fixed size. A contract sees the pieces as the bytes that are kept
+//! for the next of them, and says that what was written and what is kept are together what they were before, with the
+//! text after them; after a fault of the sink a prefix of the text was put.
+#![tactic(auto)]
+
+mod pieces;
+mod report;
+
+pub use pieces::Pieces;
+pub use report::put_summary;

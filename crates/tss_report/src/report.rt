@@ -1,0 +1,112 @@
+// The report of a run.
+ghost use Rattle.std.specs.Prelude.{◌≡◌, ◌<◌, length};
+ghost use Rattle.tss_report.specs.Pieces.{Emits};
+ghost use Rattle.tss_report.specs.Report.{hex_word as hex_word_of, ending_text, tasks_text, output_text, summary_text};
+
+use crate::pieces::Pieces;
+use itoa::Buffer;
+use tss_base::Ending;
+use tss_outside::{Failed, Sink};
+
+/// Eight lower-case hexadecimal digits.
+fn hex_word(n: u32) -> [u8; 8]
+    ensures { result ≡ hex_word_of n }
+{
+    let mut digits = [0; 8];
+    match hex::encode_to_slice(n.to_be_bytes(), &mut digits) {
+        Ok(()) => digits,
+        Err(_) => unreachable!(),
+    }
+}
+
+/// Puts the line that says how a run ended.
+pub fn put_ending<K: Sink>(pieces: &mut Pieces, out: &mut K, ending: &Ending) -> Result<(), Failed>
+    ensures { Emits (K.written out.old) pieces.old (K.written out.new) pieces.new (K.faults out.old) (K.faults out.new) result (ending_text ending.now) }
+{
+    let mut first = Buffer::new();
+    let mut second = Buffer::new();
+    match ending {
+        Ending::Exit(status) => {
+            pieces.put_all(
+                out,
+                &[b"end exit ", first.format(*status).as_bytes(), b"\n"],
+            )
+        }
+        Ending::MainTrap(trap) => pieces.put_all(
+            out,
+            &[
+                b"end main-trap ",
+                &hex_word(trap.pc),
+                b" ",
+                first.format(trap.cause).as_bytes(),
+                b" ",
+                &hex_word(trap.value),
+                b"\n",
+            ],
+        ),
+        Ending::TaskTrap(task, trap) => pieces.put_all(
+            out,
+            &[
+                b"end task-trap ",
+                second.format(*task).as_bytes(),
+                b" ",
+                &hex_word(trap.pc),
+                b" ",
+                first.format(trap.cause).as_bytes(),
+                b" ",
+                &hex_word(trap.value),
+                b"\n",
+            ],
+        ),
+        Ending::Refused(number, pc) => pieces.put_all(
+            out,
+            &[
+                b"end refused ",
+                first.format(*number).as_bytes(),
+                b" ",
+                &hex_word(*pc),
+                b"\n",
+            ],
+        ),
+    }
+}
+
+/// Puts the line that says how many tasks were spawned.
+pub fn put_tasks<K: Sink>(pieces: &mut Pieces, out: &mut K, tasks: u32) -> Result<(), Failed>
+    ensures { Emits (K.written out.old) pieces.old (K.written out.new) pieces.new (K.faults out.old) (K.faults out.new) result (tasks_text tasks) }
+{
+    let mut number = Buffer::new();
+    pieces.put_all(out, &[b"tasks ", number.format(tasks).as_bytes(), b"\n"])
+}
+
+/// Puts how many bytes were printed, and these.
+pub fn put_output<K: Sink>(pieces: &mut Pieces, out: &mut K, bytes: &[u8]) -> Result<(), Failed>
+    ensures { Emits (K.written out.old) pieces.old (K.written out.new) pieces.new (K.faults out.old) (K.faults out.new) result (output_text bytes.now) }
+{
+    let mut number = Buffer::new();
+    pieces.put_all(
+        out,
+        &[
+            b"output ",
+            number.format(bytes.len()).as_bytes(),
+            b"\n",
+            bytes,
+            b"\n",
+        ],
+    )
+}
+
+/// Puts the part of a report that says ending, tasks and output.
+pub fn put_summary<K: Sink>(
+    pieces: &mut Pieces,
+    out: &mut K,
+    ending: &Ending,
+    tasks: u32,
+    output: &[u8],
+) -> Result<(), Failed>
+    ensures { Emits (K.written out.old) pieces.old (K.written out.new) pieces.new (K.faults out.old) (K.faults out.new) result (summary_text ending.now tasks output.now) }
+{
+    put_ending(pieces, out, ending)?;
+    put_tasks(pieces, out, tasks)?;
+    put_output(pieces, out, output)
+}
