@@ -1,5 +1,5 @@
 -- What a description describes is an admissible machine.
-use Rattle.std.proofs.Common.{◌≡◌, ℕ, ℤ, pos, negsuc, nat_le, nat_lt, ◌≤◌, ◌&&◌, Bool, true, false, cond, List, [], ◌∷◌, Option, Some, None, Result, Ok, Err, IfOk, refl, subst, arith, map}
+use Rattle.std.proofs.Common.{◌≡◌, ℕ, ℤ, pos, negsuc, nat_le, ◌≤◌, ◌&&◌, Bool, true, false, cond, List, [], ◌∷◌, Option, Some, None, Result, Ok, Err, IfOk, refl, subst, arith, map}
 use Rattle.std.proofs.lemmas.Bool.Decides.{nat_tests}
 use Rattle.std.specs.Prelude.{slice_get}
 use Rattle.std.specs.Result.{result_err, result_unwrap_or}
@@ -10,7 +10,6 @@ use Rattle.tss_base.specs.declared.machine.Key.TheVariants.{MainBudget, TaskBudg
 use Rattle.tss_machine.specs.Table.{in_range, number_from, number_at, key_fault, number_or_zero, key_faults, unknown_fault}
 use Rattle.tss_machine.specs.Description.{machine_with, size_fault, size_faults, machine_in, checks, first_fault, answer_with, answer_of, table_of, machine_of}
 use Rattle.tss_machine.specs.declared.fault.MachineFault.{MachineFault}
-use Rattle.tss_machine.specs.declared.fault.MachineFault.TheVariants.{TooSmall}
 use Rattle.tss_machine.proofs.Faults.{passes-at, first_fault-parts}
 
 -- the place of a key among all keys
@@ -61,12 +60,14 @@ tested k n true e test none = between (key_range k).0 (key_range k).1 n test
 tested k n false e test none = cc
 
 -- and so is what an integer gives, where it gives no fault
-in_range-IsInRange : (k : Key) (z : ℤ) → result_err (in_range k z) ≡ None → IsInRange k (result_unwrap_or (in_range k z) 0)
+in_range-IsInRange : (k : Key) (z : ℤ) → result_err (in_range k z) ≡ None
+    → IsInRange k (result_unwrap_or (in_range k z) 0)
 in_range-IsInRange k (pos n) none = tested k n _ _ refl none
 in_range-IsInRange k (negsuc n) none = cc
 
 -- and what a value gives
-number_from-IsInRange : (k : Key) (d : Option Data) → result_err (number_from k d) ≡ None → IsInRange k (result_unwrap_or (number_from k d) 0)
+number_from-IsInRange : (k : Key) (d : Option Data) → result_err (number_from k d) ≡ None
+    → IsInRange k (result_unwrap_or (number_from k d) 0)
 number_from-IsInRange k None none = cc
 number_from-IsInRange k (Some (integer z)) none = in_range-IsInRange k z none
 number_from-IsInRange k (Some (string x)) none = cc
@@ -111,11 +112,7 @@ module _ (f : Key → ℕ) (ranges : (k : Key) → IsInRange k (f k)) where
 
 -- a table of a bank that isn't too small has room for the operands of a task
 has_room : (k : Key) (size operands : ℕ) → size_fault k size operands ≡ None → operands ≤ size
-has_room k size operands none = room (nat_lt size operands) refl none
-  where
-    room : (b : Bool) → nat_lt size operands ≡ b → cond {A = Option MachineFault} b (Some (TooSmall k)) None ≡ None → operands ≤ size
-    room true e none = cc
-    room false e none = grind (arith, nat_tests)
+has_room k size operands none = grind (arith, nat_tests)
 
 -- a table without a fault describes an admissible machine
 admissible_table : (t : Members) → first_fault (checks t) ≡ None → IsAdmissible (machine_in t)
@@ -132,7 +129,8 @@ admissible_table t passed =
       buffers = has_room Buffers _ _ (passes-at (size_faults (machine_in t)) 2 _ large refl);
     }
 
-answer_with-admissible : (t : Members) (first : Option MachineFault) → first_fault (checks t) ≡ first → IfOk (answer_with (machine_in t) first) IsAdmissible
+answer_with-admissible : (t : Members) (first : Option MachineFault) → first_fault (checks t) ≡ first
+    → IfOk (answer_with (machine_in t) first) IsAdmissible
 answer_with-admissible t None e = admissible_table t e
 answer_with-admissible t (Some f) e = tt
 

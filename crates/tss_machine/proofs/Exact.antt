@@ -25,7 +25,9 @@ Gives-equal (Err fault.NoMemory) a e = tt
 
 -- what holds of the machine that is described holds of the machine that is answered
 pub IfOk-given : (r a : Result Machine MachineFault) → Gives r a → IfOk a IsAdmissible → IfOk r IsAdmissible
-IfOk-given (Ok m) a given of_a = let P : Result Machine MachineFault → Type 0 = λ r. IfOk r IsAdmissible in subst P (sym given) of_a
+IfOk-given (Ok m) a given of_a =
+    let P : Result Machine MachineFault → Type 0 = λ r. IfOk r IsAdmissible in
+    subst P (sym given) of_a
 IfOk-given (Err e) a given of_a = tt
 
 module _ (t : Members) where
@@ -36,7 +38,8 @@ module _ (t : Members) where
   -- where a key has a fault
   pub answer_key : (e : MachineFault) → first_fault (key_faults t) ≡ Some e → Err e ≡ answer_of (Some t)
   unfolding checks
-  answer_key e first = answer_fault e (first_fault-failed_part (key_faults t) (unknown_fault t ∷ size_faults (machine_in t)) e first)
+  answer_key e first =
+      answer_fault e (first_fault-failed_part (key_faults t) (unknown_fault t ∷ size_faults (machine_in t)) e first)
 
   module _ (keys : first_fault (key_faults t) ≡ None) where
     -- else the other checks decide
@@ -46,7 +49,8 @@ module _ (t : Members) where
 
     -- where a key isn't known
     pub answer_unknown : (e : MachineFault) → unknown_fault t ≡ Some e → Err e ≡ answer_of (Some t)
-    answer_unknown e unknown = answer_fault e (others ∙ first_fault-failed (unknown_fault t) (size_faults (machine_in t)) e unknown)
+    answer_unknown e unknown =
+        answer_fault e (others ∙ first_fault-failed (unknown_fault t) (size_faults (machine_in t)) e unknown)
 
     -- where all are known the sizes decide
     pub answer_sizes : unknown_fault t ≡ None
@@ -68,6 +72,7 @@ no_table bytes true e refused = rw (e, refused (IsUtf8-from_is_utf8 bytes e))
 no_table bytes false e refused = rw e
 
 -- and of bytes that are none
-pub machine_of-other : (bytes : List ℕ) → (IsUtf8 bytes → parse_document bytes ≡ None) → Err fault.NotToml ≡ machine_of bytes
+pub machine_of-other : (bytes : List ℕ) → (IsUtf8 bytes → parse_document bytes ≡ None)
+    → Err fault.NotToml ≡ machine_of bytes
 unfolding machine_of
 machine_of-other bytes refused = ap answer_of (sym (no_table bytes (is_utf8 bytes) refl refused))

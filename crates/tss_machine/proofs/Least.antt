@@ -14,6 +14,10 @@ use Rattle.tss_machine.specs.Table.{is_known, unknown_keys, lesser, least_of}
 abbrev Entry : Type 0
 Entry = String Global × Value
 
+-- a key of the map that isn't known
+abbrev pub is_unknown : String Global → Bool
+is_unknown k = not (is_known (string_bytes k))
+
 -- the text is below each of these
 abbrev IsBelow : List ℕ → List (List ℕ) → Type 0
 IsBelow s = AllByRecursion (λ t. slice_cmp nat_cmp s t ≡ Less)
@@ -30,17 +34,22 @@ fold-lesser s [] below = refl
 fold-lesser s (t ∷ ts) below = ap (λ u. fold lesser u ts) (lesser-below s t below.0) ∙ fold-lesser s ts below.1
 
 -- a text before some, or not
-before : (b : Bool) (s t : List ℕ) (ts : List (List ℕ)) → slice_cmp nat_cmp s t ≡ Less → IsBelow s ts → IsBelow s (cond b (t ∷ ts) ts)
+before : (b : Bool) (s t : List ℕ) (ts : List (List ℕ)) → slice_cmp nat_cmp s t ≡ Less → IsBelow s ts
+    → IsBelow s (cond b (t ∷ ts) ts)
 before true s t ts here more = (here, more)
 before false s t ts here more = more
 
 -- what is below all keys is below those that aren't known
-below_unknown : (s : List ℕ) (es : List Entry) → AllByRecursion (λ k. slice_cmp nat_cmp s (string_bytes k) ≡ Less) (keys_of es) → IsBelow s (unknown_keys (members_view es))
+below_unknown : (s : List ℕ) (es : List Entry)
+    → AllByRecursion (λ k. slice_cmp nat_cmp s (string_bytes k) ≡ Less) (keys_of es)
+    → IsBelow s (unknown_keys (members_view es))
 below_unknown s [] below = tt
-below_unknown s (e ∷ es) below = before (not (is_known (string_bytes e.0))) s (string_bytes e.0) _ below.0 (below_unknown s es below.1)
+below_unknown s (e ∷ es) below =
+    before (is_unknown e.0) s (string_bytes e.0) _ below.0 (below_unknown s es below.1)
 
 -- the key is known, and the rest decides, or it isn't, and it is the least
-least_or : (b : Bool) (k : String Global) (ts : List (List ℕ)) (rest : Option (String Global)) → IsBelow (string_bytes k) ts
+least_or : (b : Bool) (k : String Global) (ts : List (List ℕ)) (rest : Option (String Global))
+    → IsBelow (string_bytes k) ts
     → least_of ts ≡ option_map string_bytes rest
     → least_of (cond b (string_bytes k ∷ ts) ts) ≡ option_map string_bytes (cond b (Some k) rest)
 least_or true k ts rest below e = ap Some (fold-lesser (string_bytes k) ts below)
@@ -48,8 +57,9 @@ least_or false k ts rest below e = e
 
 -- the least is the first
 pub least_of-unknown_keys : (es : List Entry) → IsStrictlySortedBy string_cmp (keys_of es)
-    → least_of (unknown_keys (members_view es)) ≡ option_map string_bytes (find (λ k. not (is_known (string_bytes k))) (keys_of es))
+    → least_of (unknown_keys (members_view es)) ≡ option_map string_bytes (find is_unknown (keys_of es))
 unfolding IsStrictlySortedBy
 least_of-unknown_keys [] sorted = refl
 least_of-unknown_keys (e ∷ es) sorted =
-    least_or (not (is_known (string_bytes e.0))) e.0 (unknown_keys (members_view es)) _ (below_unknown (string_bytes e.0) es sorted.0) (least_of-unknown_keys es sorted.1)
+    let below = below_unknown (string_bytes e.0) es sorted.0 in
+    least_or (is_unknown e.0) e.0 (unknown_keys (members_view es)) _ below (least_of-unknown_keys es sorted.1)

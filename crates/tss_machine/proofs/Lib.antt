@@ -1,4 +1,3 @@
-mod Numbers
 mod Faults
 mod Turns
 mod Least

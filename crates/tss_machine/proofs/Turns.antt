@@ -17,11 +17,12 @@ abbrev pub key_at : ℕ → Key
 key_at i = get_or all_keys i MainBudget
 
 -- its fault comes first of those from the place on
-key_faults-from : (t : Members) (i : ℕ) → i < 15 → drop i (key_faults t) ≡ key_fault t (key_at i) ∷ drop (i + 1) (key_faults t)
+key_faults-from : (t : Members) (i : ℕ) → i < 15
+    → drop i (key_faults t) ≡ key_fault t (key_at i) ∷ drop (i + 1) (key_faults t)
 unfolding key_faults
 key_faults-from t i h =
-    drop_more (key_faults t) i (key_fault t MainBudget) h
-    ∙ ap (λ o. o ∷ drop (i + 1) (key_faults t)) (get_or-map (key_fault t) all_keys i MainBudget (key_fault t MainBudget) h)
+    let here = get_or-map (key_fault t) all_keys i MainBudget (key_fault t MainBudget) h in
+    drop_more (key_faults t) i (key_fault t MainBudget) h ∙ ap (λ o. o ∷ drop (i + 1) (key_faults t)) here
 
 -- where it has none, those after it decide
 pub passed_turn : (t : Members) (i n : ℕ) → i < 15 → number_at t (key_at i) ≡ Ok n
@@ -42,13 +43,14 @@ failed_turn t i f h e left =
     ∙ first_fault-failed (key_fault t (key_at i)) _ f (ap result_err e)
 
 -- the number goes after those before it
-pub read_turn : (t : Members) (i n : ℕ) (numbers : List ℕ) → i < 15 → length numbers ≡ 15 → number_at t (key_at i) ≡ Ok n
+pub read_turn : (t : Members) (i n : ℕ) (numbers : List ℕ) → i < 15 → length numbers ≡ 15
+    → number_at t (key_at i) ≡ Ok n
     → take i numbers ≡ take i (numbers_of t)
     → take (i + 1) (set numbers i n) ≡ take (i + 1) (numbers_of t)
 unfolding numbers_of
 read_turn t i n numbers h long e read =
-    let here : get_or (numbers_of t) i (number_or_zero t MainBudget) ≡ n =
-    get_or-map (number_or_zero t) all_keys i MainBudget (number_or_zero t MainBudget) h ∙ ap (λ r. result_unwrap_or r 0) e in
+    let there = get_or-map (number_or_zero t) all_keys i MainBudget (number_or_zero t MainBudget) h in
+    let here : get_or (numbers_of t) i (number_or_zero t MainBudget) ≡ n = there ∙ ap (λ r. result_unwrap_or r 0) e in
     take_more_set numbers i n (omega arith)
     ∙ (λ j. read j ++ (sym here) j ∷ [])
     ∙ sym (take_more (numbers_of t) i (number_or_zero t MainBudget) h)

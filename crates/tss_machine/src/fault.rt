@@ -40,8 +40,28 @@ impl KeyText {
     }
 }
 
+impl PartialEq for KeyText {
+    ghost use Rattle.std.specs.Cmp.{partial_equiv_from_equiv};
+    ghost use Rattle.std.specs.Cmp.Lexicographic.{nat_list_eq_equiv};
+    ghost use Rattle.std.specs.Str.{bytes_eq};
+
+    ghost eq = { bytes_eq };
+
+    ghost laws = { partial_equiv_from_equiv nat_list_eq_equiv };
+
+    fn eq(&self, other: &KeyText) -> bool {
+        self.text == other.text
+    }
+}
+
+impl Eq for KeyText {
+    ghost use Rattle.std.specs.Cmp.Lexicographic.{nat_list_eq_equiv};
+
+    ghost laws = { nat_list_eq_equiv };
+}
+
 /// Why `read_machine` gave no machine: the first check that fails, with its key.
-#[derive(Debug, Drop, Error)]
+#[derive(Debug, Drop, PartialEq, Eq, Error)]
 pub enum MachineFault {
     /// The bytes are no TOML document.
     #[error("not TOML")]

@@ -6,6 +6,8 @@
 mod fault;
 mod reading;
 mod table;
+#[cfg(test)]
+mod tests;
 mod workload;
 
 pub use fault::{KeyText, MachineFault};

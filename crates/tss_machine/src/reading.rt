@@ -90,7 +90,10 @@ fn machine_in(alloc: Global, table: &Table) -> Result<Machine, MachineFault>
     check_sizes(machine_with(numbers))
 }
 
-/// The machine that a description's bytes are, or the first check that they fail.
+/// The machine that the bytes describe, or the first check that they fail. A description is a TOML document whose
+/// top table has exactly the fifteen keys, each with an integer in its range, and in which `entries`, `versions` and
+/// `buffers` are at least `max_operands`. The checks come in this order: it is TOML; each key in turn is there, has
+/// an integer, and in its range; no key is unknown; the three tables of a bank are large enough.
 pub fn read_machine(alloc: Global, bytes: &[u8]) -> Result<Machine, MachineFault>
     ensures exact { Gives result (machine_of bytes.now) }
     ensures ok { IfOk result IsAdmissible }

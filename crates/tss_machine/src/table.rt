@@ -4,13 +4,13 @@ ghost use Rattle.std.specs.BTreeMap.{keys, IsOrdered};
 ghost use Rattle.std.specs.Option.{option_copied};
 ghost use Rattle.std.specs.Result.{result_err};
 ghost use Rattle.std.specs.String.{string_cmp};
-ghost use Rattle.toml.specs.View.{table_view};
+ghost use Rattle.toml.specs.View.{view, table_view};
 ghost use Rattle.tss_base.specs.Machine.{key_range};
-ghost use Rattle.tss_machine.specs.Table.{in_range, number_at as number_in, key_faults, numbers_of, is_known as is_known_text, unknown_keys, least_of};
+ghost use Rattle.tss_machine.specs.Table.{in_range, number_from as number_given, number_at as number_in, key_faults, numbers_of, is_known as is_known_text, unknown_keys, least_of};
 ghost use Rattle.tss_machine.specs.Description.{first_fault};
 
 use crate::fault::MachineFault;
-use toml::Table;
+use toml::{Table, Value};
 use tss_base::Key;
 
 /// How many keys a description has.
@@ -69,17 +69,24 @@ fn check_range(key: Key, number: i64) -> Result<u32, MachineFault>
     }
 }
 
-/// The number at a key.
-fn number_at(table: &Table, key: Key) -> Result<u32, MachineFault>
-    ensures { result ≡ number_in (table_view table.now) key }
+/// The number that a value gives a key.
+fn number_from(key: Key, value: Option<&Value>) -> Result<u32, MachineFault>
+    ensures { result ≡ number_given key (option_map (λ value. view value.now) value.entry) }
 {
-    let Some(value) = table.get(key.name()) else {
+    let Some(value) = value else {
         return Err(MachineFault::MissingKey(key));
     };
     let Some(number) = value.as_integer() else {
         return Err(MachineFault::NotInteger(key));
     };
     check_range(key, number)
+}
+
+/// The number at a key.
+fn number_at(table: &Table, key: Key) -> Result<u32, MachineFault>
+    ensures { result ≡ number_in (table_view table.now) key }
+{
+    number_from(key, table.get(key.name()))
 }
 
 /// The numbers at the keys, in the order of the keys.

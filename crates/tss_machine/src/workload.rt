@@ -5,7 +5,7 @@ ghost use Rattle.tss_machine.specs.SelfMachine.{self_machine as machine_of_self}
 
 use tss_base::{Limits, Machine, Sizes};
 
-/// The machine on which the workload that comes with the program runs.
+/// The machine of the workload that comes with the program: two stations of eight slots, four workers and four banks.
 pub fn self_machine() -> Machine
     ensures exact { result ≡ machine_of_self }
     ensures admissible { IsAdmissible result }

@@ -10,12 +10,14 @@ use Rattle.tss_machine.proofs.reading.read_machine.Goals as goal
 
 pub returns-in-Ok-clause-exact : goal.returns-in-Ok-clause-exact
 returns-in-Ok-clause-exact c =
-    let same = machine_of-document c.args.bytes.now (table_view c.in-Ok.table) c.in-Ok.ensures.ok.0 c.in-Ok.ensures.ok.1 in
+    let document = c.in-Ok.ensures.ok in
+    let same = machine_of-document c.args.bytes.now (table_view c.in-Ok.table) document.0 document.1 in
     subst (λ (a : Result Machine MachineFault). Gives c.machine_in.result a) (sym same) c.machine_in.ensures
 
 pub returns-in-Ok-clause-ok : goal.returns-in-Ok-clause-ok
 returns-in-Ok-clause-ok c =
-    IfOk-given c.machine_in.result (machine_of c.args.bytes.now) (returns-in-Ok-clause-exact c) (machine_of-admissible c.args.bytes.now)
+    let bytes = c.args.bytes.now in
+    IfOk-given c.machine_in.result (machine_of bytes) (returns-in-Ok-clause-exact c) (machine_of-admissible bytes)
 
 pub returns-in-Ok-clause-admissible : goal.returns-in-Ok-clause-admissible
 returns-in-Ok-clause-admissible c = machine_of-admissible c.args.bytes.now
@@ -25,7 +27,8 @@ returns-then-is_memory-clause-admissible c = machine_of-admissible c.args.bytes.
 
 pub returns-else-is_memory-clause-exact : goal.returns-else-is_memory-clause-exact
 returns-else-is_memory-clause-exact c =
-    machine_of-other c.args.bytes.now (c.in-Err.ensures.refused (λ memory. false≢true (sym c.if-is_memory.false ∙ c.is_memory.ensures.1 memory)))
+    machine_of-other c.args.bytes.now
+    (c.in-Err.ensures.refused (λ memory. false≢true (sym c.if-is_memory.false ∙ c.is_memory.ensures.1 memory)))
 
 pub returns-else-is_memory-clause-admissible : goal.returns-else-is_memory-clause-admissible
 returns-else-is_memory-clause-admissible c = machine_of-admissible c.args.bytes.now
