@@ -8,7 +8,8 @@ use Rattle.tss_memory.proofs.space.Space.number.Goals as goal
 
 pub returns : goal.returns
 returns c =
-    let found = subst (λ (m : Memory). IsFound m.ranges c.args.found c.args.r.now) (sym c.self.view_is) c.requires.found in
+    let found = subst (λ (m : Memory). IsFound m.ranges c.args.found c.args.r.now)
+    (sym c.self.view_is) c.requires.found in
     c.number_of.ensures
     ∙ ap (λ (xs : List ℕ). number_at (slice_index xs) 0 (length xs)) c.bytes.ensures
     ∙ number_read c.self.inside.blocks.items c.self.invariant c.args.r.now c.args.found.index c.index.result.now

@@ -1,0 +1,4 @@
+pub mod Rule
+pub mod Views
+pub mod Steps
+pub mod Plain
