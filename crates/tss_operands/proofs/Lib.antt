@@ -5,3 +5,4 @@ mod MergingLemmas
 mod ReadingLemmas
 mod FreshLemmas
 mod SpawnLemmas
+mod ImageLemmas

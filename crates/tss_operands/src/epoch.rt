@@ -118,7 +118,8 @@ impl Epoch {
 
     /// Whether as many objects are named as may be.
     pub fn is_full(&self) -> bool
-        ensures { IsTrue result ↔ (length self.now.objects ≡ self.now.limit) }
+        ensures full { IsTrue result ↔ (length self.now.objects ≡ self.now.limit) }
+        ensures few { length self.now.objects ≤ self.now.limit }
     {
         self.count() == self.limit
     }

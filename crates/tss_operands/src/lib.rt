@@ -11,6 +11,8 @@ mod merging;
 mod reading;
 mod search;
 mod spawn;
+#[cfg(test)]
+mod tests;
 
 pub use epoch::Epoch;
 pub use spawn::{SpawnFault, SpawnWords, read_spawn};
