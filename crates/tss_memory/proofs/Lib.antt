@@ -5,5 +5,4 @@ mod PartLemmas
 mod WriteLemmas
 mod ReadLemmas
 mod LoadLemmas
-mod SegmentLemmas
 mod StripedLemmas

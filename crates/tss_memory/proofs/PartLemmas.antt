@@ -53,11 +53,6 @@ length-part_of xs at n h =
 pub get_or-part_of : (xs : List ℕ) (at n k d : ℕ) → k < n → get_or (part_of xs at n) k d ≡ get_or xs (at + k) d
 get_or-part_of xs at n k d h = get_or-take n (drop at xs) k d h ∙ get_or-drop at xs k d
 
--- what a write to a part of a slice leaves
-pub put_mid-with_part : (xs : List ℕ) (at n : ℕ) (ys : List ℕ) → n ≡ length ys → put_mid at n xs ys ≡ with_part xs at ys
-put_mid-with_part xs at n ys e =
-    ap (λ zs. take at xs ++ (ys ++ zs)) (drop-drop n at xs ∙ ap (λ m. drop (at + m) xs) e)
-
 -- so many zeros are as many
 pub length-zeros : (n : ℕ) → length (zeros n) ≡ n
 unfolding zeros

@@ -38,16 +38,6 @@ found_in blocks f r found =
     let held : contains (block_range b.0) r ≡ true = ap (λ (x : MemoryRange). contains x.range r) b.2 ∙ m.2.1 in
     subst (λ (o : Option BlockState). IsSomeAnd o (λ x. IsTrue (contains (block_range x) r))) (sym b.1) held
 
--- and the block can be written as was found
-pub found_writable : (blocks : List BlockState) (f : Found) (r : Range) → IsFound (ranges_in blocks) f r →
-    (b : BlockState) → slice_get blocks f.index ≡ Some b → b.writable ≡ f.writable
-found_writable blocks f r found b there =
-    let m = some_and (slice_get (ranges_in blocks) f.index)
-    (λ m. (m.writable ≡ f.writable) × IsTrue (contains m.range r)) found in
-    let same : memory_range_of b ≡ m.0 = same_Some _ _
-    (sym (slice_get-map memory_range_of blocks f.index ∙ ap (option_map memory_range_of) there) ∙ m.1) in
-    ap (λ (x : MemoryRange). x.writable) same ∙ m.2.0
-
 -- the bytes of a range in a block
 module _ (blocks : List BlockState) (are : AreBlocks blocks) (i : ℕ) (b : BlockState)
     (there : slice_get blocks i ≡ Some b) (r : Range) (held : contains (block_range b) r ≡ true) where

@@ -16,17 +16,6 @@ pub record AreStriped (segments : List SegmentState) (at : ℕ) : Type 0 where
   pub end : at ≤ 0x4010000
   pub first : 0 < length segments → Any (HasCodeAt 0x10000) segments
 
--- none yet
-pub AreStriped-none : AreStriped [] 0x10000
-AreStriped-none = record {
-  each = All-nil IsSegment;
-  ordered = λ i j d h k. absurd (omega arith);
-  below = All-nil (λ s. segment_end s ≤ 0x10000);
-  sum = refl;
-  end = omega arith;
-  first = λ h. absurd (omega arith);
-}
-
 -- one that has the entry still has it with one segment more
 any_more : (segments : List SegmentState) (s : SegmentState) → Any (HasCodeAt 0x10000) segments →
     Any (HasCodeAt 0x10000) (segments ++ s ∷ [])
@@ -56,17 +45,4 @@ AreStriped-more segments at are s n base code len next limit = record {
   sum = omega (arith, sum_by-append (λ (x : SegmentState). length x.bytes) segments (s ∷ []), are.sum);
   end = limit;
   first = λ h. any_first segments at are s base code len;
-}
-
--- they are an image
-pub AreStriped-accepted : (segments : List SegmentState) (at : ℕ) → AreStriped segments at → 0 < length segments →
-    length segments ≤ 256 → IsAccepted (record { entry = 0x10000; segments = segments })
-AreStriped-accepted segments at are some few = record {
-  some = some;
-  few = few;
-  each = are.each;
-  ordered = are.ordered;
-  small = omega (arith, are.sum, are.end);
-  aligned = refl;
-  entered = are.first some;
 }
