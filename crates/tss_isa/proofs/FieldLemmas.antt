@@ -11,7 +11,8 @@ pub record HasFields (w o d f s high : ℕ) : Type 0 where
   pub rs1_is : rs1 w ≡ s
   pub high_is : field w 20 12 ≡ high
 
-pub HasFields-joined : (o d f s high : ℕ) → o < 128 → d < 32 → f < 8 → s < 32 → high < 4096 → HasFields (joined o d f s high) o d f s high
+pub HasFields-joined : (o d f s high : ℕ) → o < 128 → d < 32 → f < 8 → s < 32 → high < 4096
+    → HasFields (joined o d f s high) o d f s high
 HasFields-joined o d f s high ho hd hf hs hh = record {
   opcode_is = omega arith;
   rd_is = omega arith;

@@ -46,7 +46,8 @@ high_b-signed : (n : ℕ) → n < 2 ^ 13 → high_b (twos (signed 13 n)) ≡ hig
 high_b-signed n h = elim (twos-signed 13 n (omega arith) h) [ inl e ↦ ap high_b e | inr e ↦ ap high_b e ∙ omega arith ]
 
 upper_j-signed : (n : ℕ) → n < 2 ^ 21 → upper_j (twos (signed 21 n)) ≡ upper_j n
-upper_j-signed n h = elim (twos-signed 21 n (omega arith) h) [ inl e ↦ ap upper_j e | inr e ↦ ap upper_j e ∙ omega arith ]
+upper_j-signed n h =
+    elim (twos-signed 21 n (omega arith) h) [ inl e ↦ ap upper_j e | inr e ↦ ap upper_j e ∙ omega arith ]
 
 -- the parts of a B immediate
 module _ (a b c d : ℕ) (ha : a < 2) (hb : b < 2) (hc : c < 64) (hd : d < 16) where
@@ -57,7 +58,8 @@ module _ (a b c d : ℕ) (ha : a < 2) (hb : b < 2) (hc : c < 64) (hd : d < 16) w
   high_b-parts = omega arith
 
 -- and of a J immediate
-upper_j-parts : (a b c d : ℕ) → a < 2 → b < 256 → c < 2 → d < 1024 → upper_j (a * 2 ^ 20 + b * 2 ^ 12 + c * 2 ^ 11 + d * 2) ≡ a * 2 ^ 19 + d * 2 ^ 9 + c * 2 ^ 8 + b
+upper_j-parts : (a b c d : ℕ) → a < 2 → b < 256 → c < 2 → d < 1024
+    → upper_j (a * 2 ^ 20 + b * 2 ^ 12 + c * 2 ^ 11 + d * 2) ≡ a * 2 ^ 19 + d * 2 ^ 9 + c * 2 ^ 8 + b
 upper_j-parts a b c d ha hb hc hd = omega arith
 
 module _ (w : ℕ) (word : w < 2 ^ 32) where
@@ -88,14 +90,17 @@ module _ (w : ℕ) (word : w < 2 ^ 32) where
       let below : n < 2 ^ 21 = omega arith in
       let within = is_within-signed 21 n (omega arith) below in
       let even = is_even-signed 21 n (omega arith) below (omega arith) in
-      let parts = upper_j-parts (field w 31 1) (field w 12 8) (field w 20 1) (field w 21 10) (omega arith) (omega arith) (omega arith) (omega arith) in
+      let parts = upper_j-parts (field w 31 1) (field w 12 8) (field w 20 1) (field w 21 10) (omega arith)
+      (omega arith) (omega arith) (omega arith) in
       let bits : upper_j (twos (imm_j w)) ≡ field w 12 20 = upper_j-signed n below ∙ parts ∙ omega arith in
       (and_from _ _ (and_from _ _ (register w 7) within) even, ap (joined_upper 0x6F (rd w)) bits ∙ omega arith)
 
   jalr : opcode w ≡ 0x67 → funct3 w ≡ 0 → IsOfWord w (Jalr (rd w) (rs1 w) (imm_i w))
   unfolding word_of
-  jalr e f =
-      (and_from _ _ (and_from _ _ (register w 7) (register w 15)) imm_i_fits, ap (joined 0x67 (rd w) 0 (rs1 w)) imm_i_is ∙ omega arith)
+  jalr e f = (
+    and_from _ _ (and_from _ _ (register w 7) (register w 15)) imm_i_fits,
+    ap (joined 0x67 (rd w) 0 (rs1 w)) imm_i_is ∙ omega arith,
+  )
 
   branch : (t : Test) → opcode w ≡ 0x63 → test_code t ≡ funct3 w → IsOfWord w (Branch t (rs1 w) (rs2 w) (imm_b w))
   unfolding word_of
@@ -104,8 +109,10 @@ module _ (w : ℕ) (word : w < 2 ^ 32) where
       let below : n < 2 ^ 13 = omega arith in
       let within = is_within-signed 13 n (omega arith) below in
       let even = is_even-signed 13 n (omega arith) below (omega arith) in
-      let low = low_b-parts (field w 31 1) (field w 7 1) (field w 25 6) (field w 8 4) (omega arith) (omega arith) (omega arith) (omega arith) in
-      let high = high_b-parts (field w 31 1) (field w 7 1) (field w 25 6) (field w 8 4) (omega arith) (omega arith) (omega arith) (omega arith) in
+      let low = low_b-parts (field w 31 1) (field w 7 1) (field w 25 6) (field w 8 4) (omega arith) (omega arith)
+      (omega arith) (omega arith) in
+      let high = high_b-parts (field w 31 1) (field w 7 1) (field w 25 6) (field w 8 4) (omega arith) (omega arith)
+      (omega arith) (omega arith) in
       let low_is : low_b (twos (imm_b w)) ≡ rd w = low_b-signed n below ∙ low ∙ omega arith in
       let high_is : high_b (twos (imm_b w)) ≡ funct7 w = high_b-signed n below ∙ high ∙ omega arith in (
         and_from _ _ (and_from _ _ (and_from _ _ (register w 15) (register w 20)) within) even,
@@ -131,14 +138,16 @@ module _ (w : ℕ) (word : w < 2 ^ 32) where
         (λ i. joined 0x23 (low_is i) (f i) (rs1 w) (high_is i * 2 ^ 5 + rs2 w)) ∙ omega arith,
       )
 
-  op_imm : (op : ImmOp) (imm : ℤ) → opcode w ≡ 0x13 → imm_op_code op ≡ funct3 w → imm_op_high op imm ≡ field w 20 12 → is_operand op imm ≡ true → IsOfWord w (OpImm op (rd w) (rs1 w) imm)
+  op_imm : (op : ImmOp) (imm : ℤ) → opcode w ≡ 0x13 → imm_op_code op ≡ funct3 w → imm_op_high op imm ≡ field w 20 12
+      → is_operand op imm ≡ true → IsOfWord w (OpImm op (rd w) (rs1 w) imm)
   unfolding word_of
   op_imm op imm e f g operand = (
     and_from _ _ (and_from _ _ (register w 7) (register w 15)) operand,
     (λ i. joined 0x13 (rd w) (f i) (rs1 w) (g i)) ∙ omega arith,
   )
 
-  op : (op : RegOp) → opcode w ≡ 0x33 → reg_op_code op ≡ funct3 w → reg_op_high op ≡ funct7 w → IsOfWord w (Op op (rd w) (rs1 w) (rs2 w))
+  op : (op : RegOp) → opcode w ≡ 0x33 → reg_op_code op ≡ funct3 w → reg_op_high op ≡ funct7 w
+      → IsOfWord w (Op op (rd w) (rs1 w) (rs2 w))
   unfolding word_of
   op o e f g = (
     and_from _ _ (and_from _ _ (register w 7) (register w 15)) (register w 20),
@@ -181,15 +190,19 @@ module _ (w : ℕ) (word : w < 2 ^ 32) where
   is_distance_rs2 : is_distance (pos (rs2 w)) ≡ true
   is_distance_rs2 = let below : rs2 w < 32 = omega arith in lt-ltb _ _ below
 
-  immediates : (f g : ℕ) → funct3 w ≡ f → funct7 w ≡ g → opcode w ≡ 0x13 → IfSome (op_imm_of (imm_op_of f g) w) (IsOfWord w)
+  immediates : (f g : ℕ) → funct3 w ≡ f → funct7 w ≡ g → opcode w ≡ 0x13
+      → IfSome (op_imm_of (imm_op_of f g) w) (IsOfWord w)
   immediates f g is_f is_g e =
       let P : Option ImmOp → Type 0 = λ o. IfSome (op_imm_of o w) (IsOfWord w) in
       by_number P f 0 (λ k. op_imm Addi (imm_i w) e (sym (is_f ∙ k)) imm_i_is imm_i_fits)
-      (by_number P f 1 (λ k. by_number P g 0 (λ h. op_imm Slli (pos (rs2 w)) e (sym (is_f ∙ k)) (omega arith) is_distance_rs2) tt)
+      (by_number P f 1 (λ k. by_number P g 0
+      (λ h. op_imm Slli (pos (rs2 w)) e (sym (is_f ∙ k)) (omega arith) is_distance_rs2) tt)
       (by_number P f 2 (λ k. op_imm Slti (imm_i w) e (sym (is_f ∙ k)) imm_i_is imm_i_fits)
       (by_number P f 3 (λ k. op_imm Sltiu (imm_i w) e (sym (is_f ∙ k)) imm_i_is imm_i_fits)
       (by_number P f 4 (λ k. op_imm Xori (imm_i w) e (sym (is_f ∙ k)) imm_i_is imm_i_fits)
-      (by_number P f 5 (λ k. by_number P g 0 (λ h. op_imm Srli (pos (rs2 w)) e (sym (is_f ∙ k)) (omega arith) is_distance_rs2) (by_number P g 32 (λ h. op_imm Srai (pos (rs2 w)) e (sym (is_f ∙ k)) (omega arith) is_distance_rs2) tt))
+      (by_number P f 5 (λ k. by_number P g 0
+      (λ h. op_imm Srli (pos (rs2 w)) e (sym (is_f ∙ k)) (omega arith) is_distance_rs2)
+      (by_number P g 32 (λ h. op_imm Srai (pos (rs2 w)) e (sym (is_f ∙ k)) (omega arith) is_distance_rs2) tt))
       (by_number P f 6 (λ k. op_imm Ori (imm_i w) e (sym (is_f ∙ k)) imm_i_is imm_i_fits)
       (by_number P f 7 (λ k. op_imm Andi (imm_i w) e (sym (is_f ∙ k)) imm_i_is imm_i_fits) tt)))))))
 

@@ -54,7 +54,8 @@ module _ (count n k : ℕ) (some : 0 < count) (word : count + k ≡ 32) (within 
   shifted_high high =
       let above : 2 ^ 31 ≤ n * 2 ^ k = subst (λ (x : ℕ). x ≤ n * 2 ^ k) half (mul-le-mul_right (2 ^ k) high) in
       let rest = above_shifted (2 ^ count) n (2 ^ k) (pow_pos k) within in
-      let top : 2 ^ 32 - suc (n * 2 ^ k) ≡ (2 ^ count - suc n) * 2 ^ k + (2 ^ k - 1) = ap (λ (x : ℕ). x - suc (n * 2 ^ k)) (sym full) ∙ rest in
+      let top : 2 ^ 32 - suc (n * 2 ^ k) ≡ (2 ^ count - suc n) * 2 ^ k + (2 ^ k - 1) =
+      ap (λ (x : ℕ). x - suc (n * 2 ^ k)) (sym full) ∙ rest in
       let last : 2 ^ k - 1 < 2 ^ k = omega (arith, pow_pos k) in
       ap (λ (z : ℤ). shr_z z (2 ^ k)) (to_z_high (n * 2 ^ k) above)
       ∙ ap (λ (x : ℕ). negsuc (x / 2 ^ k)) top
@@ -62,7 +63,8 @@ module _ (count n k : ℕ) (some : 0 < count) (word : count + k ≡ 32) (within 
       ∙ sym (signed_high count n high)
 
   pub shifted : shr_z (to_z w32 (n * 2 ^ k % 2 ^ 32)) (2 ^ k) ≡ signed count n
-  shifted = ap (λ (m : ℕ). shr_z (to_z w32 m) (2 ^ k)) (shl_whole n count k 32 within (omega arith)) ∙ elim (cases_lt n (2 ^ (count - 1))) [ inl low ↦ shifted_low low | inr high ↦ shifted_high high ]
+  shifted = ap (λ (m : ℕ). shr_z (to_z w32 m) (2 ^ k)) (shl_whole n count k 32 within (omega arith))
+      ∙ elim (cases_lt n (2 ^ (count - 1))) [ inl low ↦ shifted_low low | inr high ↦ shifted_high high ]
 
 -- a number that `count` bits reach is that of its low bits, at each size of an immediate
 pub signed_12-twos : (z : ℤ) → is_within (2 ^ 11) z ≡ true → signed 12 (field (twos z) 0 12) ≡ z
@@ -83,7 +85,8 @@ low_bit (pos n) h = grind (arith, nat_tests)
 low_bit (negsuc n) h = let odd : n % 2 ≡ 1 = eqb-true (n % 2) 1 h in omega arith
 
 -- in 32 bits a number of fewer bits has these, and below its sign only these
-pub twos-signed : (count n : ℕ) → 2 ^ count ≤ 2 ^ 32 → n < 2 ^ count → (twos (signed count n) ≡ n) ⊎ (twos (signed count n) ≡ n + (2 ^ 32 - 2 ^ count))
+pub twos-signed : (count n : ℕ) → 2 ^ count ≤ 2 ^ 32 → n < 2 ^ count
+    → (twos (signed count n) ≡ n) ⊎ (twos (signed count n) ≡ n + (2 ^ 32 - 2 ^ count))
 twos-signed count n small within =
     elim (cases_lt n (2 ^ (count - 1))) [
       | inl low ↦ inl (ap twos (signed_low count n low))

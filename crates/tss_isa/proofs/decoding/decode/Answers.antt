@@ -16,5 +16,6 @@ returns c =
     let read = read_by_row c.args.word c.opcode.result c.row.result c.opcode.ensures c.row.ensures in
     record {
       exact = read;
-      inverse = subst (λ (r : Option Instr). IfSome r (IsOfWord c.args.word)) (sym read) (instr_of-inverse c.args.word c.ranges.word.fits);
+      inverse = subst (λ (r : Option Instr). IfSome r (IsOfWord c.args.word)) (sym read)
+          (instr_of-inverse c.args.word c.ranges.word.fits);
     }

@@ -1,0 +1,245 @@
+// One step of an actor.
+ghost use Rattle.std.specs.Prelude.{◌≡◌, ◌==◌, ◌-◌, ◌%◌, ◌^◌, ◌<◌, ◌≤◌, IsTrue, None};
+ghost use Rattle.tss_isa.specs.InstrTable.{fits};
+ghost use Rattle.tss_model.specs.Registers.{trap_of, onward};
+ghost use Rattle.tss_model.specs.Core.{execute, load_from, store_to, result_in, jump_to, branch_if, moved, even};
+ghost use Rattle.tss_core.specs.Views.{IsAfter, is_width};
+ghost use Rattle.tss_core.specs.Steps.{IsStep, StepsTo, step_of, outcome_of, registers_after, write_of};
+
+use crate::access::Deny;
+use crate::arithmetic::{extended, load_width, op_of, op_result, passes, store_width};
+use crate::regs::{END_PC, Regs};
+use crate::view::View;
+use tss_base::Trap;
+use tss_isa::{Instr, LoadKind, StoreKind, decode};
+
+/// Causes of traps: a jump to an address that isn't a multiple of 4, no word at the pc, an illegal word, EBREAK, and
+/// loads and stores at addresses that aren't multiples of their widths or that the actor may not use.
+const JUMP_MISALIGNED: u32 = 0;
+
+const FETCH_OUTSIDE: u32 = 1;
+
+const ILLEGAL: u32 = 2;
+
+const BREAKPOINT: u32 = 3;
+
+const LOAD_MISALIGNED: u32 = 4;
+
+const LOAD_DENIED: u32 = 5;
+
+const STORE_MISALIGNED: u32 = 6;
+
+const STORE_DENIED: u32 = 7;
+
+/// What a step does: it executes an instruction; it meets ECALL, which is left to the actor; the actor stands where a
+/// task has ended; it traps; or main touches an object that it has named. But for the first of these nothing changes.
+#[derive(Clone, Copy, Debug, PartialEq, Eq)]
+pub enum Outcome {
+    Next,
+    Call,
+    Ended,
+    Trapped(Trap),
+    Touched,
+}
+
+/// One step of the actor whose registers and view these are.
+#[inline]
+#[tactic(auto, unfolding(tss_model::specs::Core::core_step))]
+pub fn step<V: View>(regs: &mut Regs, view: &mut V) -> Outcome
+    requires { regs.old.done < 2 ^ 64 - 1 }
+    ensures exact { result ≡ outcome_of (step_of (V.sight view.old) regs.old) }
+    ensures registers { regs.new ≡ registers_after regs.old (step_of (V.sight view.old) regs.old) }
+    ensures bytes { IsAfter (V.sight view.old) (write_of (step_of (V.sight view.old) regs.old)) (V.sight view.new) }
+    ensures leaves { V.Leaves view.old (write_of (step_of (V.sight view.old) regs.old)) view.new }
+{
+    let pc = regs.pc();
+    if pc == END_PC {
+        return Outcome::Ended;
+    }
+    let Some(word) = view.fetch(pc) else {
+        return trapped(regs, FETCH_OUTSIDE, pc);
+    };
+    match decode(word) {
+        Some(instr) => execute(regs, view, instr),
+        None => trapped(regs, ILLEGAL, word),
+    }
+}
+
+/// An instruction.
+#[inline(always)]
+fn execute<V: View>(regs: &mut Regs, view: &mut V, instr: Instr) -> Outcome
+    requires done { regs.old.done < 2 ^ 64 - 1 }
+    requires fits { IsTrue (fits instr) }
+    ensures { IsStep (execute (V.sight view.old).actor (V.sight view.old).byte regs.old instr) regs.old regs.new result
+        (V.sight view.old) (V.sight view.new) (λ w. V.Leaves view.old w view.new) }
+{
+    match instr {
+        Instr::Lui { rd, imm } => result_in(regs, rd, imm),
+        Instr::Auipc { rd, imm } => result_in(regs, rd, regs.pc().wrapping_add(imm)),
+        Instr::Jal { rd, offset } => jump_to(regs, rd, moved(regs.pc(), offset)),
+        Instr::Jalr { rd, rs1, offset } => jump_to(regs, rd, even(moved(regs.get(rs1), offset))),
+        Instr::Branch {
+            test,
+            rs1,
+            rs2,
+            offset,
+        } => {
+            let taken = passes(test, regs.get(rs1), regs.get(rs2));
+            branch_if(taken, regs, moved(regs.pc(), offset))
+        }
+        Instr::Load {
+            kind,
+            rd,
+            rs1,
+            offset,
+        } => load_from(regs, view, kind, rd, moved(regs.get(rs1), offset)),
+        Instr::Store {
+            kind,
+            rs2,
+            rs1,
+            offset,
+        } => store_to(
+            regs,
+            view,
+            kind,
+            moved(regs.get(rs1), offset),
+            regs.get(rs2),
+        ),
+        Instr::OpImm { op, rd, rs1, imm } => {
+            let value = op_result(op_of(op), regs.get(rs1), imm.cast_unsigned());
+            result_in(regs, rd, value)
+        }
+        Instr::Op { op, rd, rs1, rs2 } => {
+            let value = op_result(op, regs.get(rs1), regs.get(rs2));
+            result_in(regs, rd, value)
+        }
+        Instr::Fence { .. } => onward(regs),
+        Instr::Ecall => Outcome::Call,
+        Instr::Ebreak => trapped(regs, BREAKPOINT, regs.pc()),
+    }
+}
+
+/// A load from an address: whether that is a multiple of its width is tested before whether the actor may load there.
+#[inline(always)]
+fn load_from<V: View>(regs: &mut Regs, view: &mut V, kind: LoadKind, rd: u8, at: u32) -> Outcome
+    requires done { regs.old.done < 2 ^ 64 - 1 }
+    requires rd { rd < 32 }
+    ensures { IsStep (load_from (V.sight view.old).actor (V.sight view.old).byte regs.old kind rd at) regs.old regs.new
+        result (V.sight view.old) (V.sight view.new) (λ w. V.Leaves view.old w view.new) }
+{
+    let width = load_width(kind);
+    if !is_multiple(at, width) {
+        return trapped(regs, LOAD_MISALIGNED, at);
+    }
+    match view.load(at, width) {
+        Ok(n) => result_in(regs, rd, extended(kind, n)),
+        Err(Deny::Denied) => trapped(regs, LOAD_DENIED, at),
+        Err(Deny::Touch) => Outcome::Touched,
+    }
+}
+
+/// A store to an address, with the same order of tests.
+#[inline(always)]
+fn store_to<V: View>(regs: &mut Regs, view: &mut V, kind: StoreKind, at: u32, value: u32) -> Outcome
+    requires { regs.old.done < 2 ^ 64 - 1 }
+    ensures { IsStep (store_to (V.sight view.old).actor regs.old kind at value) regs.old regs.new
+        result (V.sight view.old) (V.sight view.new) (λ w. V.Leaves view.old w view.new) }
+{
+    let width = store_width(kind);
+    if !is_multiple(at, width) {
+        return trapped(regs, STORE_MISALIGNED, at);
+    }
+    match view.store(at, width, value) {
+        Ok(()) => onward(regs),
+        Err(Deny::Denied) => trapped(regs, STORE_DENIED, at),
+        Err(Deny::Touch) => Outcome::Touched,
+    }
+}
+
+/// A value goes to a register.
+#[inline(always)]
+fn result_in(regs: &mut Regs, rd: u8, value: u32) -> Outcome
+    requires done { regs.old.done < 2 ^ 64 - 1 }
+    requires rd { rd < 32 }
+    ensures { StepsTo (result_in regs.old rd value) regs.old regs.new result }
+{
+    regs.set(rd, value);
+    regs.called();
+    Outcome::Next
+}
+
+/// A jump, which leaves the next pc in a register.
+#[inline(always)]
+fn jump_to(regs: &mut Regs, rd: u8, target: u32) -> Outcome
+    requires done { regs.old.done < 2 ^ 64 - 1 }
+    requires rd { rd < 32 }
+    ensures { StepsTo (jump_to regs.old rd target) regs.old regs.new result }
+{
+    if target % 4 != 0 {
+        return trapped(regs, JUMP_MISALIGNED, target);
+    }
+    regs.set(rd, regs.next_pc());
+    regs.complete(target);
+    Outcome::Next
+}
+
+/// A branch: x0 takes no next pc.
+#[inline(always)]
+fn branch_if(taken: bool, regs: &mut Regs, target: u32) -> Outcome
+    requires { regs.old.done < 2 ^ 64 - 1 }
+    ensures { StepsTo (branch_if taken regs.old target) regs.old regs.new result }
+{
+    if taken {
+        jump_to(regs, 0, target)
+    } else {
+        onward(regs)
+    }
+}
+
+/// An instruction that leaves nothing but the next pc.
+#[inline(always)]
+fn onward(regs: &mut Regs) -> Outcome
+    requires { regs.old.done < 2 ^ 64 - 1 }
+    ensures registers { regs.new ≡ onward regs.old }
+    ensures next { result ≡ Outcome.Next }
+{
+    regs.called();
+    Outcome::Next
+}
+
+/// A trap of the instruction at the pc.
+#[inline(always)]
+fn trapped(regs: &Regs, cause: u32, value: u32) -> Outcome
+    ensures { result ≡ Outcome.Trapped (trap_of regs.now cause value) }
+{
+    Outcome::Trapped(Trap {
+        pc: regs.pc(),
+        cause,
+        value,
+    })
+}
+
+/// A number moved by an offset, modulo 2^32.
+#[inline(always)]
+fn moved(x: u32, offset: i32) -> u32
+    ensures { result ≡ moved x offset }
+{
+    x.wrapping_add_signed(offset)
+}
+
+/// A number with bit 0 cleared.
+#[inline(always)]
+fn even(n: u32) -> u32
+    ensures { result ≡ even n }
+{
+    n & 0xFFFF_FFFE
+}
+
+/// Whether an address is a multiple of a width.
+#[inline(always)]
+fn is_multiple(at: u32, width: u32) -> bool
+    requires { IsTrue (is_width width) }
+    ensures { result ≡ (at % width == 0) }
+{
+    at & (width - 1) == 0
+}
