@@ -1,0 +1,141 @@
+// Epochs: the objects that main has named.
+ghost use Rattle.std.specs.Prelude.{◌≡◌, ◌≤◌, ◌↔◌, [], IfOk, IsTrue, length, slice_get, option_copied};
+ghost use Rattle.tss_model.specs.Access.{operands_of, touches};
+ghost use Rattle.tss_model.specs.Spawn.{name_object, name_objects, objects_of, overlaps};
+ghost use Rattle.tss_operands.specs.Naming.{CanName, CanNameAll, is_named};
+ghost use Rattle.tss_operands.specs.Placed.{IsNeighbour};
+
+use crate::search::ended_by;
+use std::alloc::Global;
+use std::marker::Model;
+use tss_base::{NoMemory, Range, Task};
+
+/// The objects that main has named since the last barrier, in order of naming, each once, and the most that it may
+/// name.
+#[derive(Drop, Debug)]
+pub struct Epoch {
+    limit: u32,
+    named: Vec<Range>,
+    by_base: Vec<Range>,
+}
+
+impl Model for Epoch {
+    ghost use Rattle.std.specs.Prelude.{vec_capacity};
+    ghost use Rattle.tss_operands.specs.Naming.{EpochState};
+    ghost use Rattle.tss_operands.specs.Placed.{AreKept};
+
+    ghost Value = { EpochState };
+
+    ghost view = { λ e. record { limit = e.limit; objects = e.named.items } };
+
+    ghost invariant = { λ e. AreKept e.limit e.named.items e.by_base.items (vec_capacity e.named) (vec_capacity e.by_base) };
+}
+
+impl Epoch {
+    /// An epoch in which nothing is named, with room for `limit` objects. No other call takes memory.
+    pub fn open(alloc: Global, limit: u32) -> Result<Epoch, NoMemory>
+        ensures { IfOk result (λ e. e ≡ record { limit = limit; objects = [] }) }
+    {
+        Ok(Epoch {
+            limit,
+            named: Vec::with_capacity(alloc, limit as usize)?,
+            by_base: Vec::with_capacity(alloc, limit as usize)?,
+        })
+    }
+
+    /// Names an object. One that is named already stays as it is.
+    pub fn name(&mut self, object: Range)
+        requires { CanName self.old object }
+        ensures { self.new ≡ record self.old { objects = name_object self.old.objects object } }
+    {
+        if self.has(&object) {
+            return;
+        }
+        let place = ended_by(self.by_base.as_slice(), object.base);
+        match self.by_base.insert(place, object) {
+            Ok(()) => {}
+            Err(_) => unreachable!(),
+        }
+        self.named.push_reserved(object);
+    }
+
+    /// Names the objects of a task, in the order of its operands.
+    pub fn name_all(&mut self, task: &Task)
+        requires few { task.now.count ≤ 7 }
+        requires apart { CanNameAll self.old.limit self.old.objects (objects_of (operands_of task.now)) }
+        ensures { self.new ≡ record self.old { objects = name_objects self.old.objects (objects_of (operands_of task.now)) } }
+    {
+        for operand in &task.operands[..task.count as usize] {
+            self.name(operand.object);
+        }
+    }
+
+    /// Whether the object is named: a named object has its base and its length.
+    pub fn has(&self, object: &Range) -> bool
+        ensures { result ≡ is_named self.now.objects object.now }
+    {
+        match self.neighbour(object) {
+            Some(named) => *object == *named,
+            None => false,
+        }
+    }
+
+    /// Whether a named object shares an address with the range.
+    pub fn touches(&self, r: &Range) -> bool
+        ensures { result ≡ touches self.now.objects r.now }
+    {
+        match self.neighbour(r) {
+            Some(named) => named.meets(r),
+            None => false,
+        }
+    }
+
+    /// Whether a named object shares an address with the object and isn't that object.
+    pub fn overlaps(&self, object: &Range) -> bool
+        ensures { result ≡ overlaps self.now.objects object.now }
+    {
+        match self.neighbour(object) {
+            Some(named) => named.meets(object) && *named != *object,
+            None => false,
+        }
+    }
+
+    /// Ends the epoch: nothing is named then.
+    pub fn clear(&mut self)
+        ensures { self.new ≡ record self.old { objects = [] } }
+    {
+        self.named.clear();
+        self.by_base.clear();
+    }
+
+    /// How many objects are named: at most the limit.
+    pub fn count(&self) -> u32
+        ensures count { result ≡ length self.now.objects }
+        ensures few { length self.now.objects ≤ self.now.limit }
+    {
+        self.named.len() as u32
+    }
+
+    /// Whether as many objects are named as may be.
+    pub fn is_full(&self) -> bool
+        ensures { IsTrue result ↔ (length self.now.objects ≡ self.now.limit) }
+    {
+        self.count() == self.limit
+    }
+
+    /// The object that was named at a place in order of naming, from 0. None exactly where no more are named.
+    pub fn at(&self, i: u32) -> Option<Range>
+        ensures { result ≡ slice_get self.now.objects i }
+    {
+        self.named.get(i as usize).copied()
+    }
+
+    /// The first object in address order that ends after the range's base. A named object meets the range only where
+    /// this one does.
+    fn neighbour(&self, r: &Range) -> Option<&Range>
+        ensures { IsNeighbour self.now.objects r.now.base (option_copied result) }
+    {
+        let place = ended_by(self.by_base.as_slice(), r.base);
+        self.by_base.get(place)
+    }
+}
