@@ -1,0 +1,5 @@
+//! The execution in program order.
+#![tactic(auto)]
+
+/// Nothing yet.
+pub fn nothing() {}
