@@ -65,6 +65,10 @@ pub carries_kept : (o : Option (List ℕ)) (kept bytes : List ℕ) → Carries o
 carries_kept None kept bytes = tt
 carries_kept (Some a) kept bytes = (a, [], refl, sym (append-nil a), refl)
 
+-- counts that don't fall
+pub risen_through : {a b c : ℕ} → a ≤ b → b ≤ c → a ≤ c
+risen_through h k = omega arith
+
 -- a later fault is a fault since before
 pub rises_since : (a b c : ℕ) → a ≤ b → risen b ≤ c → risen a ≤ c
 rises_since a b c h k = omega arith
@@ -87,3 +91,26 @@ joined_from xs i d h = rw (add-one, drop-cons xs i d)
 pub same_text : {o p : Option (List ℕ)} {kept keeps : List ℕ} {before now : ℕ} {result : Result (Unit {0}) Failed} {text same : List ℕ} → text ≡ same → Emits o kept p keeps before now result text → Emits o kept p keeps before now result same
 same_text {o = o} {p = p} {kept = kept} {keeps = keeps} {before = before} {now = now} {result = result} e h =
     subst (λ t. Emits o kept p keeps before now result t) e h
+
+on_ok_more : {T E : Type 0} (r : Result T E) (P Q : Type 0) → (P → Q) → OnOk r P → OnOk r Q
+on_ok_more (Ok v) P Q h p = h p
+on_ok_more (Err e) P Q h p = tt
+
+on_err_more : {T E : Type 0} (r : Result T E) (P Q : Type 0) → (P → Q) → OnErr r P → OnErr r Q
+on_err_more (Ok v) P Q h p = tt
+on_err_more (Err e) P Q h p = h p
+
+-- after a first text a second was put, or failed
+pub emits_after : (o p r : Option (List ℕ)) (kept keeps rest : List ℕ) (before mid now : ℕ) (result : Result (Unit {0}) Failed) (done part : List ℕ) → Carries o kept p keeps done → before ≤ mid → Emits p keeps r rest mid now result part → Emits o kept r rest before now result (done ++ part)
+emits_after o p r kept keeps rest before mid now result done part first le then = record {
+  ok = on_ok_more result _ _ (carries_then o p r kept keeps rest done part first) then.ok;
+  err = on_err_more result _ _ (prefix_then o p r kept keeps done part first) then.err;
+  cause = on_err_more result _ _ (rises_since before mid now le) then.cause;
+  never_falls = let grows = then.never_falls in omega (arith, le, grows);
+}
+
+-- what was kept was put in part after the text before it
+pub finished_part : (o p r : Option (List ℕ)) (kept keeps xs : List ℕ) → Carries o kept p keeps xs → PutsPrefix p r keeps → PutsPrefix o r (kept ++ xs)
+finished_part o p r kept keeps xs first then =
+    subst (λ l. PutsPrefix o r (kept ++ l)) (append-nil xs)
+    (prefix_then o p r kept keeps xs [] first (subst (PutsPrefix p r) (sym (append-nil keeps)) then))

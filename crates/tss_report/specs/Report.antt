@@ -1,5 +1,5 @@
 -- The report of a run: how it ended, its tasks, its output, and the rows of memory that have changed.
-use Rattle.std.specs.Prelude.{ℕ, List, [], ◌∷◌, length, codes}
+use Rattle.std.specs.Prelude.{ℕ, List, [], ◌∷◌, ◌++◌, length, codes}
 use Rattle.std.specs.Fmt.{decimal}
 use Rattle.std.specs.Int.{w32, to_be_bytes}
 use Rattle.tss_report.specs.Pieces.{joined}
@@ -26,3 +26,7 @@ tasks_text n = joined (codes "tasks " ∷ decimal n ∷ codes "\n" ∷ [])
 
 abbrev pub output_text : List ℕ → List ℕ
 output_text bytes = joined (codes "output " ∷ decimal (length bytes) ∷ codes "\n" ∷ bytes ∷ codes "\n" ∷ [])
+
+-- the part of a report that says ending, tasks and output
+abbrev pub summary_text : Ending → ℕ → List ℕ → List ℕ
+summary_text ending tasks output = ending_text ending ++ (tasks_text tasks ++ output_text output)

@@ -7,3 +7,4 @@ mod pieces;
 mod report;
 
 pub use pieces::Pieces;
+pub use report::put_summary;

@@ -1,7 +1,7 @@
 // The report of a run.
 ghost use Rattle.std.specs.Prelude.{◌≡◌, ◌<◌, length};
 ghost use Rattle.tss_report.specs.Pieces.{Emits};
-ghost use Rattle.tss_report.specs.Report.{hex_word as hex_word_of, ending_text, tasks_text, output_text};
+ghost use Rattle.tss_report.specs.Report.{hex_word as hex_word_of, ending_text, tasks_text, output_text, summary_text};
 
 use crate::pieces::Pieces;
 use itoa::Buffer;
@@ -95,4 +95,19 @@ pub fn put_output<K: Sink>(pieces: &mut Pieces, out: &mut K, bytes: &[u8]) -> Re
             b"\n",
         ],
     )
+}
+
+/// Puts the part of a report that says ending, tasks and output.
+pub fn put_summary<K: Sink>(
+    pieces: &mut Pieces,
+    out: &mut K,
+    ending: &Ending,
+    tasks: u32,
+    output: &[u8],
+) -> Result<(), Failed>
+    ensures { Emits (K.written out.old) pieces.old (K.written out.new) pieces.new (K.faults out.old) (K.faults out.new) result (summary_text ending.now tasks output.now) }
+{
+    put_ending(pieces, out, ending)?;
+    put_tasks(pieces, out, tasks)?;
+    put_output(pieces, out, output)
 }

@@ -1,0 +1,8 @@
+mod RangeLemmas
+mod PlaceLemmas
+mod EntryLemmas
+mod PartLemmas
+mod WriteLemmas
+mod ReadLemmas
+mod LoadLemmas
+mod SegmentLemmas

@@ -1,0 +1,10 @@
+-- A range in a block ends where memory does, or before.
+use Rattle.std.proofs.Common.{List, subst}
+use Rattle.tss_memory.specs.Blocks.{BlockState, IsInBlock}
+use Rattle.tss_memory.proofs.PlaceLemmas.{inside_end}
+use Rattle.tss_memory.proofs.space.Space.find.Goals as goal
+
+pub returns-clause-end : goal.returns-clause-end
+returns-clause-end c =
+    inside_end c.self.inside.blocks.items c.self.invariant c.args.r.now c.in_ok-i.i
+    (subst (λ (bs : List BlockState). IsInBlock bs c.args.r.now c.in_ok-i.i) c.as_slice.ensures.value c.in_ok-i.ensures.inside)

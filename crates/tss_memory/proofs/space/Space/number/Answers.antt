@@ -1,0 +1,16 @@
+-- The number in the block that was found is that in memory.
+use Rattle.std.proofs.Common.{ℕ, List, length, subst, sym, ap, ◌∙◌}
+use Rattle.std.specs.Prelude.{slice_index}
+use Rattle.tss_model.specs.Memory.{Memory, byte_at, number_at}
+use Rattle.tss_memory.specs.Ranges.{IsFound}
+use Rattle.tss_memory.proofs.ReadLemmas.{found_in, number_read}
+use Rattle.tss_memory.proofs.space.Space.number.Goals as goal
+
+pub returns : goal.returns
+returns c =
+    let found = subst (λ (m : Memory). IsFound m.ranges c.args.found c.args.r.now) (sym c.self.view_is) c.requires.found in
+    c.number_of.ensures
+    ∙ ap (λ (xs : List ℕ). number_at (slice_index xs) 0 (length xs)) c.bytes.ensures
+    ∙ number_read c.self.inside.blocks.items c.self.invariant c.args.r.now c.args.found.index c.index.result.now
+    (found_in c.self.inside.blocks.items c.args.found c.args.r.now found) c.index.ensures
+    ∙ ap (λ (m : Memory). number_at (byte_at m) c.args.r.now.base c.args.r.now.len) c.self.view_is
