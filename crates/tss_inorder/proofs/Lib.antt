@@ -1,2 +1,3 @@
 pub mod StepLemmas
 pub mod ByteLemmas
+pub mod PlaceLemmas
