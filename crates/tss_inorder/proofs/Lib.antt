@@ -1,3 +1,4 @@
 pub mod StepLemmas
 pub mod ByteLemmas
 pub mod PlaceLemmas
+pub mod GrantLemmas

@@ -1,9 +1,9 @@
 -- Where ranges lie: in one range of memory, beside a task's scratch, or inside a task's operands.
-use Rattle.std.proofs.Common.{◌≡◌, ℕ, zero, suc, ◌+◌, ◌<◌, ◌≤◌, Bool, true, false, List, [], ◌∷◌, Option, Some, None, refl, sym, ap, subst, ◌∙◌, arith, nat_le, nat_lt}
+use Rattle.std.proofs.Common.{◌≡◌, ℕ, zero, suc, ◌+◌, ◌<◌, ◌≤◌, inl, inr, Bool, true, false, List, [], ◌∷◌, Option, Some, None, get_or, refl, sym, ap, subst, ◌∙◌, arith, nat_le, nat_lt}
 use Rattle.std.specs.Prelude.{◌&&◌, ◌||◌, not, max, min, find, slice_get, option_map}
 use Rattle.std.specs.List.{list_any, list_all}
-use Rattle.std.proofs.lemmas.Bool.{and_parts, or_cases, both_ways, not-true, leb-true, ltb-true, ltb-false, and_left, and_right, lt-leb, le-ltb, cases_Bool, cases_lt, false_from_ne_true}
-use Rattle.std.proofs.lemmas.Option.{none-some, same_Some}
+use Rattle.std.proofs.lemmas.Bool.{and_parts, and_from, and_right, or_cases, both_ways, not-true, leb-true, le-leb, lt-leb, ltb-true, ltb-false, false_from_ne_true}
+use Rattle.std.proofs.lemmas.Option.{none-some, same_Some, slice_get_within, get_or_from_slice_get}
 use Rattle.tss_base.specs.declared.range.Range.{Range}
 use Rattle.tss_base.specs.declared.operand.Mode.{Mode}
 use Rattle.tss_base.specs.declared.operand.Operand.{Operand}
@@ -13,7 +13,6 @@ use Rattle.tss_model.specs.Memory.{MemoryRange, range_of, covers, scratch_range}
 use Rattle.tss_model.specs.Access.{writes}
 use Rattle.tss_model.specs.Spawn.{is_outside}
 use Rattle.tss_memory.specs.Ranges.{AreRanges}
-use Rattle.tss_memory.proofs.RangeLemmas.{some_mapped, contains_parts, contains_from, contains_not_end, ranges_apart}
 use Rattle.tss_inorder.specs.Sound.{beside_scratch, is_placed, are_placed}
 
 -- ---- lists
@@ -35,7 +34,34 @@ one_of_all p q (x ∷ xs) all some =
       | inr later ↦ one_of_all p q xs parts.1 later
     ]
 
+-- ---- ranges
+
+pub contains_parts : (r s : Range) → contains r s ≡ true → (r.base ≤ s.base) × (end_of s ≤ end_of r)
+contains_parts r s h =
+    let p = and_parts (nat_le r.base s.base) (nat_le (end_of s) (end_of r)) h in
+    (leb-true r.base s.base p.0, leb-true (end_of s) (end_of r) p.1)
+
+pub contains_from : (r s : Range) → r.base ≤ s.base → end_of s ≤ end_of r → contains r s ≡ true
+contains_from r s low high =
+    and_from (nat_le r.base s.base) (nat_le (end_of s) (end_of r)) (le-leb r.base s.base low) (le-leb (end_of s) (end_of r) high)
+
+-- one that ends before the other's end
+contains_not_end : (r s : Range) → end_of r < end_of s → contains r s ≡ false
+contains_not_end r s h = and_right (nat_le r.base s.base) (nat_le (end_of s) (end_of r)) (lt-leb (end_of s) (end_of r) h)
+
 -- ---- ranges of memory
+
+some_mapped : {A B : Type 0} (f : A → B) (o : Option A) (y : B) → option_map f o ≡ Some y → (x : A) × (o ≡ Some x) × (f x ≡ y)
+some_mapped f (Some x) y e = (x, refl, same_Some (f x) y e)
+some_mapped f None y e = absurd (none-some y e)
+
+-- two ranges of memory at places in order
+ranges_apart : (ranges : List MemoryRange) → AreRanges ranges → (i j : ℕ) (m n : MemoryRange) → i < j
+    → slice_get ranges i ≡ Some m → slice_get ranges j ≡ Some n → end_of m.range ≤ n.range.base
+ranges_apart ranges are i j m n h e f =
+    let both : end_of ((get_or ranges i m).range) ≤ (get_or ranges j m).range.base = are.ordered i j m h (slice_get_within ranges j n f) in
+    let left : end_of m.range ≤ (get_or ranges j m).range.base = subst (λ (x : MemoryRange). end_of x.range ≤ (get_or ranges j m).range.base) (get_or_from_slice_get ranges i m m e) both in
+    subst (λ (x : MemoryRange). end_of m.range ≤ x.range.base) (get_or_from_slice_get ranges j n m f) left
 
 -- the range of memory in which a range lies, and its place
 abbrev pub LiesIn : List MemoryRange → Range → Bool → Type 0

@@ -1,5 +1,6 @@
 //! The execution in program order.
 #![tactic(auto)]
 
-/// Nothing yet.
-pub fn nothing() {}
+mod numbers;
+mod placing;
+mod views;
