@@ -1,11 +1,11 @@
 // The rule of access.
-ghost use Rattle.std.specs.Prelude.{◌≡◌, ◌&&◌, List, IsTrue};
+ghost use Rattle.std.specs.Prelude.{◌≡◌, ◌&&◌, ◌||◌, List, IsTrue, OnOk, IsOk};
 ghost use Rattle.std.specs.List.{list_any};
 ghost use Rattle.tss_base.specs.declared.range.Range.{Range};
 ghost use Rattle.tss_base.specs.Range.{contains};
 ghost use Rattle.tss_model.specs.Memory.{MemoryRange, range_of};
-ghost use Rattle.tss_model.specs.Access.{touches, writes, main_access, task_access};
-ghost use Rattle.tss_core.specs.Rule.{purpose_of, allowed, is_owned, is_fixed_for};
+ghost use Rattle.tss_model.specs.Access.{touches, writes, main_may, main_access, task_access};
+ghost use Rattle.tss_core.specs.Rule.{purpose_of, allowed, is_owned, is_fixed_for, main_answer, task_answer};
 
 use tss_base::{Mode, Operand, Range};
 
@@ -34,9 +34,10 @@ pub enum Deny {
 /// this epoch. Main loads in every range and stores in one that can be written, and touches what it has named.
 #[inline(always)]
 pub fn main_access(purpose: Purpose, within: Option<bool>, touched: bool) -> Result<(), Deny>
-    ensures exact { (ranges : List MemoryRange) (named : List Range) (r : Range)
-        → within ≡ range_of ranges r → touched ≡ touches named r
-        → result ≡ allowed (main_access ranges named (purpose_of purpose) r) }
+    ensures exact { result ≡ allowed (main_answer (purpose_of purpose) within touched) }
+    ensures rule { (ranges : List MemoryRange) (named : List Range) (r : Range)
+        → main_access ranges named (purpose_of purpose) r ≡ main_answer (purpose_of purpose) (range_of ranges r) (touches named r) }
+    ensures placed { OnOk result (IsTrue (main_may (purpose_of purpose) within)) }
 {
     let may = match (purpose, within) {
         (_, None) => false,
@@ -63,10 +64,12 @@ pub fn task_access(
     r: &Range,
     within: Option<bool>,
 ) -> Result<(), Deny>
-    ensures owned { (ranges : List MemoryRange) → IsTrue (is_owned purpose operands.now r.now)
-        → result ≡ allowed (task_access ranges operands.now (purpose_of purpose) r.now) }
-    ensures exact { (ranges : List MemoryRange) → within ≡ range_of ranges r.now
-        → result ≡ allowed (task_access ranges operands.now (purpose_of purpose) r.now) }
+    ensures exact { result ≡ allowed (task_answer (purpose_of purpose) operands.now r.now within) }
+    ensures owned { IsTrue (is_owned purpose operands.now r.now) → IsOk result }
+    ensures rule { (ranges : List MemoryRange) (place : Range)
+        → task_access ranges operands.now (purpose_of purpose) place
+        ≡ task_answer (purpose_of purpose) operands.now place (range_of ranges place) }
+    ensures placed { OnOk result (IsTrue (is_owned purpose operands.now r.now || is_fixed_for purpose within)) }
 {
     if owns(purpose, operands, r) || is_fixed(purpose, within) {
         Ok(())

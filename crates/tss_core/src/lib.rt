@@ -6,11 +6,15 @@
 
 mod access;
 mod arithmetic;
+mod plain;
 mod regs;
 mod stepping;
+#[cfg(test)]
+mod tests;
 mod view;
 
 pub use access::{Deny, Purpose, main_access, owns, task_access};
+pub use plain::PlainMain;
 pub use regs::Regs;
 pub use stepping::{Outcome, step};
 pub use view::View;
