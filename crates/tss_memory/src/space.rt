@@ -1,5 +1,5 @@
 // A flat space of bytes.
-ghost use Rattle.std.specs.Prelude.{◌≡◌, ◌<◌, ◌≤◌, IfOk, IfSome, OnSome, IsTrue, option_map, slice_get, length};
+ghost use Rattle.std.specs.Prelude.{◌≡◌, ◌^◌, ◌<◌, ◌≤◌, IfOk, IfSome, OnSome, IsTrue, option_map, slice_get, length};
 ghost use Rattle.tss_base.specs.Range.{end_of};
 ghost use Rattle.tss_model.specs.Memory.{range_of, byte_at, bytes_of, set_byte, put_bytes, zeroed, number_at, loaded, frozen};
 ghost use Rattle.tss_model.specs.Core.{low_bytes};
@@ -149,7 +149,8 @@ impl Space {
     pub fn number(&self, found: Found, r: &Range) -> u32
         requires found { IsFound self.now.ranges found r.now }
         requires width { r.now.len ≤ 4 }
-        ensures { result ≡ number_at (byte_at self.now) r.now.base r.now.len }
+        ensures exact { result ≡ number_at (byte_at self.now) r.now.base r.now.len }
+        ensures fits { result < 256 ^ r.now.len }
     {
         number_of(self.blocks[found.index as usize].bytes(r))
     }
