@@ -1,3 +1,4 @@
 pub mod Sound
 pub mod Seen
 pub mod Left
+pub mod Running

@@ -1,5 +1,5 @@
 -- What a machine keeps of its memory, and of the task that it runs.
-use Rattle.std.specs.Prelude.{◌≡◌, ℕ, Bool, true, not, IsTrue, List, Some}
+use Rattle.std.specs.Prelude.{◌≡◌, Bool, true, not, IsTrue, List, Some}
 use Rattle.std.specs.List.{list_all}
 use Rattle.tss_base.specs.declared.operand.Operand.{Operand}
 use Rattle.tss_base.specs.declared.range.Range.{Range}
@@ -21,12 +21,11 @@ is_placed ranges o = not (is_outside o.mode (range_of ranges o.object))
 abbrev pub are_placed : List MemoryRange → List Operand → Bool
 are_placed ranges operands = list_all (is_placed ranges) operands
 
--- the memory that a task runs in, with its operands and so many bytes of scratch
-pub record IsGround (ranges : List MemoryRange) (operands : List Operand) (bytes : ℕ) : Type 0 where
+-- the memory that a task runs in, with its operands
+pub record IsGround (ranges : List MemoryRange) (operands : List Operand) : Type 0 where
   pub are : AreRanges ranges
   pub beside : beside_scratch ranges ≡ true
   pub placed : are_placed ranges operands ≡ true
-  pub scratch : bytes ≡ scratch_range.len
 
 -- the range of memory that was found for an access: for a store it can be written
 pub record IsFoundFor (purpose : Purpose) (ranges : List MemoryRange) (f : Found) (r : Range) : Type 0 where

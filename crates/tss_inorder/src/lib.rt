@@ -1,6 +1,7 @@
 //! The execution in program order.
 #![tactic(auto)]
 
-mod numbers;
 mod placing;
+mod running;
+mod scratch;
 mod views;

@@ -1,5 +1,4 @@
 // What main and a task see of the machine.
-ghost use Rattle.std.specs.Prelude.{length};
 ghost use Rattle.tss_inorder.specs.Sound.{IsGround};
 
 use tss_base::{Operand, Range};
@@ -7,14 +6,8 @@ use tss_core::{Deny, Purpose, View};
 use tss_memory::{Code, Space};
 use tss_operands::Epoch;
 
-use crate::numbers::{number, put};
 use crate::placing::{main_place, task_place};
-
-/// The scratch of a task.
-const SCRATCH: Range = Range {
-    base: 0xFFFD_0000,
-    len: 0x1_0000,
-};
+use crate::scratch::{SCRATCH, Scratch};
 
 /// What main sees: memory, the code, and the objects that it has named. The range of memory at the place `near` is
 /// tried first.
@@ -66,10 +59,10 @@ impl View for MainView<'_> {
 pub(crate) struct TaskView<'a> {
     pub(crate) space: &'a mut Space,
     pub(crate) code: &'a Code,
-    pub(crate) scratch: &'a mut [u8],
+    pub(crate) scratch: &'a mut Scratch,
     pub(crate) operands: &'a [Operand],
     pub(crate) near: u32,
-    ghost ground: { IsGround space.now.ranges operands.now (length scratch.now) },
+    ghost ground: { IsGround space.now.ranges operands.now },
 }
 
 impl View for TaskView<'_> {
@@ -92,7 +85,7 @@ impl View for TaskView<'_> {
     fn load(&mut self, at: u32, width: u32) -> Result<u32, Deny> {
         let r = Range { base: at, len: width };
         if SCRATCH.contains(&r) {
-            return Ok(number(self.scratch, (at - SCRATCH.base) as usize, width));
+            return Ok(self.scratch.number(&r));
         }
         let found = task_place(self.space, self.operands, Purpose::Loads, &r, self.near)?;
         self.near = found.index;
@@ -103,7 +96,7 @@ impl View for TaskView<'_> {
     fn store(&mut self, at: u32, width: u32, value: u32) -> Result<(), Deny> {
         let r = Range { base: at, len: width };
         if SCRATCH.contains(&r) {
-            put(self.scratch, (at - SCRATCH.base) as usize, width, value);
+            self.scratch.put(&r, value);
             return Ok(());
         }
         let found = task_place(self.space, self.operands, Purpose::Stores, &r, self.near)?;
