@@ -6,3 +6,4 @@ mod WriteLemmas
 mod ReadLemmas
 mod LoadLemmas
 mod SegmentLemmas
+mod StripedLemmas

@@ -10,6 +10,8 @@ mod found;
 mod numbers;
 mod placing;
 mod space;
+#[cfg(test)]
+mod tests;
 
 pub use code::Code;
 pub use found::Found;

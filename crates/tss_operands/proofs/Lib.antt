@@ -1,2 +1,7 @@
 mod PlacedLemmas
 mod NamingLemmas
+mod ListingLemmas
+mod MergingLemmas
+mod ReadingLemmas
+mod FreshLemmas
+mod SpawnLemmas

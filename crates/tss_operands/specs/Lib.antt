@@ -1,2 +1,4 @@
 pub mod Naming
 pub mod Placed
+pub mod Listing
+pub mod Spawning

@@ -1,7 +1,8 @@
 -- The objects that main has named in an epoch, and which it can name beside them.
-use Rattle.std.specs.Prelude.{◌≡◌, ℕ, ◌<◌, ◌≤◌, Bool, false, List, ◌++◌, length, All}
+use Rattle.std.specs.Prelude.{◌≡◌, ℕ, ◌<◌, ◌≤◌, ◌+◌, Bool, false, not, List, ◌++◌, length, count_by, All}
 use Rattle.std.specs.List.{list_any}
 use Rattle.tss_base.specs.declared.range.Range.{Range}
+use Rattle.tss_base.specs.declared.operand.Operand.{Operand}
 use Rattle.tss_model.specs.Spawn.{same_range, overlaps, name_objects}
 
 -- the most objects that may be named, and those that are, in order of naming
@@ -12,6 +13,10 @@ pub record EpochState : Type 0 where
 -- the object is one of those that are named
 abbrev pub is_named : List Range → Range → Bool
 is_named named object = list_any (same_range object) named
+
+-- how many objects are named with those of operands, of which no two have the same
+abbrev pub count_with : List Range → List Operand → ℕ
+count_with named os = length named + count_by (λ o. not (is_named named o.object)) os
 
 -- an object that can be named: it isn't empty, meets no other named object, and is named already or fewer are named
 -- than may be

@@ -1,0 +1,112 @@
+// What no clause says: that loading succeeds, also at the largest sizes; and the calls on values from outside.
+use std::alloc::Global;
+use std::process::Abort;
+use std::test::Fail;
+
+use tss_base::{Image, Range, Segment};
+
+use crate::Space;
+
+/// The base of the first segment.
+const FIRST: u32 = 0x10000;
+
+/// The address after the last of an image of 64 MiB from there on.
+const LIMIT: u32 = 0x4010000;
+
+/// So many segments side by side, each of `len` bytes that are all the segment's number from 1 on, and each writable
+/// and code.
+fn striped(rt: &impl Abort, alloc: Global, count: u8, len: u32) -> Result<Image, Fail> {
+    assert!(rt; 0 < count && 4 <= len);
+    let mut segments = Vec::new(alloc);
+    let mut at = FIRST;
+    for k in 0..count {
+        assert!(rt; len <= LIMIT - at);
+        let bytes = vec![in alloc; k + 1; len as usize]?;
+        segments.push(Segment::new(at, bytes, true, true))?;
+        at += len;
+    }
+    Ok(Image::new(FIRST, segments))
+}
+
+/// Writes the byte at an address, which can be written, and reads it again.
+fn write_and_read(rt: &impl Abort, space: &mut Space, at: u32) {
+    assert_eq!(rt; space.range_of(&Range { base: at, len: 1 }), Some(true));
+    space.set(at, 0xA5);
+    assert_eq!(rt; space.byte(at), 0xA5);
+}
+
+#[test]
+fn a_space_of_64_mib_loads(rt: HostRuntime) -> Result<(), Fail> {
+    let image = striped(&rt, rt.alloc(), 1, LIMIT - FIRST)?;
+    let (mut space, code) = Space::load(rt.alloc(), &image)?;
+    let all = Range {
+        base: FIRST,
+        len: LIMIT - FIRST,
+    };
+    let stack = Range {
+        base: 0xFFFE0000,
+        len: 0x10000,
+    };
+    assert_eq!(rt; space.range_at(0), Some((all, true)));
+    assert_eq!(rt; space.range_at(1), Some((stack, true)));
+    assert_eq!(rt; space.range_at(2), None);
+    write_and_read(&rt, &mut space, LIMIT - 1);
+    assert_eq!(rt; code.fetch(LIMIT - 4), Some(0x01010101));
+    assert_eq!(rt; code.fetch(LIMIT), None);
+    Ok(())
+}
+
+#[test]
+fn each_of_the_most_ranges_is_written_at_both_ends(rt: HostRuntime) -> Result<(), Fail> {
+    let image = striped(&rt, rt.alloc(), 255, 6)?;
+    let (mut space, _code) = Space::load(rt.alloc(), &image)?;
+    for i in 0..256 {
+        let (r, writable) = space.range_at(i).ok_or("too few ranges")?;
+        assert!(rt; writable && 0 < r.len && r.len <= 0x10000 && r.base <= 0xFFFE0000);
+        let last = r.base + (r.len - 1);
+        write_and_read(&rt, &mut space, r.base);
+        write_and_read(&rt, &mut space, last);
+        assert_eq!(rt; space.range_of(&Range { base: last, len: 2 }), None);
+    }
+    assert_eq!(rt; space.range_at(256), None);
+    Ok(())
+}
+
+#[test]
+fn overwritten_code_is_fetched_as_loaded(rt: HostRuntime) -> Result<(), Fail> {
+    let image = striped(&rt, rt.alloc(), 2, 6)?;
+    let (mut space, code) = Space::load(rt.alloc(), &image)?;
+    let word = Range {
+        base: FIRST,
+        len: 4,
+    };
+    assert_eq!(rt; space.range_of(&word), Some(true));
+    space.zero(&word);
+    assert_eq!(rt; space.bytes(&word), [0, 0, 0, 0].as_slice());
+    assert_eq!(rt; code.fetch(FIRST), Some(0x01010101));
+    assert_eq!(rt; code.fetch(FIRST + 4), None);
+    assert_eq!(rt; code.fetch(FIRST + 8), Some(0x02020202));
+    assert_eq!(rt; code.fetch(FIRST + 10), None);
+    Ok(())
+}
+
+#[test]
+fn numbers_have_their_lowest_byte_first(rt: HostRuntime) -> Result<(), Fail> {
+    let image = striped(&rt, rt.alloc(), 1, 8)?;
+    let (mut space, _code) = Space::load(rt.alloc(), &image)?;
+    let word = Range {
+        base: FIRST + 2,
+        len: 4,
+    };
+    let found = space.find(&word, 9).ok_or("not found")?;
+    assert!(rt; found.writable);
+    space.set_number(found, &word, 0x0D0C0B0A);
+    assert_eq!(rt; space.number(found, &word), 0x0D0C0B0A);
+    let mut bytes = [0; 8];
+    assert_eq!(rt; space.range_of(&Range { base: FIRST, len: 8 }), Some(true));
+    space.copy_out(FIRST, &mut bytes);
+    assert_eq!(rt; bytes, [1, 1, 0x0A, 0x0B, 0x0C, 0x0D, 1, 1]);
+    space.copy_in(FIRST, &[7; 8]);
+    assert_eq!(rt; space.number(found, &word), 0x07070707);
+    Ok(())
+}
