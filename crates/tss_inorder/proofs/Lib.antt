@@ -4,3 +4,6 @@ pub mod PlaceLemmas
 pub mod GrantLemmas
 pub mod ViewLemmas
 pub mod TaskLemmas
+pub mod RunLemmas
+pub mod SpawnPlaces
+pub mod FlatLemmas

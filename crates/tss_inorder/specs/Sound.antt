@@ -1,8 +1,9 @@
 -- What a machine keeps of its memory, and of the task that it runs.
-use Rattle.std.specs.Prelude.{◌≡◌, Bool, true, not, IsTrue, List, Some}
+use Rattle.std.specs.Prelude.{◌≡◌, ℕ, ◌≤◌, Bool, true, not, IsTrue, List, Some}
 use Rattle.std.specs.List.{list_all}
 use Rattle.tss_base.specs.declared.operand.Operand.{Operand}
 use Rattle.tss_base.specs.declared.range.Range.{Range}
+use Rattle.tss_base.specs.declared.machine.Limits.{Limits}
 use Rattle.tss_base.specs.Range.{meets}
 use Rattle.tss_model.specs.Memory.{MemoryRange, range_of, scratch_range}
 use Rattle.tss_model.specs.Access.{Purpose, Stores}
@@ -32,3 +33,12 @@ pub record IsFoundFor (purpose : Purpose) (ranges : List MemoryRange) (f : Found
   pub found : IsFound ranges f r
   pub within : range_of ranges r ≡ Some f.writable
   pub stored : purpose ≡ Stores → IsTrue f.writable
+
+-- what a flat machine keeps: of its limits, the ranges of its memory, how many objects its epoch may name, and how many
+-- bytes its output has room for
+pub record IsSound (limits : Limits) (ranges : List MemoryRange) (objects room : ℕ) : Type 0 where
+  pub few : limits.max_operands ≤ 7
+  pub are : AreRanges ranges
+  pub beside : beside_scratch ranges ≡ true
+  pub named : objects ≡ limits.epoch_objects
+  pub printed : limits.output_bytes ≤ room
