@@ -1,20 +1,20 @@
 -- One step of the flat machine, by what main's core does.
-use Rattle.std.proofs.Common.{◌≡◌, ℕ, zero, suc, ◌+◌, ◌-◌, ◌<◌, ◌≤◌, Bool, true, false, List, nat_le, Option, Some, None, refl, sym, ap, subst, ◌∙◌, arith}
+use Rattle.std.proofs.Common.{◌≡◌, ℕ, zero, suc, ◌+◌, ◌-◌, ◌<◌, ◌≤◌, Bool, true, false, List, [], nat_le, Option, Some, None, refl, sym, ap, subst, ◌∙◌, arith}
 use Rattle.std.specs.Prelude.{cond}
-use Rattle.std.proofs.lemmas.Bool.{cond-true, cond-false}
+use Rattle.std.proofs.lemmas.Bool.{cond-true, cond-false, leb-false}
 use Rattle.tss_base.specs.declared.range.Range.{Range}
 use Rattle.tss_base.specs.declared.ending.Ending.{Ending}
 use Rattle.tss_base.specs.declared.ending.Ending.TheVariants.{MainTrap, Refused}
 use Rattle.tss_base.specs.declared.machine.Limits.{Limits}
-use Rattle.tss_base.specs.Image.{SegmentState}
-use Rattle.tss_model.specs.Memory.{Memory, byte_at, code_word}
+use Rattle.tss_base.specs.Image.{SegmentState, ImageState}
+use Rattle.tss_model.specs.Memory.{Memory, byte_at, code_word, frozen}
 use Rattle.tss_model.specs.Registers.{Registers, register_at, trap_of}
 use Rattle.tss_model.specs.Causes.{fetch_outside, main_touch, main_budget_spent}
 use Rattle.tss_model.specs.Access.{MainActor}
 use Rattle.tss_model.specs.Core.{Stepped, Executed, Called, Ended, Trapped, Touched, core_step}
 use Rattle.tss_model.specs.TaskRun.{repeated}
 use Rattle.tss_model.specs.MainStep.{Piece, MainState, Flat, output_of, main_ended, main_refused, has_spent, flat_written, main_on, main_core, main_step, call_of, called_by, next_call}
-use Rattle.tss_model.specs.InOrder.{flat_by, flat_step}
+use Rattle.tss_model.specs.InOrder.{flat_start, flat_by, flat_step, ReferenceState, reference_of, in_order}
 use Rattle.tss_core.specs.declared.stepping.Outcome.{Outcome}
 use Rattle.tss_core.specs.declared.stepping.Outcome.TheVariants.{Call}
 use Rattle.tss_core.specs.Steps.{outcome_of, registers_after, write_of}
@@ -104,6 +104,50 @@ core-completes r q Touched o completes out other regs goes = absurd (some_none (
   some_none : {e : Ending} → Some e ≡ None → ⊥
   some_none e = cc
 
+-- ---- main's steps
+
+called_is : (x : Stepped) → Call ≡ outcome_of x → Called ≡ x
+called_is (Executed p w) e = absurd (cc)
+called_is Called e = refl
+called_is Ended e = absurd (cc)
+called_is (Trapped t) e = absurd (cc)
+called_is Touched e = absurd (cc)
+
+module _ (old mid : FlatMachine) (rest : KeepsRest old mid) (left : nat_le old.limits.main_budget old.regs.done ≡ false)
+    (regs : mid.regs ≡ registers_after old.regs (core_of old)) (written : mid.space ≡ flat_written old.space (write_of (core_of old))) where
+  -- a call, whose step of the core leaves all as it is
+  pub call_leads : (new : FlatMachine) (e : Option Ending) → Call ≡ outcome_of (core_of old)
+      → LeadsTo (called mid.code mid.limits (call_of (register_at mid.regs 17))) mid new e → LeadsTo (flat_step old.code old.limits) old new e
+  call_leads new e out leads pieces printed =
+      let core = called_is (core_of old) out in
+      let same : mid.regs ≡ old.regs = regs ∙ ap (registers_after old.regs) (sym core) in
+      let kept : mid.space ≡ old.space = written ∙ ap (λ (x : Stepped). flat_written old.space (write_of x)) (sym core) in
+      let next = leads pieces (printed ∙ sym rest.output) in
+      (next.0, next.1,
+        flat_step-called old.code old.limits old.regs old.spawned old.epoch.objects pieces old.space left core
+        ∙ (λ i. called (sym rest.code i) (sym rest.limits i) (call_of (register_at (sym same i) 17))
+          (flat_now (sym same i) (sym rest.spawned i) ((sym rest.epoch i).objects) pieces (sym kept i)))
+        ∙ next.2)
+
+  module _ (o : Outcome) (out : o ≡ outcome_of (core_of old)) (other : o ≡ Call → ⊥) (e : Option Ending) (ends : e ≡ ending_after mid.regs o) where
+    -- any other step
+    pub core_leads : LeadsTo (flat_step old.code old.limits) old mid e
+    core_leads pieces printed =
+        (pieces, printed ∙ sym rest.output,
+          flat_step-outcome old.code old.limits old.regs old.spawned old.epoch.objects pieces old.space left (core_of old) refl o out other mid.regs regs mid.space written
+          ∙ (λ i. record { main = record { registers = mid.regs; spawned = sym rest.spawned i; epoch = (sym rest.epoch i).objects; pieces = pieces; ending = sym ends i }; memory = mid.space }))
+
+    pub core_advances : Advances old mid e
+    core_advances = record {
+      code = rest.code;
+      limits = rest.limits;
+      done = λ goes.
+        core-completes old.regs mid.regs (core_of old) o
+        (core_step-completes (MainActor old.space.ranges old.epoch.objects) (byte_at old.space) old.regs (code_word old.code))
+        out other regs (sym ends ∙ goes);
+      budget = λ goes. leb-false old.limits.main_budget old.regs.done left;
+    }
+
 -- ---- the run
 
 -- so many steps, from the start as from where the machine stands
@@ -147,3 +191,16 @@ module _ (a v w : FlatMachine) (on : IsOnTheWay a v) where
         sym here.2
         ∙ repeated-reached (flat_step a.code a.limits) (a.limits.main_budget - v.regs.done) (flat_of v here.0 None) (flat_of w next.0 (Some e)) (steps_as _ _ next.2)
           (flat_step-ended a.code a.limits (main_of w next.0 None) e w.space))
+
+-- from the start of an image, that is the execution in program order
+pub in_order-reached : (a w : FlatMachine) (image : ImageState) (limits : Limits) (e : Ending) → flat_of a [] None ≡ flat_start image
+    → a.code ≡ frozen image → a.limits ≡ limits → a.output.items ≡ [] → RunsTo a w e
+    → record { ending = e; tasks = w.spawned; output = w.output.items; memory = w.space } ≡ in_order image limits
+in_order-reached a w image limits e start code limited unprinted runs =
+    let reached = runs [] (sym unprinted) in
+    let budget : a.limits.main_budget ≡ limits.main_budget = ap (λ (l : Limits). l.main_budget) limited in
+    let none : a.regs.done ≡ 0 = ap (λ (f : Flat). f.main.registers.done) start in
+    let count : a.limits.main_budget - a.regs.done ≡ limits.main_budget = omega arith in
+    (λ i. record { ending = e; tasks = w.spawned; output = sym reached.1 i; memory = w.space })
+    ∙ ap reference_of (sym reached.2)
+    ∙ (λ i. reference_of (repeated (flat_step (code i) (limited i)) (suc (count i)) (start i)))

@@ -7,3 +7,5 @@ pub mod TaskLemmas
 pub mod RunLemmas
 pub mod SpawnPlaces
 pub mod FlatLemmas
+pub mod CallLemmas
+pub mod OpenLemmas

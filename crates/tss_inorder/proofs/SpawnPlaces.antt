@@ -168,6 +168,22 @@ module _ (limits : Limits) (call : SpawnCall) (m : Memory) (named : List Range) 
         ∙ are_placed-merged m.ranges listed (entries_placed limits m (entries_at m call.list call.count) named listed (sym e)))
   task_placed (Err n) e h = absurd (cc)
 
+  task_number : (listed : Result (List Operand) ℕ) → task_checked limits call named spawned listed ≡ Ok t → t.number ≡ suc spawned
+  task_number (Ok listed) h =
+      let full = passed (nat_lt limits.epoch_objects (length (name_objects named (objects_of listed)))) epoch_full _ t h in
+      let many = passed (nat_le limits.max_tasks spawned) too_many_tasks _ t full.1 in
+      sym (ap (λ (x : Task). x.number) (same_ok (task_of call (suc spawned) listed (merged_operands listed)) t many.1))
+  task_number (Err n) h = absurd (cc)
+
+  -- a spawned task has the next number
+  pub number-spawn_of : spawn_of call m named limits spawned ≡ Ok t → t.number ≡ suc spawned
+  unfolding spawn_of
+  number-spawn_of h =
+      let few = passed (nat_lt limits.max_operands call.count) too_many_operands _ t h in
+      let placed = passed (nat_lt 0 call.count && is_misplaced m call) list_place _ t few.1 in
+      let untouched = passed (nat_lt 0 call.count && touches named (list_range call)) main_touch _ t placed.1 in
+      task_number (entries_checked limits m named (entries_at m call.list call.count)) untouched.1
+
   -- the operands of a spawned task are placed
   pub are_placed-spawn_of : spawn_of call m named limits spawned ≡ Ok t → are_placed m.ranges (operands_of t) ≡ true
   unfolding spawn_of

@@ -4,3 +4,4 @@ pub mod Left
 pub mod Running
 pub mod Endings
 pub mod Flat
+pub mod Codes
