@@ -1,9 +1,8 @@
 -- What the plain views show, and what a write leaves of their bytes.
 use Rattle.std.specs.Prelude.{ℕ, ◌-◌, ◌/◌, ◌%◌, ◌==◌, Bool, ◌&&◌, nat_le, if◌then◌else◌, List, [], ◌∷◌, length, slice_get, slice_index, Option, Some, None}
 use Rattle.tss_base.specs.declared.range.Range.{Range}
-use Rattle.tss_base.specs.declared.operand.Operand.{Operand}
-use Rattle.tss_model.specs.Memory.{MemoryRange, scratch_range, covers, list_put}
-use Rattle.tss_model.specs.Access.{MainActor, TaskActor}
+use Rattle.tss_model.specs.Memory.{MemoryRange, list_put}
+use Rattle.tss_model.specs.Access.{MainActor}
 use Rattle.tss_model.specs.Core.{Write}
 use Rattle.tss_core.specs.Views.{Sight}
 

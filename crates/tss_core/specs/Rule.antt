@@ -1,12 +1,12 @@
 -- What the calls of the rule of access answer.
-use Rattle.std.specs.Prelude.{Bool, false, if◌then◌else◌, ◌||◌, List, Option, Result, Ok, Err}
+use Rattle.std.specs.Prelude.{Bool, false, ◌||◌, List, Option, Result, Ok, Err}
 use Rattle.std.specs.List.{list_any}
 use Rattle.tss_base.specs.declared.range.Range.{Range}
 use Rattle.tss_base.specs.declared.operand.Operand.{Operand}
 use Rattle.tss_base.specs.Range.{contains}
 use Rattle.tss_model.specs.Memory.{scratch_range}
 use Rattle.tss_model.specs.Access as model
-use Rattle.tss_model.specs.Access.{Access, Granted, is_fixed, main_may, task_may_store}
+use Rattle.tss_model.specs.Access.{Access, Granted, is_fixed, task_may_store}
 use Rattle.tss_core.specs.declared.access.Purpose.{Purpose}
 use Rattle.tss_core.specs.declared.access.Purpose.TheVariants.{Loads, Stores}
 use Rattle.tss_core.specs.declared.access.Deny.{Deny}
@@ -32,20 +32,3 @@ is_owned Stores operands r = task_may_store operands r
 abbrev pub is_fixed_for : Purpose → Option Bool → Bool
 is_fixed_for Loads within = is_fixed within
 is_fixed_for Stores within = false
-
--- the rule for main, by whether the range of memory in which the access lies wholly can be written, none where it lies
--- in no single range, and by whether it touches a named object
-abbrev pub main_answer : model.Purpose → Option Bool → Bool → Access
-main_answer purpose within touched =
-    if main_may purpose within then (if touched then model.Touch else Granted)
-    else model.Denied
-
--- where a task may access, by the same
-abbrev pub task_may_within : model.Purpose → List Operand → Range → Option Bool → Bool
-task_may_within model.Loads operands r within =
-    contains scratch_range r || (list_any (λ o. contains o.object r) operands || is_fixed within)
-task_may_within model.Stores operands r within = task_may_store operands r
-
--- the rule for a task
-abbrev pub task_answer : model.Purpose → List Operand → Range → Option Bool → Access
-task_answer purpose operands r within = if task_may_within purpose operands r within then Granted else model.Denied

@@ -1,11 +1,9 @@
 // The rule of access.
-ghost use Rattle.std.specs.Prelude.{◌≡◌, ◌&&◌, ◌||◌, List, IsTrue, OnOk, IsOk};
+ghost use Rattle.std.specs.Prelude.{◌≡◌, ◌&&◌, IsTrue, OnOk, IsOk};
 ghost use Rattle.std.specs.List.{list_any};
-ghost use Rattle.tss_base.specs.declared.range.Range.{Range};
 ghost use Rattle.tss_base.specs.Range.{contains};
-ghost use Rattle.tss_model.specs.Memory.{MemoryRange, range_of};
-ghost use Rattle.tss_model.specs.Access.{touches, writes, main_may, main_access, task_access};
-ghost use Rattle.tss_core.specs.Rule.{purpose_of, allowed, is_owned, is_fixed_for, main_answer, task_answer};
+ghost use Rattle.tss_model.specs.Access.{writes, main_may, main_answer, task_may_within, task_answer};
+ghost use Rattle.tss_core.specs.Rule.{purpose_of, allowed, is_owned, is_fixed_for};
 
 use tss_base::{Mode, Operand, Range};
 
@@ -35,8 +33,6 @@ pub enum Deny {
 #[inline(always)]
 pub fn main_access(purpose: Purpose, within: Option<bool>, touched: bool) -> Result<(), Deny>
     ensures exact { result ≡ allowed (main_answer (purpose_of purpose) within touched) }
-    ensures rule { (ranges : List MemoryRange) (named : List Range) (r : Range)
-        → main_access ranges named (purpose_of purpose) r ≡ main_answer (purpose_of purpose) (range_of ranges r) (touches named r) }
     ensures placed { OnOk result (IsTrue (main_may (purpose_of purpose) within)) }
 {
     let may = match (purpose, within) {
@@ -66,10 +62,7 @@ pub fn task_access(
 ) -> Result<(), Deny>
     ensures exact { result ≡ allowed (task_answer (purpose_of purpose) operands.now r.now within) }
     ensures owned { IsTrue (is_owned purpose operands.now r.now) → IsOk result }
-    ensures rule { (ranges : List MemoryRange) (place : Range)
-        → task_access ranges operands.now (purpose_of purpose) place
-        ≡ task_answer (purpose_of purpose) operands.now place (range_of ranges place) }
-    ensures placed { OnOk result (IsTrue (is_owned purpose operands.now r.now || is_fixed_for purpose within)) }
+    ensures placed { OnOk result (IsTrue (task_may_within (purpose_of purpose) operands.now r.now within)) }
 {
     if owns(purpose, operands, r) || is_fixed(purpose, within) {
         Ok(())

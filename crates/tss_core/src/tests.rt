@@ -33,10 +33,9 @@ fn registers(x5: u32, x7: u32) -> Regs
     regs
 }
 
-#[test]
-fn results_of_executed_words(rt: HostRuntime) -> Result<(), Fail> {
-    // The word, x5 and x7 before it, the register that is looked at after it with its value, and the pc.
-    let steps = [
+/// The word, x5 and x7 before it, the register that is looked at after it with its value, and the pc after it.
+fn executed() -> [(u32, u32, u32, u8, u32, u32); 26] {
+    [
         // bne x0, x0, 2 isn't taken, so its target doesn't matter
         (0x0000_1163, 0, 0, 6, 0, 0x10004),
         // jalr x1, 1(x5) clears bit 0 of its target
@@ -74,31 +73,20 @@ fn results_of_executed_words(rt: HostRuntime) -> Result<(), Fail> {
         (0x0002_D303, 0, 0, 6, 0xFF80, 0x10004),
         (0x0002_A303, 0, 0, 6, 0x017F_FF80, 0x10004),
         (0x0002_A003, 0, 0, 0, 0, 0x10004),
-    ];
-    for (word, x5, x7, register, value, pc) in steps {
-        let mut view = view(rt.alloc(), true, word)?;
-        let mut regs = registers(x5, x7);
-        let outcome = step(&mut regs, &mut view);
-        assert_eq!(rt; outcome, Outcome::Next, "at {word}");
-        assert_eq!(rt; regs.pc(), pc, "at {word}");
-        assert_eq!(rt; regs.done(), 1);
-        assert!(rt; register < 32);
-        assert_eq!(rt; regs.get(register), value, "at {word}");
-    }
-    Ok(())
+    ]
 }
 
-#[test]
-fn words_that_are_not_executed_change_nothing(rt: HostRuntime) -> Result<(), Fail> {
-    let trap = |cause: u32, value: u32| {
-        Outcome::Trapped(Trap {
-            pc: PC,
-            cause,
-            value,
-        })
-    };
-    // The word, x5 before it, and what the step answers where nothing can be written.
-    let steps = [
+fn trap(cause: u32, value: u32) -> Outcome {
+    Outcome::Trapped(Trap {
+        pc: PC,
+        cause,
+        value,
+    })
+}
+
+/// The word, x5 before it, and what the step answers where nothing can be written.
+fn unexecuted() -> [(u32, u32, Outcome); 12] {
+    [
         // beq x0, x0, 2; jalr x5, 2(x5)
         (0x0000_0163, 0, trap(0, 0x10002)),
         (0x0022_82E7, 0x10001, trap(0, 0x10002)),
@@ -116,8 +104,40 @@ fn words_that_are_not_executed_change_nothing(rt: HostRuntime) -> Result<(), Fai
         // sw x7, 0(x5) at an address that isn't a multiple of 4, in memory that can't be written
         (0x0072_A023, 2, trap(6, 2)),
         (0x0072_A023, 4, trap(7, 4)),
-    ];
-    for (word, x5, want) in steps {
+    ]
+}
+
+/// sb, sh and sw x7, 0(x5) with x5 before them, and the first eight bytes after them.
+fn stored() -> [(u32, u32, [u8; 8]); 3] {
+    [
+        (0x0072_8023, 1, [0x80, 0xEF, 0x7F, 0x01, 0, 0, 0, 0]),
+        (0x0072_9023, 2, [0x80, 0xFF, 0xEF, 0xCD, 0, 0, 0, 0]),
+        (
+            0x0072_A023,
+            4,
+            [0x80, 0xFF, 0x7F, 0x01, 0xEF, 0xCD, 0xAB, 0x89],
+        ),
+    ]
+}
+
+#[test]
+fn results_of_executed_words(rt: HostRuntime) -> Result<(), Fail> {
+    for (word, x5, x7, register, value, pc) in executed() {
+        let mut view = view(rt.alloc(), true, word)?;
+        let mut regs = registers(x5, x7);
+        let outcome = step(&mut regs, &mut view);
+        assert_eq!(rt; outcome, Outcome::Next, "at {word}");
+        assert_eq!(rt; regs.pc(), pc, "at {word}");
+        assert_eq!(rt; regs.done(), 1);
+        assert!(rt; register < 32);
+        assert_eq!(rt; regs.get(register), value, "at {word}");
+    }
+    Ok(())
+}
+
+#[test]
+fn words_that_are_not_executed_change_nothing(rt: HostRuntime) -> Result<(), Fail> {
+    for (word, x5, want) in unexecuted() {
         let mut view = view(rt.alloc(), false, word)?;
         let mut regs = registers(x5, 9);
         assert_eq!(rt; step(&mut regs, &mut view), want, "at {word}");
@@ -129,28 +149,18 @@ fn words_that_are_not_executed_change_nothing(rt: HostRuntime) -> Result<(), Fai
     let mut ended = Regs::main(0xFFFF_FFF0);
     assert_eq!(rt; step(&mut ended, &mut view), Outcome::Ended);
     let mut outside = Regs::main(PC + 4);
-    let want = Outcome::Trapped(Trap {
+    let want = Trap {
         pc: PC + 4,
         cause: 1,
         value: PC + 4,
-    });
-    assert_eq!(rt; step(&mut outside, &mut view), want);
+    };
+    assert_eq!(rt; step(&mut outside, &mut view), Outcome::Trapped(want));
     Ok(())
 }
 
 #[test]
 fn stores_write_their_bytes_alone(rt: HostRuntime) -> Result<(), Fail> {
-    // sb, sh and sw x7, 0(x5), and the first eight bytes after them.
-    let steps = [
-        (0x0072_8023, 1, [0x80, 0xEF, 0x7F, 0x01, 0, 0, 0, 0]),
-        (0x0072_9023, 2, [0x80, 0xFF, 0xEF, 0xCD, 0, 0, 0, 0]),
-        (
-            0x0072_A023,
-            4,
-            [0x80, 0xFF, 0x7F, 0x01, 0xEF, 0xCD, 0xAB, 0x89],
-        ),
-    ];
-    for (word, x5, want) in steps {
+    for (word, x5, want) in stored() {
         let mut view = view(rt.alloc(), true, word)?;
         let mut regs = registers(x5, 0x89AB_CDEF);
         assert_eq!(rt; step(&mut regs, &mut view), Outcome::Next);

@@ -1,9 +1,11 @@
 -- What holds of each two elements of a list, in whatever order they stand, and headers whose segments share an address.
-use Rattle.std.proofs.Common.{◌≡◌, ◌≢◌, ℕ, suc, zero, ◌+◌, ◌-◌, ◌<◌, ◌≤◌, Bool, true, false, List, [], ◌∷◌, length, get_or, refl, sym, ap, ◌∙◌, subst, inl, inr, arith, swap}
+use Rattle.std.proofs.Common.{◌≡◌, ◌≢◌, ℕ, suc, zero, ◌+◌, ◌-◌, ◌<◌, ◌≤◌, Bool, true, false, List, [], ◌∷◌, length}
+use Rattle.std.proofs.Common.{get_or, refl, sym, ap, ◌∙◌, subst, inl, inr, arith, swap}
 use Rattle.std.specs.Prelude.{All, AllPairs}
 use Rattle.std.specs.List.{list_any}
 use Rattle.std.specs.List.Sorted.{IsPermutation, IsNonDecreasingBy}
-use Rattle.std.proofs.lemmas.Bool.{cases_eq, cases_order, cases_Bool, or_parts, or_from, true_from_ne_false, false_from_ne_true, both_ways}
+use Rattle.std.proofs.lemmas.Bool.{cases_eq, cases_order, cases_Bool, or_parts, or_from, true_from_ne_false}
+use Rattle.std.proofs.lemmas.Bool.{false_from_ne_true, both_ways}
 use Rattle.std.proofs.lemmas.Bool.Decides.{nat_tests}
 use Rattle.std.proofs.lemmas.List.{get_or_default}
 use Rattle.std.proofs.lemmas.List.Edits.{length-swap, swapped_from_swap}
@@ -24,7 +26,8 @@ AllPairs-tail R x xs h i j d below within = h (suc i) (suc j) d (omega arith) (o
 
 module _ {X : Type 0} (R : X → X → Type 0) (symmetric : (x y : X) → R x y → R y x) where
   -- two places, whichever comes first
-  at_two : (xs : List X) → AllPairs R xs → (i j : ℕ) (d : X) → i ≢ j → i < length xs → j < length xs → R (get_or xs i d) (get_or xs j d)
+  at_two : (xs : List X) → AllPairs R xs → (i j : ℕ) (d : X) → i ≢ j → i < length xs → j < length xs
+      → R (get_or xs i d) (get_or xs j d)
   at_two xs h i j d apart li lj = elim (cases_order i j) [
     | inl same ↦ absurd (apart same)
     | inr (inl below) ↦ h i j d below lj
@@ -32,9 +35,11 @@ module _ {X : Type 0} (R : X → X → Type 0) (symmetric : (x y : X) → R x y 
   ]
 
   -- two places of a list that has the elements of two other places of this one
-  at_moved : (xs ys : List X) (i j p q : ℕ) (d : X) → AllPairs R xs → p ≢ q → p < length xs → q < length xs → get_or ys i d ≡ get_or xs p d → get_or ys j d ≡ get_or xs q d → R (get_or ys i d) (get_or ys j d)
+  at_moved : (xs ys : List X) (i j p q : ℕ) (d : X) → AllPairs R xs → p ≢ q → p < length xs → q < length xs
+      → get_or ys i d ≡ get_or xs p d → get_or ys j d ≡ get_or xs q d → R (get_or ys i d) (get_or ys j d)
   at_moved xs ys i j p q d h apart lp lq at_i at_j =
-      subst (λ y. R y (get_or ys j d)) (sym at_i) (subst (λ y. R (get_or xs p d) y) (sym at_j) (at_two xs h p q d apart lp lq))
+      subst (λ y. R y (get_or ys j d)) (sym at_i)
+      (subst (λ y. R (get_or xs p d) y) (sym at_j) (at_two xs h p q d apart lp lq))
 
   -- two elements that change places
   AllPairs-swap : (xs : List X) (a b : ℕ) → a < length xs → b < length xs → AllPairs R xs → AllPairs R (swap xs a b)
@@ -85,7 +90,8 @@ pub apart_from_order : (g h : ProgramHeader) → end_of (range_of g) ≤ h.addre
 apart_from_order g h e = grind (arith, nat_tests)
 
 -- one that doesn't, though it begins no later
-pub shared_from_order : (g h : ProgramHeader) → g.address ≤ h.address → 0 < h.memory_size → h.address < end_of (range_of g) → shares_address g h ≡ true
+pub shared_from_order : (g h : ProgramHeader) → g.address ≤ h.address → 0 < h.memory_size
+    → h.address < end_of (range_of g) → shares_address g h ≡ true
 shared_from_order g h up some past = grind (arith, nat_tests)
 
 -- no overlap, as a fact of each two
@@ -105,26 +111,42 @@ test_from_apart (h ∷ hs) p =
 -- the test has one answer in any order
 pub has_overlap-IsPermutation : (xs ys : List ProgramHeader) → IsPermutation xs ys → has_overlap xs ≡ has_overlap ys
 has_overlap-IsPermutation xs ys moved =
-    let there = λ (e : has_overlap xs ≡ false). test_from_apart ys (AllPairs-IsPermutation AreApart shares_address-sym xs ys moved (apart_from_test xs e)) in
-    let back = λ (e : has_overlap ys ≡ false). test_from_apart xs (AllPairs-IsPermutation AreApart shares_address-sym ys xs (IsPermutation-sym xs ys moved) (apart_from_test ys e)) in
+    let there =
+    λ (e : has_overlap xs ≡ false). test_from_apart ys
+    (AllPairs-IsPermutation AreApart shares_address-sym xs ys moved (apart_from_test xs e)) in
+    let back =
+    λ (e : has_overlap ys ≡ false). test_from_apart xs
+    (AllPairs-IsPermutation AreApart shares_address-sym ys xs (IsPermutation-sym xs ys moved)
+    (apart_from_test ys e)) in
     elim (cases_Bool (has_overlap xs)) [
-      | inl shared ↦ shared ∙ sym (true_from_ne_false (has_overlap ys) (λ e. both_ways (has_overlap xs) (back e) shared))
+      | inl shared ↦ shared ∙ sym (true_from_ne_false (has_overlap ys)
+          (λ e. both_ways (has_overlap xs) (back e) shared))
       | inr apart ↦ apart ∙ sym (there apart)
     ]
 
 -- in the order of the addresses each ends before a later one begins, where each ends before the next begins
-pub rising_from_neighbours : (hs : List ProgramHeader) → IsNonDecreasingBy (λ h. h.address) hs → ((k : ℕ) (d : ProgramHeader) → k + 1 < length hs → end_of (range_of (get_or hs k d)) ≤ (get_or hs (k + 1) d).address) → AllPairs (λ g h. end_of (range_of g) ≤ h.address) hs
+pub rising_from_neighbours : (hs : List ProgramHeader) → IsNonDecreasingBy (λ h. h.address) hs
+    → ((k : ℕ) (d : ProgramHeader) → k + 1 < length hs
+    → end_of (range_of (get_or hs k d)) ≤ (get_or hs (k + 1) d).address)
+    → AllPairs (λ g h. end_of (range_of g) ≤ h.address) hs
 rising_from_neighbours hs sorted next i j d below within =
     let one = next i d (omega arith) in
     let far = sorted (i + 1) j d (omega arith) within in
     omega arith
 
-pub no_overlap_from_neighbours : (hs : List ProgramHeader) → AllPairs (λ g h. end_of (range_of g) ≤ h.address) hs → has_overlap hs ≡ false
-no_overlap_from_neighbours hs rising = test_from_apart hs (λ i j d below within. apart_from_order (get_or hs i d) (get_or hs j d) (rising i j d below within))
+pub no_overlap_from_neighbours : (hs : List ProgramHeader) → AllPairs (λ g h. end_of (range_of g) ≤ h.address) hs
+    → has_overlap hs ≡ false
+no_overlap_from_neighbours hs rising =
+    test_from_apart hs (λ i j d below within. apart_from_order (get_or hs i d) (get_or hs j d)
+    (rising i j d below within))
 
 -- and two neighbours that share an address are an overlap
-pub overlap_at_neighbours : (hs : List ProgramHeader) (i : ℕ) (d : ProgramHeader) → IsNonDecreasingBy (λ h. h.address) hs → All (λ h. 0 < h.memory_size) hs → 0 < i → i < length hs → (get_or hs i d).address < end_of (range_of (get_or hs (i - 1) d)) → has_overlap hs ≡ true
+pub overlap_at_neighbours : (hs : List ProgramHeader) (i : ℕ) (d : ProgramHeader)
+    → IsNonDecreasingBy (λ h. h.address) hs → All (λ h. 0 < h.memory_size) hs → 0 < i → i < length hs
+    → (get_or hs i d).address < end_of (range_of (get_or hs (i - 1) d)) → has_overlap hs ≡ true
 overlap_at_neighbours hs i d sorted some later within past =
     let up = sorted (i - 1) i d (omega arith) within in
     let shared = shared_from_order (get_or hs (i - 1) d) (get_or hs i d) up (some i d within) past in
-    true_from_ne_false (has_overlap hs) (λ e. both_ways (shares_address (get_or hs (i - 1) d) (get_or hs i d)) (apart_from_test hs e (i - 1) i d (omega arith) within) shared)
+    true_from_ne_false (has_overlap hs)
+    (λ e. both_ways (shares_address (get_or hs (i - 1) d) (get_or hs i d))
+    (apart_from_test hs e (i - 1) i d (omega arith) within) shared)

@@ -1,5 +1,6 @@
 -- The checks that an image has to pass, in their order, and the first that fails.
-use Rattle.std.specs.Prelude.{ℕ, ◌+◌, ◌*◌, ◌%◌, ◌==◌, nat_lt, nat_eq, Bool, false, ◌&&◌, ◌||◌, not, if◌then◌else◌, List, [], ◌∷◌, ◌++◌, length, slice_index, flat_map, sum_by, Option, None, Some}
+use Rattle.std.specs.Prelude.{ℕ, ◌+◌, ◌*◌, ◌%◌, ◌==◌, nat_lt, nat_eq, Bool, false, ◌&&◌, ◌||◌, not, if◌then◌else◌, List}
+use Rattle.std.specs.Prelude.{[], ◌∷◌, ◌++◌, length, slice_index, flat_map, sum_by, Option, None, Some}
 use Rattle.std.specs.Int.{bit_at}
 use Rattle.std.specs.List.{list_any, starts_with}
 use Rattle.tss_base.specs.Image.{segments_end, max_segments, max_image_bytes}
@@ -7,9 +8,12 @@ use Rattle.tss_base.specs.Range.{end_of, meets, contains}
 use Rattle.tss_elf.specs.declared.header.ProgramHeader.{ProgramHeader}
 use Rattle.tss_elf.specs.declared.refusal.Refusal.{Refusal}
 use Rattle.tss_elf.specs.declared.refusal.Refusal.TheVariants as check
-use Rattle.tss_elf.specs.Fields.{half_at, word_at, file_header_len, program_header_len, entry_of, headers_place, header_size, header_count, headers, is_loaded, kept_headers, is_code, range_of}
+use Rattle.tss_elf.specs.Fields.{half_at, word_at, file_header_len, program_header_len, entry_of, headers_place}
+use Rattle.tss_elf.specs.Fields.{header_size, header_count, headers, is_loaded, kept_headers, is_code, range_of}
 
--- Of the file header. It has fewer bytes than a file header
+-- The tests, each of which says that its check fails.
+
+-- of the file header: it isn't there whole
 abbrev pub is_short : List ℕ → Bool
 is_short bytes = nat_lt (length bytes) file_header_len
 
@@ -46,26 +50,31 @@ has_float_abi bytes = names_float_abi (word_at bytes 36)
 
 -- it has too many program headers, or some of another length
 abbrev pub has_bad_header_size : List ℕ → Bool
-has_bad_header_size bytes = nat_lt max_segments (header_count bytes) || nat_lt 0 (header_count bytes) && not (header_size bytes == program_header_len)
+has_bad_header_size bytes =
+    nat_lt max_segments (header_count bytes)
+    || nat_lt 0 (header_count bytes) && not (header_size bytes == program_header_len)
 
 -- it has program headers that pass the end of the file
 abbrev pub has_misplaced_headers : List ℕ → Bool
 has_misplaced_headers bytes =
-    nat_lt 0 (header_count bytes) && nat_lt (length bytes) (headers_place bytes + program_header_len * header_count bytes)
+    nat_lt 0 (header_count bytes)
+    && nat_lt (length bytes) (headers_place bytes + program_header_len * header_count bytes)
 
--- Of a program header. It asks for a dynamic linker
+-- of a program header: it asks for a dynamic linker
 abbrev pub is_dynamic : ProgramHeader → Bool
 is_dynamic h = h.kind == 2 || h.kind == 3
 
 -- its bytes pass the end of a file of this length, or its segment passes the last address that a segment may have
 abbrev pub is_misplaced : ℕ → ProgramHeader → Bool
-is_misplaced file_len h = is_loaded h && (nat_lt file_len (h.offset + h.file_size) || nat_lt segments_end (end_of (range_of h)))
+is_misplaced file_len h =
+    is_loaded h
+    && (nat_lt file_len (h.offset + h.file_size) || nat_lt segments_end (end_of (range_of h)))
 
 -- more bytes of the file than of memory belong to it
 abbrev pub is_oversized : ProgramHeader → Bool
 is_oversized h = is_loaded h && nat_lt h.memory_size h.file_size
 
--- Of the kept segments together. Some two share an address
+-- of the kept segments together: some two share an address
 abbrev pub shares_address : ProgramHeader → ProgramHeader → Bool
 shares_address g h = meets (range_of g) (range_of h)
 
@@ -84,7 +93,7 @@ has_code_at entry h = is_code h && contains (range_of h) (record { base = entry;
 abbrev pub has_misplaced_entry : ℕ → List ProgramHeader → Bool
 has_misplaced_entry entry hs = not (entry % 4 == 0) || not (list_any (has_code_at entry) hs)
 
--- they have too many bytes
+-- they have too many bytes together
 abbrev pub is_too_large : List ProgramHeader → Bool
 is_too_large hs = nat_lt max_image_bytes (sum_by (λ h. h.memory_size) hs)
 
@@ -118,10 +127,13 @@ kept_checks entry hs =
     ∷ (check.TooLarge, is_too_large hs)
     ∷ []
 
--- all of them: those of one program header come before those of the next
+-- those of one program header come before those of the next
+abbrev pub each_header_checks : List ℕ → List (Refusal × Bool)
+each_header_checks bytes = flat_map (header_checks (length bytes)) (headers bytes)
+
+-- all of them
 unfoldable pub checks : List ℕ → List (Refusal × Bool)
-checks bytes =
-    file_checks bytes ++ flat_map (header_checks (length bytes)) (headers bytes) ++ kept_checks (entry_of bytes) (kept_headers bytes)
+checks bytes = file_checks bytes ++ each_header_checks bytes ++ kept_checks (entry_of bytes) (kept_headers bytes)
 
 -- the first that fails
 abbrev pub first_failing : List (Refusal × Bool) → Option Refusal

@@ -1,5 +1,6 @@
 -- The image that a list of bytes is, or the number of the first check that it fails.
-use Rattle.std.specs.Prelude.{◌≡◌, ℕ, ◌+◌, ◌-◌, ◌<◌, ◌≤◌, nat_le, if◌then◌else◌, List, [], ◌∷◌, ◌++◌, map, take, drop, replicate, Option, None, Some, option_map, Result, Ok, Err}
+use Rattle.std.specs.Prelude.{◌≡◌, ℕ, ◌+◌, ◌-◌, ◌<◌, ◌≤◌, nat_le, if◌then◌else◌, List, [], ◌∷◌, ◌++◌, map, take, drop}
+use Rattle.std.specs.Prelude.{replicate, Option, None, Some, option_map, Result, Ok, Err}
 use Rattle.tss_base.specs.Image.{SegmentState, ImageState, segments_end}
 use Rattle.tss_elf.specs.declared.header.ProgramHeader.{ProgramHeader}
 use Rattle.tss_elf.specs.declared.refusal.ImageFault.{ImageFault}
@@ -58,7 +59,10 @@ by_address (h ∷ hs) = put_by_address h (by_address hs)
 
 -- the entry, and the kept segments in address order
 abbrev pub loaded_image : List ℕ → ImageState
-loaded_image bytes = record { entry = entry_of bytes; segments = map (segment_of bytes) (by_address (kept_headers bytes)) }
+loaded_image bytes = record {
+  entry = entry_of bytes;
+  segments = map (segment_of bytes) (by_address (kept_headers bytes));
+}
 
 abbrev pub verdict_on : List ℕ → Option Refusal → Verdict
 verdict_on bytes (Some refusal) = Refused (number_of refusal)

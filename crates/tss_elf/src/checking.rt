@@ -5,7 +5,7 @@ ghost use Rattle.std.specs.List.Sorted.{IsNonDecreasingBy};
 ghost use Rattle.std.specs.Result.{result_err};
 ghost use Rattle.tss_base.specs.Image.{max_segments};
 ghost use Rattle.tss_elf.specs.Fields.{header_count, headers_place, is_code};
-ghost use Rattle.tss_elf.specs.Checks.{first_failing, file_checks, names_float_abi, kept_checks, has_overlap as has_overlapping, has_code_at};
+ghost use Rattle.tss_elf.specs.Checks.{first_failing, file_checks, names_float_abi, kept_checks, has_overlap, has_code_at};
 
 use crate::header::{HEADER_LEN, ProgramHeader};
 use crate::number::{u16_at, u32_at};
@@ -33,7 +33,8 @@ pub fn check_file(bytes: &[u8]) -> Result<(), Refusal>
     ensures first { result_err result ≡ first_failing (file_checks bytes.now) }
     ensures whole { OnOk result (52 ≤ length bytes.now) }
     ensures few { OnOk result (header_count bytes.now ≤ max_segments) }
-    ensures placed { OnOk result (0 < header_count bytes.now → headers_place bytes.now + 32 * header_count bytes.now ≤ length bytes.now) }
+    ensures placed { OnOk result (0 < header_count bytes.now
+        → headers_place bytes.now + 32 * header_count bytes.now ≤ length bytes.now) }
 {
     if bytes.len() < FILE_HEADER_LEN {
         return Err(Refusal::Short);
@@ -73,7 +74,7 @@ pub fn check_file(bytes: &[u8]) -> Result<(), Refusal>
 fn overlaps(kept: &[ProgramHeader]) -> bool
     requires sorted { IsNonDecreasingBy (λ h. h.address) kept.now }
     requires some { All (λ h. 0 < h.memory_size) kept.now }
-    ensures { result ≡ has_overlapping kept.now }
+    ensures { result ≡ has_overlap kept.now }
 {
     for i in 1..kept.len() {
         if kept[i - 1].range().end() > u64::from(kept[i].address) {

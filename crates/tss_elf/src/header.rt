@@ -1,8 +1,8 @@
 // Program headers.
 ghost use Rattle.std.specs.Prelude.{◌≡◌, ◌+◌, ◌≤◌, length};
 ghost use Rattle.std.specs.Result.{result_err};
-ghost use Rattle.tss_elf.specs.Fields.{header_at, range_of as span_of, is_kept as is_kept_header, is_code as is_code_header, is_writable as is_writable_header};
-ghost use Rattle.tss_elf.specs.Checks.{first_failing, header_checks, has_code_at as has_code_at_entry};
+ghost use Rattle.tss_elf.specs.Fields.{header_at, range_of, is_kept, is_code, is_writable};
+ghost use Rattle.tss_elf.specs.Checks.{first_failing, header_checks, has_code_at};
 
 use crate::number::u32_at;
 use crate::refusal::Refusal;
@@ -71,14 +71,14 @@ impl ProgramHeader {
 
     /// Whether its segment is loaded and has a byte.
     pub fn is_kept(&self) -> bool
-        ensures { result ≡ is_kept_header self.now }
+        ensures { result ≡ is_kept self.now }
     {
         self.kind == LOADED && self.memory_size > 0
     }
 
     /// The addresses of its segment.
     pub fn range(&self) -> Range
-        ensures { result ≡ span_of self.now }
+        ensures { result ≡ range_of self.now }
     {
         Range {
             base: self.address,
@@ -88,21 +88,21 @@ impl ProgramHeader {
 
     /// Whether its segment can be executed.
     pub fn is_code(&self) -> bool
-        ensures { result ≡ is_code_header self.now }
+        ensures { result ≡ is_code self.now }
     {
         self.flags & EXECUTABLE != 0
     }
 
     /// Whether its segment can be written.
     pub fn is_writable(&self) -> bool
-        ensures { result ≡ is_writable_header self.now }
+        ensures { result ≡ is_writable self.now }
     {
         self.flags & WRITABLE != 0
     }
 
     /// Whether the four bytes from `entry` on lie in its segment, and it can be executed.
     pub fn has_code_at(&self, entry: u32) -> bool
-        ensures { result ≡ has_code_at_entry entry self.now }
+        ensures { result ≡ has_code_at entry self.now }
     {
         self.is_code()
             && self.range().contains(&Range {

@@ -1,9 +1,9 @@
 // From bytes to an image.
-ghost use Rattle.std.specs.Prelude.{◌≡◌, ◌+◌, ◌*◌, ◌<◌, ◌≤◌, length, flat_map, All, IfOk, IfErr, map, None};
+ghost use Rattle.std.specs.Prelude.{◌≡◌, ◌+◌, ◌*◌, ◌<◌, ◌≤◌, length, All, IfOk, IfErr, map, None};
 ghost use Rattle.std.specs.List.Sorted.{IsNonDecreasingBy, IsPermutation};
 ghost use Rattle.tss_base.specs.Image.{IsAccepted};
-ghost use Rattle.tss_elf.specs.Fields.{headers, headers_place, header_count, kept_headers as kept_of};
-ghost use Rattle.tss_elf.specs.Checks.{first_failing, file_checks, header_checks};
+ghost use Rattle.tss_elf.specs.Fields.{headers_place, header_count, kept_headers as kept_of};
+ghost use Rattle.tss_elf.specs.Checks.{each_header_checks, first_failing, file_checks};
 ghost use Rattle.tss_elf.specs.Elf.{CanLoad, Passes, segment_of, image_of, Gives, IfAccepted};
 
 use crate::checking::{check_file, check_kept};
@@ -16,8 +16,10 @@ use tss_base::{Image, Segment};
 /// The headers of the kept segments, in the order of the file, where every header passes its checks.
 fn kept_headers(alloc: Global, bytes: &[u8]) -> Result<Vec<ProgramHeader>, ImageFault>
     requires whole { 52 ≤ length bytes.now }
-    requires placed { 0 < header_count bytes.now → headers_place bytes.now + 32 * header_count bytes.now ≤ length bytes.now }
-    ensures { Passes result (first_failing (flat_map (header_checks (length bytes.now)) (headers bytes.now))) (λ kept. kept.items ≡ kept_of bytes.now) }
+    requires placed { 0 < header_count bytes.now
+        → headers_place bytes.now + 32 * header_count bytes.now ≤ length bytes.now }
+    ensures { Passes result (first_failing (each_header_checks bytes.now))
+        (λ kept. kept.items ≡ kept_of bytes.now) }
 {
     let place = u32_at(bytes, 28) as usize;
     let count = usize::from(u16_at(bytes, 44));
@@ -80,7 +82,7 @@ fn segments(
 /// The image of a file whose headers pass, from those that are kept in the order of their addresses.
 fn load(alloc: Global, bytes: &[u8], kept: &[ProgramHeader]) -> Result<Image, ImageFault>
     requires file { first_failing (file_checks bytes.now) ≡ None }
-    requires each { first_failing (flat_map (header_checks (length bytes.now)) (headers bytes.now)) ≡ None }
+    requires each { first_failing (each_header_checks bytes.now) ≡ None }
     requires all { IsPermutation (kept_of bytes.now) kept.now }
     requires sorted { IsNonDecreasingBy (λ h. h.address) kept.now }
     ensures { Gives result (image_of bytes.now) }
@@ -102,3 +104,6 @@ pub fn read_image(alloc: Global, bytes: &[u8]) -> Result<Image, ImageFault>
     sort_by_address(&mut kept);
     load(alloc, bytes, &kept)
 }
+
+#[cfg(test)]
+mod tests;

@@ -1,13 +1,14 @@
 -- How many entries a finite map has, induction over its entries, and a search among them.
-use Rattle.std.proofs.Common.{◌≡◌, ℕ, zero, suc, ◌+◌, ◌-◌, ◌<◌, ◌≤◌, Bool, true, false, cond, Some, None, refl, sym, ap, ◌∙◌, subst, arith, inl, inr, ◌⊎◌}
+use Rattle.std.proofs.Common.{◌≡◌, ◌≢◌, ℕ, zero, suc, ◌+◌, ◌-◌, ◌<◌, ◌≤◌, Bool, true, false, cond, Some, None, refl, sym, ap, ◌∙◌, subst, arith, inl, inr, ◌⊎◌}
 use Rattle.std.specs.Prelude.{is_some, List, [], ◌∷◌, length}
 use Rattle.std.specs.declared.cmp.Ordering.{Ordering}
 use Rattle.std.specs.Ordering.{nat_cmp}
 use Rattle.std.specs.FinMap.{FinMap, empty, get, insert, remove, len, entries, get-entries, len-entries, get-empty, len-empty, len-insert, len-remove, empty_of_len}
 use Rattle.std.specs.FinMap.Entries.{find}
 use Rattle.std.proofs.lemmas.Option.{none-some}
+use Rattle.tss_maps.specs.Below.{all_below}
 use Rattle.tss_maps.proofs.Keys.{IsKeyOrder, nat_order, decide_key, same_key}
-use Rattle.tss_maps.proofs.Changes.{decide_get, apart_absent, at_inserted, beside_inserted, at_removed, beside_removed, from_inserted, insert_removed}
+use Rattle.tss_maps.proofs.Changes.{decide_get, apart_absent, at_inserted, beside_inserted, at_removed, beside_removed, from_inserted, insert_removed, remove_inserted}
 
 module _ {K X : Type 0} {R : K → K → Ordering} where
   -- where something stands, the map isn't empty
@@ -138,24 +139,35 @@ pub len_at_most : {K X Y : Type 0} {R : K → K → Ordering} (order : IsKeyOrde
     ((k : K) (x : X) → get m k ≡ Some x → (y : Y) × (get n k ≡ Some y)) → len m ≤ len n
 len_at_most order m n goes = len_into order order (λ k x. k) m n goes (λ k q x y e g same. same)
 
--- the map that has nothing but the keys below n
-all_below : ℕ → FinMap nat_cmp (Unit {0})
-all_below zero = empty
-all_below (suc n) = insert (all_below n) n tt
-
-len-all_below : (n : ℕ) → len (all_below n) ≤ n
-unfolding all_below
-len-all_below zero = let z = len-empty nat_cmp (Unit {0}) in omega (arith, z)
-len-all_below (suc n) =
-    let one = len_inserted nat_order (all_below n) n tt in let rest = len-all_below n in omega (arith, one, rest)
-
-get-all_below : (n k : ℕ) → k < n → get (all_below n) k ≡ Some tt
+-- each number below n is one of them
+pub get-all_below : (n k : ℕ) → k < n → get (all_below n) k ≡ Some tt
 unfolding all_below
 get-all_below zero k h = absurd (omega arith)
 get-all_below (suc n) k h = elim (decide_key nat_order k n) [
   | inl same ↦ ap (get (insert (all_below n) n tt)) same ∙ at_inserted nat_order (all_below n) n tt
   | inr apart ↦ beside_inserted nat_order (all_below n) n tt k apart ∙ get-all_below n k (omega arith)
 ]
+
+-- no other is
+pub absent_all_below : (n k : ℕ) → n ≤ k → get (all_below n) k ≡ None
+unfolding all_below
+absent_all_below zero k h = get-empty nat_cmp k
+absent_all_below (suc n) k h =
+    beside_inserted nat_order (all_below n) n tt k (omega arith) ∙ absent_all_below n k (omega arith)
+
+-- they are n
+pub len-all_below : (n : ℕ) → len (all_below n) ≡ n
+unfolding all_below
+len-all_below zero = len-empty nat_cmp (Unit {0})
+len-all_below (suc n) =
+    let one = len_added nat_order (all_below n) n tt (absent_all_below n n (omega arith)) in
+    let rest = len-all_below n in
+    omega (arith, one, rest)
+
+-- the numbers below n + 1 but n are those below n
+pub remove-all_below : (n : ℕ) → remove (all_below (suc n)) n ≡ all_below n
+unfolding all_below
+remove-all_below n = remove_inserted nat_order (all_below n) n tt (absent_all_below n n (omega arith))
 
 -- entries that hold places below n, no two the same, are at most n
 pub len_within_places : {K X : Type 0} {R : K → K → Ordering} (order : IsKeyOrder R) (place : K → X →
@@ -170,3 +182,18 @@ len_within_places order place m n within apart =
 -- a map under numbers below n has at most n entries
 pub len_below : {X : Type 0} (m : FinMap nat_cmp X) (n : ℕ) → ((k : ℕ) (x : X) → get m k ≡ Some x → k < n) → len m ≤ n
 len_below m n within = len_within_places nat_order (λ k x. k) m n within (λ k q x y e g same. same)
+
+-- a map that has as many entries as there are numbers below n, and none but under those, has each
+pub len_full : {X : Type 0} (m : FinMap nat_cmp X) (n k : ℕ) → ((q : ℕ) (x : X) → get m q ≡ Some x → q < n) →
+    len m ≡ n →
+    k < n → get m k ≢ None
+len_full m n k within full h absent = elim (some_entry nat_order m) [
+  | inl none ↦ absurd (omega (arith, none, full, h))
+  | inr there ↦
+      let more = len_added nat_order m k there.1 absent in
+      let few = len_below (insert m k there.1) n (λ q x e. elim (from_inserted nat_order m k there.1 q x e) [
+        | inl same ↦ let here = same.0 in omega (arith, here, h)
+        | inr before ↦ within q x before.1
+      ]) in
+      omega (arith, more, few, full)
+]

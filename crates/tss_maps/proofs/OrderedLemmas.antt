@@ -1,6 +1,6 @@
 -- The entries of a finite map by place, its keys in order, the least key and the least above another.
 use Rattle.std.proofs.Common.{◌≡◌, ℕ, zero, suc, ◌<◌, ◌≤◌, ◌≢◌, true, false, Option, Some, None, refl, sym, ap, ◌∙◌, arith, inl, inr}
-use Rattle.std.specs.Prelude.{slice_get, map, List, [], ◌∷◌, length, option_map}
+use Rattle.std.specs.Prelude.{slice_get, map, option_map}
 use Rattle.std.specs.declared.cmp.Ordering.{Ordering}
 use Rattle.std.specs.declared.cmp.Ordering.TheVariants.{Less, Equal, Greater}
 use Rattle.std.specs.Ordering.{is_lt}
@@ -10,7 +10,7 @@ use Rattle.std.proofs.lemmas.Option.{none-some, same_Some, slice_get_within, sli
 use Rattle.tss_maps.specs.Ordered.{key_at, least, least_above}
 use Rattle.tss_maps.proofs.Keys.{IsKeyOrder, nat_order, below_from_less, decide_key, not_both_below, compare_keys, apart_below, turned}
 use Rattle.tss_maps.proofs.Entries.{absent_empty}
-use Rattle.tss_maps.proofs.Places.{find_first, find_there, find_nowhere, rising, find_at, place_of, keys_put}
+use Rattle.tss_maps.proofs.Places.{not_past, find_first, find_there, find_nowhere, entry_of_key, rising, find_at, place_of, keys_put}
 
 -- what the test of an answer says
 less_from_test : (r : Ordering) → is_lt r ≡ true → r ≡ Less
@@ -22,11 +22,6 @@ test_not_less : (r : Ordering) → r ≡ Less → is_lt r ≡ false → ⊥
 test_not_less Less e f = absurd (cc)
 test_not_less Equal e f = absurd (cc)
 test_not_less Greater e f = absurd (cc)
-
-not_past : {A : Type 0} (xs : List A) (i : ℕ) → i < length xs → slice_get xs i ≡ None → ⊥
-not_past [] i h e = omega arith
-not_past (x ∷ xs) zero h e = none-some x (sym e)
-not_past (x ∷ xs) (suc i) h e = not_past xs i (omega arith) e
 
 module _ {K X : Type 0} {R : K → K → Ordering} (order : IsKeyOrder R) where
   -- what stands at a place of the entries stands under its key
@@ -44,16 +39,11 @@ module _ {K X : Type 0} {R : K → K → Ordering} (order : IsKeyOrder R) where
   unfolding key_at
   key_at-entries m i = slice_get-map (λ e. e.0) (entries m) i
 
-  key_by : (m : FinMap R X) (i : ℕ) (k : K) (o : Option (K × X)) → slice_get (entries m) i ≡ o →
-      option_map (λ e. e.0) o ≡ Some k →
-      (x : X) × (slice_get (entries m) i ≡ Some (k, x))
-  key_by m i k None e h = absurd (none-some k h)
-  key_by m i k (Some p) e h = (p.1, e ∙ (λ i. Some (same_Some p.0 k h i, p.1)))
-
   -- a key at a place has its entry there
   pub entry_from_key : (m : FinMap R X) (i : ℕ) (k : K) → key_at m i ≡ Some k →
       (x : X) × (slice_get (entries m) i ≡ Some (k, x))
-  entry_from_key m i k e = key_by m i k (slice_get (entries m) i) refl (sym (key_at-entries m i) ∙ e)
+  unfolding key_at
+  entry_from_key m i k e = entry_of_key (entries m) i k e
 
   -- under a key at a place something stands
   pub key_there : (m : FinMap R X) (i : ℕ) (k : K) → key_at m i ≡ Some k → (x : X) × (get m k ≡ Some x)

@@ -1,12 +1,12 @@
 -- Lists of entries in the order of their keys, by place, and the first of a list that passes a test.
-use Rattle.std.proofs.Common.{◌≡◌, ℕ, zero, suc, ◌<◌, Bool, true, false, cond, Some, None, refl, sym, ap, ◌∙◌, arith}
-use Rattle.std.specs.Prelude.{T, ◌&&◌, slice_get, map, List, [], ◌∷◌}
+use Rattle.std.proofs.Common.{◌≡◌, option_map, ℕ, zero, suc, ◌<◌, Bool, true, false, cond, Option, Some, None, refl, sym, ap, ◌∙◌, arith}
+use Rattle.std.specs.Prelude.{T, length, ◌&&◌, slice_get, map, List, [], ◌∷◌}
 use Rattle.std.specs.declared.cmp.Ordering.{Ordering}
 use Rattle.std.specs.declared.cmp.Ordering.TheVariants.{Less, Equal, Greater}
 use Rattle.std.specs.Ordering.{is_eq, is_lt, eq_by_cmp}
 use Rattle.std.specs.List.{find as find_if}
 use Rattle.std.specs.FinMap.Entries.{put, find, is_sorted, below_all, by_order}
-use Rattle.std.proofs.lemmas.Option.{none-some, same_Some}
+use Rattle.std.proofs.lemmas.Option.{none-some, same_Some, slice_get-map}
 use Rattle.tss_maps.proofs.Keys.{IsKeyOrder, same_key, other_key, apart_below, not_both_below}
 
 first : (a b : Bool) → T (a && b) → T a
@@ -21,6 +21,12 @@ less : (o : Ordering) → T (is_lt o) → o ≡ Less
 less Less p = refl
 less Equal p = absurd p
 less Greater p = absurd p
+
+-- at a place within a list something stands
+pub not_past : {A : Type 0} (xs : List A) (i : ℕ) → i < length xs → slice_get xs i ≡ None → ⊥
+not_past [] i h e = omega arith
+not_past (x ∷ xs) zero h e = none-some x (sym e)
+not_past (x ∷ xs) (suc i) h e = not_past xs i (omega arith) e
 
 -- what find answers stands at the first place that passes
 pub find_first : {A : Type 0} (p : A → Bool) (xs : List A) (j : ℕ) →
@@ -69,6 +75,18 @@ pub find_nowhere : {A : Type 0} (p : A → Bool) (xs : List A) → find_if p xs 
 find_nowhere p [] none i y e = absurd (none-some y e)
 find_nowhere p (x ∷ xs) none zero y e = ap p (sym (same_Some x y e)) ∙ (none_by p x xs (p x) refl none).0
 find_nowhere p (x ∷ xs) none (suc i) y e = find_nowhere p xs (none_by p x xs (p x) refl none).1 i y e
+
+module _ {K X : Type 0} where
+  entry_by : (es : List (K × X)) (i : ℕ) (k : K) (o : Option (K × X)) → slice_get es i ≡ o →
+      option_map (λ e. e.0) o ≡ Some k →
+      (x : X) × (slice_get es i ≡ Some (k, x))
+  entry_by es i k None e h = absurd (none-some k h)
+  entry_by es i k (Some p) e h = (p.1, e ∙ (λ i. Some (same_Some p.0 k h i, p.1)))
+
+  -- where a key stands among the keys of a list, its entry stands in the list
+  pub entry_of_key : (es : List (K × X)) (i : ℕ) (k : K) → slice_get (map (λ e. e.0) es) i ≡ Some k →
+      (x : X) × (slice_get es i ≡ Some (k, x))
+  entry_of_key es i k e = entry_by es i k (slice_get es i) refl (sym (slice_get-map (λ e. e.0) es i) ∙ e)
 
 module _ {K X : Type 0} (R : K → K → Ordering) where
   -- a key that is below all of a list is below the one at each place

@@ -1,5 +1,5 @@
 -- Blocks that are loaded are the memory of the image, in address order, and the segments of code are its code.
-use Rattle.std.proofs.Common.{◌≡◌, ℕ, ◌+◌, ◌<◌, ◌≤◌, Bool, true, false, cond, Some, List, [], ◌∷◌, ◌++◌, length, map, take, get_or, refl, sym, ap, subst, ◌∙◌, arith, length-append}
+use Rattle.std.proofs.Common.{◌≡◌, ℕ, ◌+◌, ◌<◌, ◌≤◌, true, cond, Some, List, [], ◌∷◌, ◌++◌, length, map, take, get_or, refl, sym, ap, subst, ◌∙◌, arith, length-append}
 use Rattle.std.specs.Prelude.{slice_get, flat_map, filter, All, AllPairs}
 use Rattle.std.specs.List.{enumerate_from}
 use Rattle.std.specs.FinMap.{from_entries}
@@ -12,23 +12,28 @@ use Rattle.tss_base.specs.Range.{end_of}
 use Rattle.tss_base.specs.Image.{SegmentState, ImageState, IsAccepted, IsSegment, segment_end}
 use Rattle.tss_model.specs.Memory.{MemoryRange, loaded, loaded_bytes, memory_range, memory_ranges, stack_range, zeros}
 use Rattle.tss_memory.specs.Ranges.{AreRanges, IsPlaced}
-use Rattle.tss_memory.specs.Blocks.{BlockState, AreBlocks, block_of, entries_in, memory_of, memory_range_of, ranges_in, stack_block}
+use Rattle.tss_memory.specs.Blocks.{BlockState, AreBlocks, block_of, blocks_in, entries_in, memory_of, memory_range_of, ranges_in, stack_block}
 use Rattle.tss_memory.proofs.PartLemmas.{length-zeros}
 
 -- ---- one segment more
 
 -- and its block
-pub block_more : (segments : List SegmentState) (i : ℕ) (s : SegmentState) (b : BlockState) → slice_get segments i ≡ Some s → b ≡ block_of s → map block_of (take (i + 1) segments) ≡ map block_of (take i segments) ++ b ∷ []
+pub block_more : (segments : List SegmentState) (i : ℕ) (s : SegmentState) (b : BlockState) →
+    slice_get segments i ≡ Some s → b ≡ block_of s →
+    map block_of (take (i + 1) segments) ≡ map block_of (take i segments) ++ b ∷ []
 block_more segments i s b there e =
     ap (map block_of) (take_more segments i s (slice_get_within segments i s there))
     ∙ map_push block_of (take i segments) (get_or segments i s)
-    ∙ ap (λ (x : BlockState). map block_of (take i segments) ++ x ∷ []) (ap block_of (get_or_from_slice_get segments i s s there) ∙ sym e)
+    ∙ ap (λ (x : BlockState). map block_of (take i segments) ++ x ∷ [])
+    (ap block_of (get_or_from_slice_get segments i s s there) ∙ sym e)
 
 -- which is code, or isn't
-pub code_more : (segments : List SegmentState) (i : ℕ) (s : SegmentState) → slice_get segments i ≡ Some s → filter (λ x. x.code) (take (i + 1) segments) ≡ filter (λ x. x.code) (take i segments) ++ cond s.code (s ∷ []) []
+pub code_more : (segments : List SegmentState) (i : ℕ) (s : SegmentState) → slice_get segments i ≡ Some s →
+    filter (λ x. x.code) (take (i + 1) segments) ≡ filter (λ x. x.code) (take i segments) ++ cond s.code (s ∷ []) []
 code_more segments i s there =
     filter_more (λ x. x.code) segments i s (slice_get_within segments i s there)
-    ∙ ap (λ (x : SegmentState). filter (λ x. x.code) (take i segments) ++ cond x.code (x ∷ []) []) (get_or_from_slice_get segments i s s there)
+    ∙ ap (λ (x : SegmentState). filter (λ x. x.code) (take i segments) ++ cond x.code (x ∷ []) [])
+    (get_or_from_slice_get segments i s s there)
 
 -- ---- lists of images
 
@@ -36,12 +41,14 @@ map_map : {A B C : Type 0} (f : B → C) (g : A → B) (xs : List A) → map f (
 map_map f g [] = refl
 map_map f g (x ∷ xs) = ap (λ ys. f (g x) ∷ ys) (map_map f g xs)
 
-flat_map_map : {A B C : Type 0} (f : B → List C) (g : A → B) (xs : List A) → flat_map f (map g xs) ≡ flat_map (λ x. f (g x)) xs
+flat_map_map : {A B C : Type 0} (f : B → List C) (g : A → B) (xs : List A) →
+    flat_map f (map g xs) ≡ flat_map (λ x. f (g x)) xs
 flat_map_map f g [] = refl
 flat_map_map f g (x ∷ xs) = ap (λ ys. f (g x) ++ ys) (flat_map_map f g xs)
 
 -- a relation of each image to each later one
-pairs_map : {A B : Type 0} (R : B → B → Type 0) (f : A → B) (xs : List A) → AllPairs (λ x y. R (f x) (f y)) xs → AllPairs R (map f xs)
+pairs_map : {A B : Type 0} (R : B → B → Type 0) (f : A → B) (xs : List A) → AllPairs (λ x y. R (f x) (f y)) xs →
+    AllPairs R (map f xs)
 pairs_map R f [] all i j d h within = absurd (omega arith)
 pairs_map {A} {B} R f (x ∷ xs) all i j d h within =
     let inside : j < length (x ∷ xs) = omega (arith, length-map (x ∷ xs) f) in
@@ -52,13 +59,12 @@ pairs_map {A} {B} R f (x ∷ xs) all i j d h within =
 
 -- ---- the blocks of an image
 
--- those of its segments, and main's stack
-abbrev pub blocks_in : ImageState → List BlockState
-blocks_in i = map block_of i.segments ++ stack_block ∷ []
-
 -- the range of main's stack
 stack_placed : memory_range_of stack_block ≡ record { range = stack_range; writable = true }
-stack_placed t = record { range = record { base = stack_range.base; len = length-zeros stack_range.len t }; writable = true }
+stack_placed t = record {
+  range = record { base = stack_range.base; len = length-zeros stack_range.len t };
+  writable = true;
+}
 
 -- the ranges of memory
 ranges_in-blocks : (i : ImageState) → ranges_in (blocks_in i) ≡ memory_ranges i
@@ -69,10 +75,12 @@ ranges_in-blocks i =
 module _ (i : ImageState) (accepted : IsAccepted i) where
   -- each segment ends before main's stack does
   each_placed : All IsPlaced (map memory_range i.segments)
-  each_placed = All-map IsPlaced memory_range i.segments (All-weaker IsSegment (λ s. IsPlaced (memory_range s)) (λ s h. (h.0, omega arith)) i.segments accepted.each)
+  each_placed = All-map IsPlaced memory_range i.segments
+      (All-weaker IsSegment (λ s. IsPlaced (memory_range s)) (λ s h. (h.0, omega arith)) i.segments accepted.each)
 
   -- and before it begins
-  below_stack : (k : ℕ) (m : MemoryRange) → k < length (map memory_range i.segments) → end_of ((get_or (map memory_range i.segments) k m).range) ≤ stack_range.base
+  below_stack : (k : ℕ) (m : MemoryRange) → k < length (map memory_range i.segments) →
+      end_of ((get_or (map memory_range i.segments) k m).range) ≤ stack_range.base
   below_stack k m h =
       All-get_or (λ m. end_of m.range ≤ stack_range.base) (map memory_range i.segments) k m h
       (All-map (λ m. end_of m.range ≤ stack_range.base) memory_range i.segments
@@ -80,10 +88,18 @@ module _ (i : ImageState) (accepted : IsAccepted i) where
 
   memory_ranges_are : AreRanges (memory_ranges i)
   memory_ranges_are = record {
-    few = omega (arith, length-append (map memory_range i.segments) (record { range = stack_range; writable = true } ∷ []), length-map i.segments memory_range, accepted.few);
-    each = All-push IsPlaced (map memory_range i.segments) (record { range = stack_range; writable = true }) each_placed (omega arith, omega arith);
+    few = omega (
+      arith,
+      length-append (map memory_range i.segments)
+          (record { range = stack_range; writable = true } ∷ []),
+      length-map i.segments memory_range,
+      accepted.few,
+    );
+    each = All-push IsPlaced (map memory_range i.segments)
+        (record { range = stack_range; writable = true }) each_placed (omega arith, omega arith);
     ordered =
-        all_pairs_push (λ m n. end_of m.range ≤ n.range.base) (map memory_range i.segments) (record { range = stack_range; writable = true })
+        all_pairs_push (λ m n. end_of m.range ≤ n.range.base) (map memory_range i.segments)
+        (record { range = stack_range; writable = true })
         (pairs_map (λ m n. end_of m.range ≤ n.range.base) memory_range i.segments accepted.ordered) below_stack;
   }
 
@@ -100,7 +116,10 @@ memory_of-loaded i blocks e =
       each : BlockState → List (ℕ × ℕ)
       each b = enumerate_from b.base b.bytes
 
-      entries : entries_in (blocks_in i) ≡ flat_map (λ s. enumerate_from s.base s.bytes) i.segments ++ enumerate_from stack_range.base (zeros stack_range.len)
+      entries : entries_in (blocks_in i)
+          ≡ flat_map (λ s. enumerate_from s.base s.bytes) i.segments
+          ++ enumerate_from stack_range.base (zeros stack_range.len)
       entries =
           flat_map-append each (map block_of i.segments) (stack_block ∷ [])
-          ∙ (λ t. flat_map_map each block_of i.segments t ++ append-nil (enumerate_from stack_range.base (zeros stack_range.len)) t)
+          ∙ (λ t. flat_map_map each block_of i.segments t
+          ++ append-nil (enumerate_from stack_range.base (zeros stack_range.len)) t)

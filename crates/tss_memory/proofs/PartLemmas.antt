@@ -1,6 +1,6 @@
 -- Bytes with others in place of a part: the byte at each place, and how many there are.
-use Rattle.std.proofs.Common.{◌≡◌, ℕ, zero, suc, ◌+◌, ◌-◌, ◌<◌, ◌≤◌, ◌⊎◌, inl, inr, min, List, ◌∷◌, ◌++◌, length, replicate, take, drop, get_or, refl, sym, ap, ◌∙◌, arith, length-append, length-drop}
-use Rattle.std.proofs.lemmas.List.{length-take, length-take-le, length-replicate, get_or-take, get_or-drop, get_or_append_left, get_or-append_right, drop-drop}
+use Rattle.std.proofs.Common.{◌≡◌, ℕ, zero, suc, ◌+◌, ◌-◌, ◌<◌, ◌≤◌, List, ◌∷◌, ◌++◌, length, replicate, take, drop, get_or, refl, sym, ap, ◌∙◌, arith, length-append, length-drop}
+use Rattle.std.proofs.lemmas.List.{length-take-le, length-replicate, get_or-take, get_or-drop, get_or_append_left, get_or-append_right, drop-drop}
 use borrow.Rule.Slice.PartMut.{put_mid}
 use Rattle.std.specs.Int.{byte_at, bytes_low_first, to_le_bytes, w32}
 use Rattle.tss_base.specs.declared.range.Range.{Range}
@@ -72,7 +72,8 @@ zeroed_none m r e = ap (λ n. put_bytes m r.base (replicate n 0)) (sym e)
 pub take-bytes_low_first : (n more i v : ℕ) → take n (bytes_low_first i (n + more) v) ≡ bytes_low_first i n v
 take-bytes_low_first zero more i v = refl
 take-bytes_low_first (suc n) more i v =
-    ap (λ k. take (suc n) (bytes_low_first i k v)) count ∙ ap (λ bs. byte_at i v ∷ bs) (take-bytes_low_first n more (suc i) v) where
+    ap (λ k. take (suc n) (bytes_low_first i k v)) count
+    ∙ ap (λ bs. byte_at i v ∷ bs) (take-bytes_low_first n more (suc i) v) where
       count : suc n + more ≡ suc (n + more)
       count = omega arith
 

@@ -1,7 +1,7 @@
 -- What holds of each range of memory, by its place, and that a list has nothing that passes a test.
-use Rattle.std.proofs.Common.{◌≡◌, ℕ, ◌+◌, ◌<◌, ◌≤◌, Bool, true, false, inl, inr, Option, Some, None, List, length, map, refl, sym, ap, subst, ◌∙◌, arith, get_or, nat_le, nat_lt}
-use Rattle.std.specs.Prelude.{◌&&◌, IsTrue, IsSome, IsSomeAnd, slice_get, find, option_map}
-use Rattle.std.proofs.lemmas.Option.{slice_get-map, slice_get_within, slice_get_past, get_or_from_slice_get, same_Some, none-some}
+use Rattle.std.proofs.Common.{◌≡◌, ℕ, ◌<◌, ◌≤◌, Bool, true, false, inl, inr, Option, Some, None, List, length, refl, sym, subst, ◌∙◌, arith, nat_le}
+use Rattle.std.specs.Prelude.{IsSome, IsSomeAnd, slice_get, find, option_map}
+use Rattle.std.proofs.lemmas.Option.{slice_get_within, slice_get_past, get_or_from_slice_get, same_Some, none-some}
 use Rattle.std.proofs.lemmas.Bool.{and_parts, leb-true, lt-leb, and_left, and_right, le-leb, leb-false, and_from, and_cases, both_ways, cases_lt}
 use Rattle.tss_base.specs.declared.range.Range.{Range}
 use Rattle.tss_base.specs.Range.{end_of, contains}
@@ -20,14 +20,17 @@ some_there (Some x) h = (x, refl)
 some_there None h = absurd (cc)
 
 -- an option whose image is some
-pub some_mapped : {A B : Type 0} (f : A → B) (o : Option A) (y : B) → option_map f o ≡ Some y → (x : A) × (o ≡ Some x) × (f x ≡ y)
+pub some_mapped : {A B : Type 0} (f : A → B) (o : Option A) (y : B) → option_map f o ≡ Some y →
+    (x : A) × (o ≡ Some x) × (f x ≡ y)
 some_mapped f (Some x) y e = (x, refl, same_Some (f x) y e)
 some_mapped f None y e = absurd (none-some y e)
 
 -- a list in which nothing passes
-pub find_none : {A : Type 0} (p : A → Bool) (xs : List A) → ((i : ℕ) (x : A) → slice_get xs i ≡ Some x → p x ≡ false) → find p xs ≡ None
+pub find_none : {A : Type 0} (p : A → Bool) (xs : List A) →
+    ((i : ℕ) (x : A) → slice_get xs i ≡ Some x → p x ≡ false) → find p xs ≡ None
 find_none p xs fails =
-    find_first p xs (length xs) (λ i x h. fails i x) (λ x e. absurd (none-some x (sym (slice_get_past xs (length xs) (omega arith)) ∙ e)))
+    find_first p xs (length xs) (λ i x h. fails i x)
+    (λ x e. absurd (none-some x (sym (slice_get_past xs (length xs) (omega arith)) ∙ e)))
     ∙ slice_get_past xs (length xs) (omega arith)
 
 -- a range that contains another
@@ -38,11 +41,13 @@ contains_parts r s h =
 
 pub contains_from : (r s : Range) → r.base ≤ s.base → end_of s ≤ end_of r → contains r s ≡ true
 contains_from r s low high =
-    and_from (nat_le r.base s.base) (nat_le (end_of s) (end_of r)) (le-leb r.base s.base low) (le-leb (end_of s) (end_of r) high)
+    and_from (nat_le r.base s.base) (nat_le (end_of s) (end_of r)) (le-leb r.base s.base low)
+    (le-leb (end_of s) (end_of r) high)
 
 -- one that ends before the other's end
 pub contains_not_end : (r s : Range) → end_of r < end_of s → contains r s ≡ false
-contains_not_end r s h = and_right (nat_le r.base s.base) (nat_le (end_of s) (end_of r)) (lt-leb (end_of s) (end_of r) h)
+contains_not_end r s h = and_right (nat_le r.base s.base) (nat_le (end_of s) (end_of r))
+    (lt-leb (end_of s) (end_of r) h)
 
 -- one that begins after the other's base
 pub contains_not_base : (r s : Range) → s.base < r.base → contains r s ≡ false
@@ -59,7 +64,8 @@ begins_after r s h high =
 module _ (ranges : List MemoryRange) (are : AreRanges ranges) where
   -- the range at each place
   pub range_placed : (i : ℕ) (m : MemoryRange) → slice_get ranges i ≡ Some m → IsPlaced m
-  range_placed i m e = subst IsPlaced (get_or_from_slice_get ranges i m m e) (are.each i m (slice_get_within ranges i m e))
+  range_placed i m e = subst IsPlaced (get_or_from_slice_get ranges i m m e)
+      (are.each i m (slice_get_within ranges i m e))
 
   -- where a range lies in one of memory, it ends in time
   pub found_end : (r : Range) (w : Bool) → range_of ranges r ≡ Some w → end_of r ≤ memory_end

@@ -1,10 +1,10 @@
 -- The blocks that a space is made of, and the memory that they are. No public clause speaks of them.
-use Rattle.std.specs.Prelude.{◌≡◌, ℕ, ◌+◌, ◌-◌, ◌<◌, ◌≤◌, Bool, true, IsTrue, List, ◌++◌, map, length, take, drop, flat_map, Option, option_map, IsSomeAnd, slice_get}
+use Rattle.std.specs.Prelude.{ℕ, ◌+◌, ◌-◌, ◌<◌, ◌≤◌, Bool, true, IsTrue, List, [], ◌∷◌, ◌++◌, map, length, take, drop, flat_map, Option, option_map, IsSomeAnd, slice_get}
 use Rattle.std.specs.List.{enumerate_from}
 use Rattle.std.specs.FinMap.{from_entries}
 use Rattle.tss_base.specs.declared.range.Range.{Range}
 use Rattle.tss_base.specs.Range.{contains}
-use Rattle.tss_base.specs.Image.{SegmentState}
+use Rattle.tss_base.specs.Image.{SegmentState, ImageState}
 use Rattle.tss_model.specs.Memory.{MemoryRange, Memory, stack_range, zeros}
 use Rattle.tss_memory.specs.Ranges.{AreRanges, memory_end}
 
@@ -55,6 +55,10 @@ IsInBlock blocks r i = IsSomeAnd (slice_get blocks i) (λ b. IsTrue (contains (b
 abbrev pub part_of : List ℕ → ℕ → ℕ → List ℕ
 part_of xs at n = take n (drop at xs)
 
+-- the bytes of a range in a block
+abbrev pub block_part : BlockState → Range → List ℕ
+block_part b r = part_of b.bytes (r.base - b.base) r.len
+
 -- bytes with others in place of those from a place on
 abbrev pub with_part : List ℕ → ℕ → List ℕ → List ℕ
 with_part xs at ys = take at xs ++ (ys ++ drop (at + length ys) xs)
@@ -72,3 +76,7 @@ block_of s = record { base = s.base; bytes = s.bytes; writable = s.writable }
 -- the block of main's stack
 abbrev pub stack_block : BlockState
 stack_block = record { base = stack_range.base; bytes = zeros stack_range.len; writable = true }
+
+-- the blocks of an image: those of its segments, and that of main's stack
+abbrev pub blocks_in : ImageState → List BlockState
+blocks_in i = map block_of i.segments ++ stack_block ∷ []

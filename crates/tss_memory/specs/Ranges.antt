@@ -1,5 +1,5 @@
 -- The ranges of memory: what holds of all of them, where bytes may be read and written, and a range that was found.
-use Rattle.std.specs.Prelude.{◌≡◌, ℕ, ◌+◌, ◌<◌, ◌≤◌, true, IsTrue, List, length, slice_get, All, AllPairs, Option, Some, IsSome, IsSomeAnd, find}
+use Rattle.std.specs.Prelude.{◌≡◌, ℕ, ◌<◌, ◌≤◌, true, IsTrue, List, length, slice_get, All, AllPairs, Option, Some, IsSome, IsSomeAnd, find}
 use Rattle.tss_base.specs.declared.range.Range.{Range}
 use Rattle.tss_base.specs.Range.{end_of, contains}
 use Rattle.tss_memory.specs.declared.found.Found.{Found}

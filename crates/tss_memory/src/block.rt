@@ -1,8 +1,8 @@
 // Blocks: the bytes of one range of memory.
-ghost use Rattle.std.specs.Prelude.{◌≡◌, ◌<◌, ◌≤◌, ◌-◌, IfOk, IsTrue, length, map, ◌++◌, ◌∷◌, []};
+ghost use Rattle.std.specs.Prelude.{◌≡◌, ◌<◌, ◌≤◌, ◌-◌, IfOk, IsTrue, length};
 ghost use Rattle.tss_base.specs.Range.{contains};
 ghost use Rattle.tss_model.specs.Memory.{zeros};
-ghost use Rattle.tss_memory.specs.Blocks.{AreBlocks, block_end, block_of, block_range, part_of, put_block, stack_block};
+ghost use Rattle.tss_memory.specs.Blocks.{AreBlocks, block_end, block_of, blocks_in, block_part, block_range, put_block, stack_block};
 
 use std::alloc::{AllocError, Global};
 use std::marker::Model;
@@ -29,7 +29,11 @@ impl Model for Block {
 
     ghost view = { λ b. record { base = b.base; bytes = b.bytes.items; writable = b.writable } };
 
-    ghost invariant = { λ b. IsBlock (record { base = b.base; bytes = b.bytes.items; writable = b.writable }) };
+    ghost invariant = { λ b. IsBlock (record {
+      base = b.base;
+      bytes = b.bytes.items;
+      writable = b.writable;
+    }) };
 }
 
 impl Block {
@@ -93,7 +97,7 @@ impl Block {
     /// The bytes of a range in it.
     pub(crate) fn bytes(&self, r: &Range) -> &[u8]
         requires { IsTrue (contains (block_range self.now) r.now) }
-        ensures { result.now ≡ part_of self.now.bytes (r.now.base - self.now.base) r.now.len }
+        ensures { result.now ≡ block_part self.now r.now }
     {
         let from = (r.base - self.base) as usize;
         &self.bytes[from..from + r.len as usize]
@@ -101,7 +105,8 @@ impl Block {
 
     /// Puts bytes in it from an address on.
     pub(crate) fn put(&mut self, at: u32, from: &[u8])
-        requires { IsTrue (contains (block_range self.old) (record { base = at; len = length from.now })) }
+        requires { IsTrue (contains (block_range self.old)
+            (record { base = at; len = length from.now })) }
         ensures { self.new ≡ put_block self.old at from.now }
     {
         let first = (at - self.base) as usize;
@@ -120,7 +125,7 @@ impl Block {
 
 /// A block for each segment, in address order, and the one of main's stack.
 pub(crate) fn blocks_of(alloc: Global, image: &Image) -> Result<Vec<Block>, AllocError>
-    ensures blocks { IfOk result (λ blocks. blocks.items ≡ map block_of image.now.segments ++ stack_block ∷ []) }
+    ensures blocks { IfOk result (λ blocks. blocks.items ≡ blocks_in image.now) }
     ensures placed { IfOk result (λ blocks. AreBlocks blocks.items) }
 {
     let count = image.count();

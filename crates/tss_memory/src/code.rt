@@ -70,7 +70,8 @@ fn code_segments(alloc: Global, image: &Image) -> Result<Vec<Segment>, AllocErro
 /// How many segments end before an address.
 fn segments_before(segments: &[Segment], end: u64) -> usize
     requires { AreApart segments.now }
-    ensures { IsPartitionPoint (λ s. segment_end s < end) (λ s. end ≤ segment_end s) segments.now result }
+    ensures { IsPartitionPoint (λ s. segment_end s < end) (λ s. end ≤ segment_end s)
+        segments.now result }
 {
     segments.partition_point(|s| end_of(s) < end)
 }
@@ -90,7 +91,8 @@ fn segment_at(segments: &[Segment], at: u32) -> Option<&Segment>
 
 /// The word in a segment from an address on.
 fn word_in(segment: &Segment, at: u32) -> u32
-    requires { IsTrue (contains (segment_range segment.now) (record { base = at; len = 4 })) }
+    requires { IsTrue (contains (segment_range segment.now)
+        (record { base = at; len = 4 })) }
     ensures { result ≡ segment_word at segment.now }
 {
     let first = (at - segment.base()) as usize;

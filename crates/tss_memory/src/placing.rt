@@ -22,7 +22,8 @@ pub(crate) fn place_in(blocks: &[Block], r: &Range) -> Option<usize>
     requires { AreBlocks blocks.now }
     ensures none { IsNone result → range_with (ranges_in blocks.now) r.now ≡ None }
     ensures inside { IfSome result (IsInBlock blocks.now r.now) }
-    ensures first { IfSome result (λ i. range_with (ranges_in blocks.now) r.now ≡ range_of_block blocks.now i) }
+    ensures first { IfSome result (λ i.
+        range_with (ranges_in blocks.now) r.now ≡ range_of_block blocks.now i) }
 {
     let i = blocks_before(blocks, r.end());
     if i < blocks.len() && blocks[i].contains(r) {
@@ -38,7 +39,8 @@ pub(crate) fn place_near(blocks: &[Block], r: &Range, near: usize) -> Option<usi
     requires some { 0 < r.now.len }
     ensures none { IsNone result → range_with (ranges_in blocks.now) r.now ≡ None }
     ensures inside { IfSome result (IsInBlock blocks.now r.now) }
-    ensures first { IfSome result (λ i. range_with (ranges_in blocks.now) r.now ≡ range_of_block blocks.now i) }
+    ensures first { IfSome result (λ i.
+        range_with (ranges_in blocks.now) r.now ≡ range_of_block blocks.now i) }
 {
     if near < blocks.len() && blocks[near].contains(r) {
         Some(near)
@@ -94,7 +96,8 @@ pub(crate) fn put_number_in(blocks: &mut [Block], i: usize, r: &Range, value: u3
     requires blocks { AreBlocks blocks.old }
     requires inside { IsInBlock blocks.old r.now i }
     requires width { r.now.len ≤ 4 }
-    ensures { memory_of blocks.new ≡ put_bytes (memory_of blocks.old) r.now.base (low_bytes r.now.len value) }
+    ensures { memory_of blocks.new
+        ≡ put_bytes (memory_of blocks.old) r.now.base (low_bytes r.now.len value) }
 {
     let bytes = value.to_le_bytes();
     put_in(blocks, i, r.base, &bytes[..r.len as usize]);

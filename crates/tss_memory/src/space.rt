@@ -60,7 +60,8 @@ impl Space {
     /// The range of memory at a place in address order, and whether it can be written. None exactly where there are no
     /// more.
     pub fn range_at(&self, i: u32) -> Option<(Range, bool)>
-        ensures exact { result ≡ option_map (λ m. (m.range, m.writable)) (slice_get self.now.ranges i) }
+        ensures exact { result
+            ≡ option_map (λ m. (m.range, m.writable)) (slice_get self.now.ranges i) }
         ensures ranges { AreRanges self.now.ranges }
     {
         let block = self.blocks.get(i as usize)?;

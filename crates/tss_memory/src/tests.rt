@@ -1,11 +1,9 @@
 // What no clause says: that loading succeeds, also at the largest sizes; and the calls on values from outside.
+use crate::Space;
 use std::alloc::Global;
 use std::process::Abort;
 use std::test::Fail;
-
 use tss_base::{Image, Range, Segment};
-
-use crate::Space;
 
 /// The base of the first segment.
 const FIRST: u32 = 0x10000;
@@ -103,7 +101,13 @@ fn numbers_have_their_lowest_byte_first(rt: HostRuntime) -> Result<(), Fail> {
     space.set_number(found, &word, 0x0D0C0B0A);
     assert_eq!(rt; space.number(found, &word), 0x0D0C0B0A);
     let mut bytes = [0; 8];
-    assert_eq!(rt; space.range_of(&Range { base: FIRST, len: 8 }), Some(true));
+    assert_eq!(rt;
+        space.range_of(&Range {
+            base: FIRST,
+            len: 8
+        }),
+        Some(true)
+    );
     space.copy_out(FIRST, &mut bytes);
     assert_eq!(rt; bytes, [1, 1, 0x0A, 0x0B, 0x0C, 0x0D, 1, 1]);
     space.copy_in(FIRST, &[7; 8]);

@@ -38,12 +38,17 @@ main_may purpose None = false
 abbrev pub touches : List Range → Range → Bool
 touches named r = list_any (λ object. meets object r) named
 
--- the range lies wholly inside one range of memory, which can be written for a store. Such an access touches what main
+-- its answer, by whether the range of memory in which the access lies wholly can be written, and by whether it touches
+-- a named object
+abbrev pub main_answer : Purpose → Option Bool → Bool → Access
+main_answer purpose within touched =
+    if main_may purpose within then (if touched then Touch else Granted)
+    else Denied
+
+-- an access lies wholly inside one range of memory, which can be written for a store. Such an access touches what main
 -- has named, or is granted
 abbrev pub main_access : List MemoryRange → List Range → Purpose → Range → Access
-main_access ranges named purpose r =
-    if main_may purpose (range_of ranges r) then (if touches named r then Touch else Granted)
-    else Denied
+main_access ranges named purpose r = main_answer purpose (range_of ranges r) (touches named r)
 
 -- ---- a task
 
@@ -69,25 +74,31 @@ is_fixed None = false
 is_fixed (Some writable) = not writable
 
 -- a task loads in its scratch, in its operands, and in ranges of memory that can't be written
-abbrev pub task_may_load : List MemoryRange → List Operand → Range → Bool
-task_may_load ranges operands r =
-    contains scratch_range r || (list_any (λ o. contains o.object r) operands || is_fixed (range_of ranges r))
+abbrev pub task_may_load : List Operand → Range → Option Bool → Bool
+task_may_load operands r within =
+    contains scratch_range r || (list_any (λ o. contains o.object r) operands || is_fixed within)
 
 -- it stores in its scratch and in its operands that are output or inout
 abbrev pub task_may_store : List Operand → Range → Bool
 task_may_store operands r =
     contains scratch_range r || list_any (λ o. writes o.mode && contains o.object r) operands
 
-abbrev pub task_may : List MemoryRange → List Operand → Purpose → Range → Bool
-task_may ranges operands Loads r = task_may_load ranges operands r
-task_may ranges operands Stores r = task_may_store operands r
+-- where a task may access, by whether the range of memory in which the access lies wholly can be written
+abbrev pub task_may_within : Purpose → List Operand → Range → Option Bool → Bool
+task_may_within Loads operands r within = task_may_load operands r within
+task_may_within Stores operands r within = task_may_store operands r
 
--- the range lies wholly inside one such place
+-- its answer
+abbrev pub task_answer : Purpose → List Operand → Range → Option Bool → Access
+task_answer purpose operands r within = if task_may_within purpose operands r within then Granted else Denied
+
+-- an access lies wholly inside one such place
 abbrev pub task_access : List MemoryRange → List Operand → Purpose → Range → Access
-task_access ranges operands purpose r = if task_may ranges operands purpose r then Granted else Denied
+task_access ranges operands purpose r = task_answer purpose operands r (range_of ranges r)
 
 -- ---- both
 
+-- the answer to an access of either
 abbrev pub access_of : Actor → Purpose → Range → Access
 access_of (MainActor ranges named) purpose r = main_access ranges named purpose r
 access_of (TaskActor ranges operands) purpose r = task_access ranges operands purpose r

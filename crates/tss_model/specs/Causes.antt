@@ -19,17 +19,19 @@ illegal = 2
 abbrev pub breakpoint : ℕ
 breakpoint = 3
 
--- a load's address isn't a multiple of its width; the actor may not load there: the value is the address
+-- a load's address isn't a multiple of its width: the value is the address
 abbrev pub load_misaligned : ℕ
 load_misaligned = 4
 
+-- the actor may not load there: the value is the address
 abbrev pub load_denied : ℕ
 load_denied = 5
 
--- the same of a store
+-- a store's address isn't a multiple of its width: the value is the address
 abbrev pub store_misaligned : ℕ
 store_misaligned = 6
 
+-- the actor may not store there: the value is the address
 abbrev pub store_denied : ℕ
 store_denied = 7
 

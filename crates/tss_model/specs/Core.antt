@@ -44,6 +44,7 @@ pub data Stepped : Type 0 where
 abbrev pub moved : ℕ → ℤ → ℕ
 moved x offset = (x + twos offset) % 2 ^ 32
 
+-- 1 where a test passes, and else 0
 abbrev pub one_where : Bool → ℕ
 one_where b = if b then 1 else 0
 
@@ -85,6 +86,7 @@ op_of Srai = Sra
 op_of Ori = Or
 op_of Andi = And
 
+-- a branch's condition
 abbrev pub passes : Test → ℕ → ℕ → Bool
 passes Beq x y = x == y
 passes Bne x y = not (x == y)
@@ -93,6 +95,7 @@ passes Bge x y = not (signed_lt x y)
 passes Bltu x y = nat_lt x y
 passes Bgeu x y = nat_le y x
 
+-- the bytes that a load reads
 abbrev pub load_width : LoadKind → ℕ
 load_width Lb = 1
 load_width Lh = 2
@@ -100,6 +103,7 @@ load_width Lw = 4
 load_width Lbu = 1
 load_width Lhu = 2
 
+-- the bytes that a store writes
 abbrev pub store_width : StoreKind → ℕ
 store_width Sb = 1
 store_width Sh = 2
@@ -143,6 +147,7 @@ load_on Touch r rd at v = Touched
 abbrev pub loaded_value : (ℕ → ℕ) → LoadKind → ℕ → ℕ
 loaded_value byte kind at = extended kind (number_at byte at (load_width kind))
 
+-- where a load reads
 abbrev pub load_range : LoadKind → ℕ → Range
 load_range kind at = record { base = at; len = load_width kind }
 
@@ -163,6 +168,7 @@ store_on Touch r w = Touched
 abbrev pub stored_value : StoreKind → ℕ → ℕ → Write
 stored_value kind at v = record { at = at; bytes = low_bytes (store_width kind) v }
 
+-- where a store writes
 abbrev pub store_range : StoreKind → ℕ → Range
 store_range kind at = record { base = at; len = store_width kind }
 

@@ -1,5 +1,5 @@
 -- Execution in program order, on one flat memory: main step by step, and each spawned task at once, to its end or trap.
-use Rattle.std.specs.Prelude.{ℕ, suc, ◌==◌, Bool, true, false, ◌&&◌, if◌then◌else◌, List, Option, Some, None, unwrap_or}
+use Rattle.std.specs.Prelude.{ℕ, suc, ◌==◌, Bool, true, false, ◌&&◌, if◌then◌else◌, List, Option, Some, None, unwrap_or, option_map}
 use Rattle.tss_base.specs.declared.operand.Task.{Task}
 use Rattle.tss_base.specs.declared.ending.Trap.{Trap}
 use Rattle.tss_base.specs.declared.ending.Ending.{Ending}
@@ -20,6 +20,7 @@ abbrev pub main_after_task : MainState → Task → Option Trap → MainState
 main_after_task m t None = m
 main_after_task m t (Some trap) = main_ended m (TaskTrap t.number trap)
 
+-- main and memory after the task
 abbrev pub task_ran : MainState → Task → TaskEnd → Flat
 task_ran m t e = record { main = main_after_task m t e.trap; memory = e.memory }
 
@@ -33,6 +34,7 @@ abbrev pub flat_by : List SegmentState → Limits → Flat → Option Call → F
 flat_by code limits f None = main_step code limits f
 flat_by code limits f (Some c) = call_ran code limits f.memory (main_call limits f.memory f.main c)
 
+-- the same, where the next step says whether it is a call
 unfoldable pub flat_step : List SegmentState → Limits → Flat → Flat
 flat_step code limits f = flat_by code limits f (next_call code limits f)
 
@@ -54,6 +56,34 @@ main_after i limits k =
     let f = flat_stepped i limits k in
     if f.main.registers.done == k && is_executed f.main.ending then Some f else None
 
+-- ---- the tasks in program order
+
+-- a task, and the memory before it
+pub record Started : Type 0 where
+  pub task : Task
+  pub memory : Memory
+
+-- the task that a call spawns
+abbrev pub task_called : Limits → Flat → Option Call → Option Task
+task_called limits f None = None
+task_called limits f (Some call) = (main_call limits f.memory f.main call).1
+
+-- the task that main spawns next, where there is a state
+abbrev pub started_in : List SegmentState → Limits → Option Flat → Option Started
+started_in code limits None = None
+started_in code limits (Some f) =
+    option_map (λ t. record { task = t; memory = f.memory }) (task_called limits f (next_call code limits f))
+
+-- the task that main spawns with the instruction after k completed ones, where that is an accepted spawn
+abbrev pub started_at : ImageState → Limits → ℕ → Option Started
+started_at i limits k = started_in (frozen i) limits (main_after i limits k)
+
+-- its end
+abbrev pub end_of_started : ImageState → Limits → Started → TaskEnd
+end_of_started i limits s = task_end (frozen i) limits s.memory s.task
+
+-- ---- the whole
+
 -- what a contract sees of the execution in program order: its ending, the number of tasks, what was printed, and the
 -- memory at the end
 pub record ReferenceState : Type 0 where
@@ -62,6 +92,7 @@ pub record ReferenceState : Type 0 where
   pub output : List ℕ
   pub memory : Memory
 
+-- that of a flat machine that has ended
 abbrev pub reference_of : Flat → ReferenceState
 reference_of f = record {
   ending = unwrap_or f.main.ending (Refused main_budget_spent f.main.registers.pc);

@@ -14,7 +14,7 @@ use Rattle.tss_model.specs.Causes.{fetch_outside, load_denied, unknown_call, mai
 use Rattle.tss_model.specs.Access.{MainActor, touches}
 use Rattle.tss_model.specs.Core.{Write, Stepped, Executed, Called, Ended, Trapped, Touched, core_step}
 use Rattle.tss_model.specs.Spawn.{SpawnCall, spawn_of, name_objects, objects_of}
-use Rattle.tss_model.specs.TaskRun.{memory_write}
+use Rattle.tss_model.specs.TaskRun.{memory_write, repeated}
 use Rattle.tss_model.specs.Access.{operands_of}
 
 -- bytes that main printed, with the number of tasks that it had spawned before
@@ -46,9 +46,11 @@ output_of pieces = flat_map (λ p. p.bytes) pieces
 
 -- ---- endings
 
+-- main ends
 abbrev pub main_ended : MainState → Ending → MainState
 main_ended m e = record m { ending = Some e }
 
+-- a trap ends it
 abbrev pub main_trapped : MainState → Trap → MainState
 main_trapped m t = main_ended m (MainTrap t)
 
@@ -56,11 +58,13 @@ main_trapped m t = main_ended m (MainTrap t)
 abbrev pub main_refused : MainState → ℕ → MainState
 main_refused m n = main_ended m (Refused n m.registers.pc)
 
+-- it has completed as many instructions as its budget
 abbrev pub has_spent : Limits → MainState → Bool
 has_spent limits m = nat_le limits.main_budget m.registers.done
 
 -- ---- a step that is no call
 
+-- memory after a write, if there is one
 abbrev pub flat_written : Memory → Option Write → Memory
 flat_written m None = m
 flat_written m (Some w) = memory_write m w
@@ -86,6 +90,10 @@ main_step code limits f =
     else if has_spent limits f.main then record f { main = main_refused f.main main_budget_spent }
     else main_on f (main_core code f)
 
+-- a stretch of so many steps, fewer where main ends before or its next step is a call
+abbrev pub main_stretch : List SegmentState → Limits → ℕ → Flat → Flat
+main_stretch code limits n f = repeated (main_step code limits) n f
+
 -- ---- calls
 
 -- main's calls, by the number in x17
@@ -96,6 +104,7 @@ pub data Call : Type 0 where
   Print : Call
   Unknown : ℕ → Call
 
+-- the call of a number
 abbrev pub call_of : ℕ → Call
 call_of n =
     if n == 1 then ExitCall
@@ -104,6 +113,7 @@ call_of n =
     else if n == 4 then Print
     else Unknown n
 
+-- the call that a step of main's core meets
 abbrev pub called_by : Registers → Stepped → Option Call
 called_by r Called = Some (call_of (register_at r 17))
 called_by r s = None
@@ -143,6 +153,7 @@ spawn_on m (Err n) = (main_refused m n, None)
 abbrev pub print_range : Registers → Range
 print_range r = record { base = register_at r 10; len = register_at r 11 }
 
+-- an accepted print adds a piece
 abbrev pub print_done : MainState → List ℕ → MainState
 print_done m bytes = record (call_done m) { pieces = m.pieces ++ record { before = m.spawned; bytes = bytes } ∷ [] }
 

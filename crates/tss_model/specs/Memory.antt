@@ -85,6 +85,7 @@ zeroed m r = put_bytes m r.base (zeros r.len)
 abbrev pub segment_range : SegmentState → Range
 segment_range s = record { base = s.base; len = length s.bytes }
 
+-- the range of memory that a segment is
 abbrev pub memory_range : SegmentState → MemoryRange
 memory_range s = record { range = segment_range s; writable = s.writable }
 

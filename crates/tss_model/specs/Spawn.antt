@@ -15,6 +15,7 @@ use Rattle.tss_model.specs.Causes.{too_many_operands, list_place, main_touch, ba
 
 -- ---- named objects
 
+-- two ranges are equal
 abbrev pub same_range : Range → Range → Bool
 same_range r s = (r.base == s.base) && (r.len == s.len)
 
@@ -27,6 +28,7 @@ abbrev pub name_objects : List Range → List Range → List Range
 name_objects named [] = named
 name_objects named (object ∷ objects) = name_objects (name_object named object) objects
 
+-- operands' objects
 abbrev pub objects_of : List Operand → List Range
 objects_of operands = map (λ o. o.object) operands
 
@@ -48,6 +50,7 @@ pub record Entry : Type 0 where
 abbrev pub word_at : Memory → ℕ → ℕ
 word_at m at = number_at (byte_at m) at 4
 
+-- the entry at an address
 abbrev pub entry_at : Memory → ℕ → Entry
 entry_at m at = record { object = record { base = word_at m at; len = word_at m (at + 4) }; mode = word_at m (at + 8) }
 
@@ -56,9 +59,11 @@ abbrev pub entries_at : Memory → ℕ → ℕ → List Entry
 entries_at m at zero = []
 entries_at m at (suc n) = entry_at m at ∷ entries_at m (at + 12) n
 
+-- where the list lies
 abbrev pub list_range : SpawnCall → Range
 list_range call = record { base = call.list; len = 12 * call.count }
 
+-- a mode by its number, none where that isn't 1, 2 or 3
 abbrev pub mode_of : ℕ → Option Mode
 mode_of n =
     if n == 1 then Some Input
@@ -68,6 +73,7 @@ mode_of n =
 
 -- ---- the checks of one entry
 
+-- no bytes, or more than an object may have
 abbrev pub is_bad_length : Limits → Range → Bool
 is_bad_length limits object = (object.len == 0) || nat_lt limits.object_bytes object.len
 
@@ -80,6 +86,7 @@ is_outside mode (Some writable) = writes mode && not writable
 abbrev pub overlaps : List Range → Range → Bool
 overlaps named object = list_any (λ n. meets n object && not (same_range n object)) named
 
+-- an entry whose mode is known, with the checks that follow
 abbrev pub operand_checked : Limits → Memory → List Range → Range → Mode → Result Operand ℕ
 operand_checked limits m named object mode =
     if is_bad_length limits object then Err bad_length
@@ -88,6 +95,7 @@ operand_checked limits m named object mode =
     else if overlaps named object then Err overlap
     else Ok (record { object = object; mode = mode })
 
+-- an entry, by its mode
 abbrev pub mode_checked : Limits → Memory → List Range → Range → Option Mode → Result Operand ℕ
 mode_checked limits m named object None = Err bad_mode
 mode_checked limits m named object (Some mode) = operand_checked limits m named object mode
@@ -98,14 +106,17 @@ entry_checked limits m named e = mode_checked limits m named e.object (mode_of e
 
 -- ---- the checks of all entries, one entry after the other
 
+-- an operand before the others, where these are all good
 abbrev pub after_first : Operand → Result (List Operand) ℕ → Result (List Operand) ℕ
 after_first o (Ok os) = Ok (o ∷ os)
 after_first o (Err n) = Err n
 
+-- the entries after a good one
 abbrev pub with_rest : Result Operand ℕ → (Operand → Result (List Operand) ℕ) → Result (List Operand) ℕ
 with_rest (Ok o) rest = after_first o (rest o)
 with_rest (Err n) rest = Err n
 
+-- the operands of a list of entries, or the first check that fails
 unfoldable pub entries_checked : Limits → Memory → List Range → List Entry → Result (List Operand) ℕ
 entries_checked limits m named [] = Ok []
 entries_checked limits m named (e ∷ es) =
@@ -113,9 +124,11 @@ entries_checked limits m named (e ∷ es) =
 
 -- ---- merging
 
+-- it is only read
 abbrev pub is_input : Operand → Bool
 is_input o = not (writes o.mode)
 
+-- it is only written
 abbrev pub is_output : Operand → Bool
 is_output o = not (reads o.mode)
 
@@ -162,6 +175,7 @@ task_checked limits call named spawned (Ok listed) =
     else if nat_le limits.max_tasks spawned then Err too_many_tasks
     else Ok (task_of call (suc spawned) listed (merged_operands listed))
 
+-- the list isn't at a multiple of 4, or lies in no range of memory
 abbrev pub is_misplaced : Memory → SpawnCall → Bool
 is_misplaced m call = not (call.list % 4 == 0) || is_none (range_of m.ranges (list_range call))
 

@@ -41,6 +41,7 @@ task_write write s (Some w) =
     if covers scratch_range w.at then record s { scratch = list_put s.scratch (w.at - scratch_range.base) w.bytes }
     else record s { memory = write s.memory w }
 
+-- a task traps
 abbrev pub task_trapped : {M : Type 0} → TaskState M → Trap → TaskState M
 task_trapped s t = record s { trap = Some t }
 
@@ -60,8 +61,14 @@ task_step byte write budget code actor s =
     else if nat_le budget s.registers.done then task_trapped s (trap_of s.registers budget_spent 0)
     else task_on write s (core_step actor (task_byte byte s) (code_word code) s.registers)
 
+-- a stretch of so many steps, fewer where the task is over before
+abbrev pub task_stretch : {M : Type 0} → (M → ℕ → ℕ) → (M → Write → M) → ℕ → List SegmentState → Actor → ℕ → TaskState M
+    → TaskState M
+task_stretch byte write budget code actor n s = repeated (task_step byte write budget code actor) n s
+
 -- ---- on the one flat memory
 
+-- a write to memory
 abbrev pub memory_write : Memory → Write → Memory
 memory_write m w = put_bytes m w.at w.bytes
 
@@ -69,6 +76,7 @@ memory_write m w = put_bytes m w.at w.bytes
 abbrev pub zeroed_output : Memory → Operand → Memory
 zeroed_output m o = if reads o.mode then m else zeroed m o.object
 
+-- the same for all operands
 abbrev pub zeroed_outputs : Memory → List Operand → Memory
 zeroed_outputs m [] = m
 zeroed_outputs m (o ∷ os) = zeroed_output (zeroed_outputs m os) o
@@ -89,7 +97,7 @@ task_actor m t = TaskActor m.ranges (operands_of t)
 -- the task after so many steps, fewer where it is over before
 abbrev pub task_stepped : List SegmentState → Limits → Memory → Task → ℕ → TaskState Memory
 task_stepped code limits m t n =
-    repeated (task_step byte_at memory_write limits.task_budget code (task_actor m t)) n (task_start m t)
+    task_stretch byte_at memory_write limits.task_budget code (task_actor m t) n (task_start m t)
 
 -- the task after j completed instructions, where it gets there
 abbrev pub task_after : List SegmentState → Limits → Memory → Task → ℕ → Option (TaskState Memory)
@@ -102,6 +110,7 @@ pub record TaskEnd : Type 0 where
   pub memory : Memory
   pub trap : Option Trap
 
+-- that of a task that is over
 abbrev pub end_of_task : TaskState Memory → TaskEnd
 end_of_task s = record { memory = s.memory; trap = s.trap }
 

@@ -1,7 +1,7 @@
 -- Files in a list, found by name, after one has changed or another has come.
 use Rattle.std.proofs.Common.{◌≡◌, ◌≢◌, ℕ, zero, suc, ◌<◌, ◌≤◌, Bool, true, false, cond, List, [], ◌∷◌, ◌++◌, length, get_or, Option, Some, None, refl, sym, ap, ◌∙◌, subst, inl, inr, ◌⊎◌, arith}
 use Rattle.std.proofs.Math.ListN.{set}
-use Rattle.std.specs.Prelude.{nat_lt, slice_get, unwrap_or}
+use Rattle.std.specs.Prelude.{nat_lt, slice_get, unwrap_or, is_some}
 use Rattle.std.specs.Option.{option_map_or}
 use Rattle.std.specs.List.{find, position, position_or_len}
 use Rattle.std.specs.Str.{bytes_eq}
@@ -164,3 +164,10 @@ module _ (fs : List FileState) (n : List ℕ) (i : ℕ) (at : position (has_name
     | inl same ↦ at_most (ap (λ k. option_map_or count (find (has_name k) fs) d) same ∙ ap (λ o. option_map_or count o d) change_here) (ap (λ k. option_map_or count (find (has_name k) (set fs i g)) d) same ∙ ap (λ o. option_map_or count o d) change_now) h
     | inr other ↦ at_most refl (ap (λ o. option_map_or count o d) (change_beside m other)) (omega arith)
   ]
+
+-- a name has a place where something is found under it
+pub placed_or_not : (fs : List FileState) (n : List ℕ) (o : Option ℕ) → position (has_name n) fs ≡ o → is_some o ≡ is_some (find (has_name n) fs)
+placed_or_not fs n None e = ap is_some (sym (not_found fs n e))
+placed_or_not fs n (Some i) e =
+    let any : FileState = record { name = n; bytes = None; room = 0; read_faults = 0; append_faults = 0 } in
+    ap is_some (sym (found fs n i e any))

@@ -125,6 +125,13 @@ impl MemFiles {
         Ok(())
     }
 
+    /// Whether a name has counts of its own, as one has that bytes or room were given to.
+    pub fn knows(&self, name: &str) -> bool
+        ensures { result ≡ is_known self.now name.now }
+    {
+        place_of(self.files.as_slice(), name).is_some()
+    }
+
     /// What a file holds: no bytes where there is none.
     pub fn bytes(&self, name: &str) -> &[u8]
         ensures { result.now ≡ unwrap_or (bytes_of self.now name.now) [] }

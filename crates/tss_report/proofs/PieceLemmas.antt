@@ -1,9 +1,9 @@
 -- Texts that are put one after another, and texts of which a part was put before a fault.
-use Rattle.std.proofs.Common.{◌≡◌, ℕ, ◌≤◌, ◌<◌, ◌+◌, length, map, drop, get_or, add-one, Bor, IsErr, List, [], ◌++◌, Option, Some, None, Result, Ok, Err, OnOk, OnErr, IfSome, refl, sym, ap, ◌∙◌, subst, append_assoc, append-nil, arith}
+use Rattle.std.proofs.Common.{◌≡◌, ℕ, ◌≤◌, ◌<◌, ◌+◌, length, map, drop, get_or, add-one, Bor, IsErr, List, [], ◌++◌, Option, Some, None, Result, Ok, Err, OnOk, OnErr, refl, sym, ap, ◌∙◌, subst, append_assoc, append-nil, arith}
 use Rattle.std.proofs.Math.Seq.{drop-cons}
 use Rattle.std.proofs.lemmas.Result.{IfOk-from_err}
 use Rattle.tss_outside.specs.declared.files.Failed.{Failed}
-use Rattle.tss_outside.specs.Outside.{risen, Rose, PutsPrefix, AppendsWhereTold, IsPrefix}
+use Rattle.tss_outside.specs.Outside.{risen, Rose, PutsPrefix, AppendsWhereTold}
 use Rattle.tss_report.specs.Pieces.{joined, Carries, Emits}
 
 none_some : {X : Type 0} {x : X} → None ≡ Some x → ⊥
@@ -29,11 +29,11 @@ carries_then o None (Some c) kept keeps rest xs ys first then = absurd (none_som
 carries_then o (Some b) (Some c) kept keeps rest xs ys first then =
     let same : b ≡ then.0 = some_same then.2 in
     let all : (first.1 ++ then.1) ++ rest ≡ kept ++ (xs ++ ys) =
-      append_assoc first.1 then.1 rest
-      ∙ ap (λ l. first.1 ++ l) then.4
-      ∙ sym (append_assoc first.1 keeps ys)
-      ∙ ap (λ l. l ++ ys) first.4
-      ∙ append_assoc kept xs ys in
+    append_assoc first.1 then.1 rest
+    ∙ ap (λ l. first.1 ++ l) then.4
+    ∙ sym (append_assoc first.1 keeps ys)
+    ∙ ap (λ l. l ++ ys) first.4
+    ∙ append_assoc kept xs ys in
     (first.0, first.1 ++ then.1, first.2, then.3 ∙ ap (λ l. l ++ then.1) (sym same ∙ first.3) ∙ append_assoc first.0 first.1 then.1, all)
 
 -- a part of the second text was put after the first
@@ -43,11 +43,11 @@ prefix_then o None (Some c) kept keeps xs ys first then = absurd (none_some then
 prefix_then o (Some b) (Some c) kept keeps xs ys first then =
     let same : b ≡ then.2.0 = some_same then.2.1 in
     let all : kept ++ (xs ++ ys) ≡ (first.1 ++ then.0) ++ then.1.0 =
-      sym (append_assoc kept xs ys)
-      ∙ ap (λ l. l ++ ys) (sym first.4)
-      ∙ append_assoc first.1 keeps ys
-      ∙ ap (λ l. first.1 ++ l) then.1.1
-      ∙ sym (append_assoc first.1 then.0 then.1.0) in
+    sym (append_assoc kept xs ys)
+    ∙ ap (λ l. l ++ ys) (sym first.4)
+    ∙ append_assoc first.1 keeps ys
+    ∙ ap (λ l. first.1 ++ l) then.1.1
+    ∙ sym (append_assoc first.1 then.0 then.1.0) in
     (first.1 ++ then.0, (then.1.0, all), (first.0, first.2, then.2.2 ∙ ap (λ l. l ++ then.0) (sym same ∙ first.3) ∙ append_assoc first.0 first.1 then.0))
 
 -- a part of a text is a part of a longer one

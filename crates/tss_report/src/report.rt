@@ -20,18 +20,17 @@ fn hex_word(n: u32) -> [u8; 8]
 }
 
 /// Puts the line that says how a run ended.
-pub fn put_ending<K: Sink>(
-    pieces: &mut Pieces,
-    out: &mut K,
-    ending: &Ending,
-) -> Result<(), Failed>
+pub fn put_ending<K: Sink>(pieces: &mut Pieces, out: &mut K, ending: &Ending) -> Result<(), Failed>
     ensures { Emits (K.written out.old) pieces.old (K.written out.new) pieces.new (K.faults out.old) (K.faults out.new) result (ending_text ending.now) }
 {
     let mut first = Buffer::new();
     let mut second = Buffer::new();
     match ending {
         Ending::Exit(status) => {
-            pieces.put_all(out, &[b"end exit ", first.format(*status).as_bytes(), b"\n"])
+            pieces.put_all(
+                out,
+                &[b"end exit ", first.format(*status).as_bytes(), b"\n"],
+            )
         }
         Ending::MainTrap(trap) => pieces.put_all(
             out,

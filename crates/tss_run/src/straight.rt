@@ -13,6 +13,7 @@ const WORDS_PLACE: usize = 84;
 
 /// The register of a call's number, and that of its first argument.
 const CALL: usize = 17;
+
 const ARGUMENT: usize = 10;
 
 /// The number of the call that exits.
@@ -80,12 +81,14 @@ fn do_instr(registers: &mut [u32; 32], instr: Option<Instr>) -> Step
             put_register(registers, rd, imm);
             Step::Going
         }
-        Some(Instr::OpImm {
-            op: ImmOp::Addi,
-            rd,
-            rs1,
-            imm,
-        }) => {
+        Some(
+            Instr::OpImm {
+                op: ImmOp::Addi,
+                rd,
+                rs1,
+                imm,
+            },
+        ) => {
             let value = registers[usize::from(rs1)].wrapping_add(imm.cast_unsigned());
             put_register(registers, rd, value);
             Step::Going

@@ -10,7 +10,8 @@ pub loop-i-preserved : goal.loop-i-preserved
 loop-i-preserved c =
     c.in_ok-push.ensures.items
     ∙ ap (λ (bs : List BlockState). bs ++ c.in_ok-of_segment.field-0 ∷ []) c.loop-i.invariant
-    ∙ sym (block_more c.args.image.now.segments c.loop-i.i c.segment.result.now c.in_ok-of_segment.field-0 c.segment.ensures c.in_ok-of_segment.ensures)
+    ∙ sym (block_more c.args.image.now.segments c.loop-i.i c.segment.result.now c.in_ok-of_segment.field-0
+    c.segment.ensures c.in_ok-of_segment.ensures)
 
 pub returns-clause-placed : goal.returns-clause-placed
 returns-clause-placed c =

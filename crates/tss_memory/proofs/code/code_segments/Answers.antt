@@ -1,5 +1,5 @@
 -- One more segment, which is code or isn't. What is left of segments in address order is in address order.
-use Rattle.std.proofs.Common.{◌≡◌, ◌≤◌, List, [], ◌∷◌, ◌++◌, cond, take, subst, sym, ap, ◌∙◌, rules}
+use Rattle.std.proofs.Common.{◌≤◌, List, [], ◌∷◌, ◌++◌, cond, take, subst, sym, ap, ◌∙◌, rules}
 use Rattle.std.specs.Prelude.{filter}
 use Rattle.std.proofs.lemmas.List.{append-nil, take_all}
 use Rattle.std.proofs.lemmas.List.Kept.{AllPairs-filter}
@@ -27,6 +27,7 @@ loop-i-preserved c =
 
 pub returns-clause-apart : goal.returns-clause-apart
 returns-clause-apart c =
-    let apart = AllPairs-filter (λ s t. segment_end s ≤ t.base) (λ s. s.code) c.args.image.now.segments c.count-i-end.ensures.accepted.ordered in
+    let apart = AllPairs-filter (λ s t. segment_end s ≤ t.base)
+    (λ s. s.code) c.args.image.now.segments c.count-i-end.ensures.accepted.ordered in
     let all = take_all c.loop-i.i c.args.image.now.segments (search rules) in
     subst AreApart (sym (c.loop-i.invariant ∙ ap (filter (λ s. s.code)) all)) apart

@@ -12,7 +12,9 @@ pub returns : goal.returns
 returns c =
     let rise = ends_rise segment_range c.args.segments.now c.requires in
     let parted = IsPartitionedBy-ltb segment_end c.args.segments.now c.args.end rise in
-    let point = IsPartitionPoint-from_clause (λ s. nat_lt (segment_end s) c.args.end) _ _ c.partition_point.ensures.partitioned parted (λ a r q k. search rules) in (
+    let point =
+    IsPartitionPoint-from_clause (λ s. nat_lt (segment_end s) c.args.end) _ _ c.partition_point.ensures.partitioned
+    parted (λ a r q k. search rules) in (
       λ k d low h. ltb-true _ _ (point.0 k d low h),
       λ k d low h. ltb-false _ _ (point.1 k d low h),
     )

@@ -13,7 +13,8 @@ returns-then-contains-clause-first c =
     let blocks = c.args.blocks.now in
     let r = c.args.r.now in
     let i = c.blocks_before-i.result in
-    let point = subst (λ (n : ℕ). IsPartitionPoint (λ b. block_end b < n) (λ b. n ≤ block_end b) blocks i) c.end.ensures c.blocks_before-i.ensures in
+    let point = subst (λ (n : ℕ). IsPartitionPoint (λ b. block_end b < n)
+    (λ b. n ≤ block_end b) blocks i) c.end.ensures c.blocks_before-i.ensures in
     range_found blocks r (slice_get blocks i)
     (point_found block_range blocks (blocks_apart blocks c.requires) r i point
     (holds_read block_range blocks r i c.index-blocks-i.result (search rules) c.index-blocks-i.is (search rules)))
@@ -23,10 +24,12 @@ returns-else-i-blocks-clause-none c e =
     let blocks = c.args.blocks.now in
     let r = c.args.r.now in
     let i = c.blocks_before-i.result in
-    let point = subst (λ (n : ℕ). IsPartitionPoint (λ b. block_end b < n) (λ b. n ≤ block_end b) blocks i) c.end.ensures c.blocks_before-i.ensures in
+    let point = subst (λ (n : ℕ). IsPartitionPoint (λ b. block_end b < n)
+    (λ b. n ≤ block_end b) blocks i) c.end.ensures c.blocks_before-i.ensures in
     range_found blocks r None
     (point_none block_range blocks (blocks_apart blocks c.requires) r i point
     (λ b there. elim c.else-i-blocks.branch [
-      | else-i-blocks-via-then-i-blocks+else-contains w ↦ fails_read block_range blocks r i w.index-blocks-i.result (search rules) w.index-blocks-i.is (search rules) b there
+      | else-i-blocks-via-then-i-blocks+else-contains w ↦ fails_read block_range blocks r i w.index-blocks-i.result
+          (search rules) w.index-blocks-i.is (search rules) b there
       | else-i-blocks-via-else-i-blocks w ↦ let within = slice_get_within blocks i b there in absurd (omega arith)
     ]))

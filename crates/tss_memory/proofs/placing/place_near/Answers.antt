@@ -10,4 +10,5 @@ returns-then-contains-clause-first c =
     let blocks = c.args.blocks.now in
     range_found blocks c.args.r.now (slice_get blocks c.args.near)
     (only_found block_range blocks (blocks_apart blocks c.requires.blocks) c.args.r.now c.args.near c.requires.some
-    (holds_read block_range blocks c.args.r.now c.args.near c.index-blocks-near.result (search rules) c.index-blocks-near.is (search rules)))
+    (holds_read block_range blocks c.args.r.now c.args.near c.index-blocks-near.result
+    (search rules) c.index-blocks-near.is (search rules)))

@@ -1,5 +1,5 @@
 -- One segment more lies at the end of those before.
-use Rattle.std.proofs.Common.{◌≡◌, ℕ, ◌+◌, ◌≤◌, true, List, length, sym, ap, subst, ◌∙◌, arith, rules}
+use Rattle.std.proofs.Common.{◌≡◌, ◌+◌, ◌≤◌, List, length, sym, ap, subst, ◌∙◌, arith, rules}
 use Rattle.tss_base.specs.Image.{SegmentState}
 use Rattle.tss_memory.proofs.StripedLemmas.{AreStriped, AreStriped-more}
 use Rattle.tss_memory.proofs.tests.striped.Goals as goal
@@ -13,8 +13,8 @@ loop-k-preserved g c =
     record {
       count = search rules;
       are =
-        subst (λ (xs : List SegmentState). AreStriped xs (c.loop-k.at + c.args.len)) (sym c.in_ok-push.ensures.items)
-        (AreStriped-more c.loop-k.segments.items c.loop-k.at c.loop-k.invariant.are s (c.loop-k.at + c.args.len)
-        (ap (λ (x : SegmentState). x.base) c.new.ensures) (ap (λ (x : SegmentState). x.code) c.new.ensures)
-        (omega arith) (omega arith) limit);
+          subst (λ (xs : List SegmentState). AreStriped xs (c.loop-k.at + c.args.len)) (sym c.in_ok-push.ensures.items)
+          (AreStriped-more c.loop-k.segments.items c.loop-k.at c.loop-k.invariant.are s (c.loop-k.at + c.args.len)
+          (ap (λ (x : SegmentState). x.base) c.new.ensures) (ap (λ (x : SegmentState). x.code) c.new.ensures)
+          (omega arith) (omega arith) limit);
     }

@@ -1,5 +1,5 @@
 -- Each part goes out after those before it.
-use Rattle.std.proofs.Common.{◌≡◌, ◌≤◌, [], List, ℕ, refl, arith, append_assoc}
+use Rattle.std.proofs.Common.{[], refl, arith, append_assoc}
 use Rattle.tss_report.specs.Report.{ending_text, tasks_text, output_text}
 use Rattle.tss_report.proofs.PieceLemmas.{risen_through, same_text, emits_after, fails_after, carries_none, carries_then}
 use Rattle.tss_report.proofs.report.put_summary.Goals as goal

@@ -11,8 +11,8 @@ pub returns-in_err-put_outcome-clause-err : goal.returns-in_err-put_outcome-clau
 returns-in_err-put_outcome-clause-err g c =
     on_any_err c.from_residual.result _
     (subst (λ kept. PutsPrefix (g.K.Sink.written c.args.out.now) (g.K.Sink.written c.put_outcome.new.out) (kept ++ text_of c.args.outcome.now))
-      c.new-pieces.ensures
-      c.in_err-put_outcome.ensures.err)
+    c.new-pieces.ensures
+    c.in_err-put_outcome.ensures.err)
 
 pub returns-clause-err : goal.returns-clause-err
 returns-clause-err g c =

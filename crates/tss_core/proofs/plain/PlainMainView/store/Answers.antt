@@ -1,5 +1,5 @@
 -- A store by the rule of access.
-use Rattle.std.proofs.Common.{◌≡◌, ℕ, List, ◌++◌, length, take, drop, rules, arith}
+use Rattle.std.proofs.Common.{◌≡◌, ℕ, List, ◌++◌, length, take, drop, arith}
 use Rattle.std.proofs.lemmas.Grind.{common_steps}
 use Rattle.tss_core.specs.Views.{stored}
 use Rattle.tss_core.specs.Plain.{main_sight, bytes_after}

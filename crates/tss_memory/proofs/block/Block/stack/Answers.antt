@@ -5,5 +5,6 @@ use Rattle.tss_memory.proofs.block.Block.stack.Goals as goal
 
 pub invariant_of-result : goal.invariant_of-result
 invariant_of-result c =
-    let len : length c.in_ok-zero_bytes.field-0.items ≡ 65536 = ap length c.in_ok-zero_bytes.ensures ∙ length-zeros 65536 in
+    let len : length c.in_ok-zero_bytes.field-0.items ≡ 65536 = ap length c.in_ok-zero_bytes.ensures
+    ∙ length-zeros 65536 in
     (omega arith, omega arith)

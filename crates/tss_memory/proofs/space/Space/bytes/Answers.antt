@@ -7,7 +7,11 @@ use Rattle.tss_memory.proofs.space.Space.bytes.Goals as goal
 
 pub returns : goal.returns
 returns c =
-    let inside = subst (λ (bs : List BlockState). IsInBlock bs c.args.r.now c.known_place-i.result) c.as_slice.ensures.value c.known_place-i.ensures in
+    let blocks = c.self.inside.blocks.items in
+    let r = c.args.r.now in
+    let i = c.known_place-i.result in
+    let P : List BlockState → Type 0 = λ bs. IsInBlock bs r i in
+    let inside = subst P c.as_slice.ensures.value c.known_place-i.ensures in
     c.bytes.ensures
-    ∙ bytes_read c.self.inside.blocks.items c.self.invariant c.args.r.now c.known_place-i.result c.index.result.now inside c.index.ensures
-    ∙ ap (λ (m : Memory). bytes_of m c.args.r.now) c.self.view_is
+    ∙ bytes_read blocks c.self.invariant r i c.index.result.now inside c.index.ensures
+    ∙ ap (λ (m : Memory). bytes_of m r) c.self.view_is

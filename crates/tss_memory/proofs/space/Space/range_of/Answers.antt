@@ -6,5 +6,6 @@ use Rattle.tss_memory.proofs.space.Space.range_of.Goals as goal
 
 pub returns-clause-end : goal.returns-clause-end
 returns-clause-end c =
-    inside_end c.self.inside.blocks.items c.self.invariant c.args.r.now c.in_ok-i.i
-    (subst (λ (bs : List BlockState). IsInBlock bs c.args.r.now c.in_ok-i.i) c.as_slice.ensures.value c.in_ok-i.ensures.inside)
+    let P : List BlockState → Type 0 = λ bs. IsInBlock bs c.args.r.now c.in_ok-i.i in
+    let inside = subst P c.as_slice.ensures.value c.in_ok-i.ensures.inside in
+    inside_end c.self.inside.blocks.items c.self.invariant c.args.r.now c.in_ok-i.i inside

@@ -1,5 +1,5 @@
 -- Each full piece goes out with the bytes that were put before.
-use Rattle.std.proofs.Common.{◌≡◌, ◌≤◌, ◌++◌, List, ℕ, sym, ap, ◌∙◌, subst, append_assoc, arith, take, drop}
+use Rattle.std.proofs.Common.{◌≡◌, ◌++◌, List, ℕ, sym, ap, ◌∙◌, subst, append_assoc, arith, take, drop}
 use Rattle.std.proofs.lemmas.List.{take-append-drop}
 use Rattle.std.proofs.lemmas.Result.{IfOk-from_err}
 use Rattle.tss_outside.specs.Outside.{PutsPrefix}

@@ -1,5 +1,5 @@
 -- The parts go out one after another.
-use Rattle.std.proofs.Common.{◌≡◌, ◌≤◌, ◌<◌, ◌+◌, ◌++◌, List, ℕ, sym, ap, ◌∙◌, append_assoc, arith}
+use Rattle.std.proofs.Common.{◌++◌, sym, ap, ◌∙◌, append_assoc, arith}
 use Rattle.tss_report.proofs.PieceLemmas.{carries_then, fails_after, joined_from}
 use Rattle.tss_report.proofs.pieces.Pieces.put_all.Goals as goal
 

@@ -1,0 +1,5 @@
+pub mod Runs
+pub mod Refinement
+pub mod Progress
+pub mod Bound
+pub mod NoFalseWait

@@ -1,0 +1,6 @@
+mod Numbers
+mod Faults
+mod Turns
+mod Least
+mod Exact
+mod Admissible

@@ -1,0 +1,119 @@
+// The numbers and the keys of a description's table.
+ghost use Rattle.std.specs.Prelude.{◌≡◌, find, not, option_map, string_bytes, IfOk};
+ghost use Rattle.std.specs.BTreeMap.{keys, IsOrdered};
+ghost use Rattle.std.specs.Option.{option_copied};
+ghost use Rattle.std.specs.Result.{result_err};
+ghost use Rattle.std.specs.String.{string_cmp};
+ghost use Rattle.toml.specs.View.{table_view};
+ghost use Rattle.tss_base.specs.Machine.{key_range};
+ghost use Rattle.tss_machine.specs.Table.{in_range, number_at as number_in, key_faults, numbers_of, is_known as is_known_text, unknown_keys, least_of};
+ghost use Rattle.tss_machine.specs.Description.{first_fault};
+
+use crate::fault::MachineFault;
+use toml::Table;
+use tss_base::Key;
+
+/// How many keys a description has.
+pub const KEY_COUNT: usize = 15;
+
+/// The keys of a description, in the order in which they are checked.
+const KEYS: [Key; KEY_COUNT] = [
+    Key::MainBudget,
+    Key::TaskBudget,
+    Key::MaxTasks,
+    Key::MaxOperands,
+    Key::ObjectBytes,
+    Key::EpochObjects,
+    Key::OutputBytes,
+    Key::Stations,
+    Key::Slots,
+    Key::Workers,
+    Key::Banks,
+    Key::Entries,
+    Key::Versions,
+    Key::Buffers,
+    Key::Quantum,
+];
+
+/// The least and the greatest number of a key.
+fn range_of(key: Key) -> (u32, u32)
+    ensures { result ≡ key_range key }
+{
+    match key {
+        Key::MainBudget => (1, 1_000_000_000),
+        Key::TaskBudget => (1, 100_000_000),
+        Key::MaxTasks => (1, 65_536),
+        Key::MaxOperands => (1, 7),
+        Key::ObjectBytes => (1, 65_536),
+        Key::EpochObjects => (1, 65_536),
+        Key::OutputBytes => (0, 1_048_576),
+        Key::Stations => (1, 16),
+        Key::Slots => (1, 64),
+        Key::Workers => (1, 64),
+        Key::Banks => (1, 64),
+        Key::Entries => (1, 256),
+        Key::Versions => (1, 256),
+        Key::Buffers => (1, 64),
+        Key::Quantum => (1, 65_536),
+    }
+}
+
+/// The number, where it is in the key's range.
+fn check_range(key: Key, number: i64) -> Result<u32, MachineFault>
+    ensures { result ≡ in_range key number }
+{
+    let (least, greatest) = range_of(key);
+    match u32::try_from(number) {
+        Ok(number) if least <= number && number <= greatest => Ok(number),
+        _ => Err(MachineFault::OutOfRange(key)),
+    }
+}
+
+/// The number at a key.
+fn number_at(table: &Table, key: Key) -> Result<u32, MachineFault>
+    ensures { result ≡ number_in (table_view table.now) key }
+{
+    let Some(value) = table.get(key.name()) else {
+        return Err(MachineFault::MissingKey(key));
+    };
+    let Some(number) = value.as_integer() else {
+        return Err(MachineFault::NotInteger(key));
+    };
+    check_range(key, number)
+}
+
+/// The numbers at the keys, in the order of the keys.
+pub fn read_numbers(table: &Table) -> Result<[u32; KEY_COUNT], MachineFault>
+    ensures first { result_err result ≡ first_fault (key_faults (table_view table.now)) }
+    ensures numbers { IfOk result (λ numbers. numbers ≡ numbers_of (table_view table.now)) }
+{
+    let mut numbers = [0; KEY_COUNT];
+    for (i, key) in KEYS.iter().enumerate() {
+        numbers[i] = number_at(table, *key)?;
+    }
+    Ok(numbers)
+}
+
+/// Whether a text is the name of a key.
+#[tactic(auto, unfolding(crate::specs::Table::is_known))]
+fn is_known(text: &str) -> bool
+    ensures { result ≡ is_known_text text.now }
+{
+    KEYS.iter().any(|key| key.name() == text)
+}
+
+/// The first of a table's keys that isn't known.
+fn first_unknown(table: &Table) -> Option<&String>
+    ensures first { option_copied result ≡ find (λ key. not (is_known_text (string_bytes key))) (keys table.now) }
+    ensures ordered { IsOrdered string_cmp table.now }
+{
+    table.keys().find(|key| !is_known(key.as_str()))
+}
+
+/// The least of the keys that aren't known, if there are any. A table has its keys in order.
+pub fn unknown_key(table: &Table) -> Option<&str>
+    ensures { option_map (λ text. text.now) result ≡ least_of (unknown_keys (table_view table.now)) }
+{
+    let key = first_unknown(table)?;
+    Some(key.as_str())
+}

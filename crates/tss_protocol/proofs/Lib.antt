@@ -1,0 +1,9 @@
+mod MessageNames
+mod DrainedStates
+mod EventOrder
+mod EnabledList
+mod KnownEvents
+mod KnownRows
+mod RacingProgram
+mod FirstReader
+mod IdleRace

@@ -1,0 +1,56 @@
+-- Names of the unit machine: banks and stations by number, the operands of a task, and events by their kinds.
+use Rattle.std.specs.Prelude.{ℕ, ◌-◌, ◌/◌, ◌%◌, Bool}
+use Rattle.std.specs.Ordering.{eq_by_cmp}
+use Rattle.tss_base.specs.declared.range.Range.{Range}
+use Rattle.tss_base.specs.declared.operand.OpName.{OpName}
+use Rattle.tss_base.specs.declared.machine.Sizes.{Sizes}
+use Rattle.tss_base.specs.declared.event.Event.{Event}
+use Rattle.tss_base.specs.declared.event.Event.TheVariants as event
+use Rattle.tss_base.specs.Names.{name_cmp}
+
+-- the bank of an object, of the tables for renaming and versioning
+abbrev pub bank_of : Sizes → Range → ℕ
+bank_of sizes object = object.base / 64 % sizes.banks
+
+-- the station of a task by its number
+abbrev pub station_of : Sizes → ℕ → ℕ
+station_of sizes task = (task - 1) % sizes.stations
+
+-- an operand of a task. A version has the name of the operand that opened it, and a buffer that of the operand for
+-- which it was taken, so names are never used again
+abbrev pub operand_name : ℕ → ℕ → OpName
+operand_name task place = record { task = task; place = place }
+
+-- two names are equal
+abbrev pub same_name : OpName → OpName → Bool
+same_name = eq_by_cmp name_cmp
+
+-- the twelve kinds of messages, in the order of events
+pub data MessageKind : Type 0 where
+  Decode : MessageKind
+  Ack : MessageKind
+  Open : MessageKind
+  Use : MessageKind
+  Ready : MessageKind
+  Link : MessageKind
+  Release : MessageKind
+  Bye : MessageKind
+  Idle : MessageKind
+  Nack : MessageKind
+  Retire : MessageKind
+  Gone : MessageKind
+
+-- the name of a message, by its kind and one operand or version: that of the event that takes it
+abbrev pub message_event : MessageKind → OpName → Event
+message_event Decode o = event.Decode o
+message_event Ack o = event.Ack o
+message_event Open o = event.Open o
+message_event Use o = event.Use o
+message_event Ready o = event.Ready o
+message_event Link o = event.Link o
+message_event Release o = event.Release o
+message_event Bye o = event.Bye o
+message_event Idle o = event.Idle o
+message_event Nack o = event.Nack o
+message_event Retire o = event.Retire o
+message_event Gone o = event.Gone o

@@ -1,0 +1,8 @@
+-- The keys of the rows are the keys.
+use Rattle.std.proofs.Common.{◌∙◌}
+use Rattle.tss_maps.proofs.Keys.{name_order}
+use Rattle.tss_tables.proofs.TableLemmas.{key_at-seen}
+use Rattle.tss_tables.proofs.name_table.NameTable.first.Goals as goal
+
+pub returns : goal.returns
+returns g c = c.key_at.ensures ∙ key_at-seen name_order c.self.inside.rows _ c.self.view_is c.self.invariant 0

@@ -1,0 +1,15 @@
+-- As many entries as rows.
+use Rattle.std.proofs.Common.{◌∙◌, arith}
+use Rattle.tss_maps.proofs.Keys.{name_order}
+use Rattle.tss_tables.proofs.TableLemmas.{len-seen, size-seen}
+use Rattle.tss_tables.proofs.name_table.NameTable.len.Goals as goal
+
+pub returns-clause-exact : goal.returns-clause-exact
+returns-clause-exact g c =
+    c.len.ensures.exact ∙ len-seen name_order c.self.inside.rows _ c.self.view_is c.self.invariant
+
+pub returns-clause-within : goal.returns-clause-within
+returns-clause-within g c =
+    let len = len-seen name_order c.self.inside.rows _ c.self.view_is c.self.invariant in
+    let size = size-seen name_order c.self.inside.rows _ c.self.view_is c.self.invariant in
+    omega (arith, len, size, c.len.ensures.within)

@@ -1,0 +1,12 @@
+-- As many entries as rows.
+use Rattle.std.proofs.Common.{arith}
+use Rattle.std.proofs.lemmas.Bool.Decides.{nat_tests}
+use Rattle.tss_maps.proofs.Keys.{nat_order}
+use Rattle.tss_tables.proofs.TableLemmas.{len-seen}
+use Rattle.tss_tables.proofs.table.Table.is_empty.Goals as goal
+
+pub returns : goal.returns
+returns g c =
+    let len = len-seen nat_order c.self.inside.rows _ c.self.view_is c.self.invariant in
+    let exact = c.len.ensures.exact in
+    grind (arith, nat_tests, len, exact)

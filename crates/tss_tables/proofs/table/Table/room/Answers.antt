@@ -1,0 +1,13 @@
+-- As many entries as rows, and the same size.
+use Rattle.std.proofs.Common.{arith}
+use Rattle.std.proofs.lemmas.Bool.Decides.{nat_tests}
+use Rattle.tss_maps.proofs.Keys.{nat_order}
+use Rattle.tss_tables.proofs.TableLemmas.{len-seen, size-seen}
+use Rattle.tss_tables.proofs.table.Table.room.Goals as goal
+
+pub returns : goal.returns
+returns g c =
+    let len = len-seen nat_order c.self.inside.rows _ c.self.view_is c.self.invariant in
+    let size = size-seen nat_order c.self.inside.rows _ c.self.view_is c.self.invariant in
+    let exact = c.len.ensures.exact in
+    grind (arith, nat_tests, len, size, exact)

@@ -1,0 +1,7 @@
+pub mod Rows
+pub mod Lends
+pub mod Table
+pub mod TableLends
+pub mod NameTableLends
+pub mod Seats
+pub mod SeatsLends

@@ -1,0 +1,14 @@
+-- What a table under names ends as, where a `&mut` to a value is returned.
+use Rattle.std.specs.Prelude.{Option}
+use Rattle.std.specs.Borrow.{LendsIf, Fml, RattleType, MutBor}
+use Rattle.std.specs.FinMap.{insert}
+use Rattle.tss_base.specs.Names.{name_cmp}
+use Rattle.tss_base.specs.declared.operand.OpName.{OpName}
+use Rattle.tss_tables.specs.Table.{TableState}
+use Rattle.tss_tables.specs.contracts.name_table.NameTable as names
+
+-- once the borrow r ends, the key has the last value written through r, and at `None` the table stays as it is
+abbrev pub lends_entry : (V : RattleType) → MutBor (TableState name_cmp V.Denot) → OpName → Option (MutBor V.Denot) →
+    Fml
+lends_entry V t key r =
+    LendsIf (names.the_row V) V t r (λ w. record { size = t.now.size; entries = insert t.now.entries key w }) t.now

@@ -1,0 +1,89 @@
+// Each kind of table opened with ample memory, filled, emptied and filled anew.
+use crate::{NameTable, Seats, Table};
+use std::process::Abort;
+use std::test::Fail;
+use tss_base::OpName;
+
+/// Fills a table of three with the first three keys in an order that isn't theirs, and empties it.
+fn fill_and_empty(rt: &impl Abort, table: &mut Table<u32>, value: u32) {
+    for key in [40, 7, 0xffff_ffff, 9] {
+        if table.room() && !table.has(key) {
+            table.add(key, value);
+        }
+    }
+    assert_eq!(rt; (table.len(), table.room()), (3, false));
+    assert_eq!(rt;
+        (table.get(9).copied(), table.get(40).copied()),
+        (None, Some(value))
+    );
+    assert_eq!(rt;
+        (table.first(), table.key_at(1), table.key_at(3)),
+        (Some(7), Some(40), None)
+    );
+    assert_eq!(rt;
+        (table.next_after(8), table.next_after(40)),
+        (Some(40), Some(0xffff_ffff))
+    );
+    if let Some(value) = table.get_mut(7) {
+        *value = 70;
+    }
+    assert_eq!(rt;
+        (table.remove(7), table.remove(40), table.remove(40)),
+        (Some(70), Some(value), None)
+    );
+    assert_eq!(rt; table.remove(0xffff_ffff), Some(value));
+}
+
+#[test]
+fn numbers_come_back_in_order(rt: HostRuntime) -> Result<(), Fail> {
+    let mut table = Table::open(rt.alloc(), 3)?;
+    fill_and_empty(&rt, &mut table, 5);
+    fill_and_empty(&rt, &mut table, 6);
+    assert!(rt; table.is_empty());
+    table.close();
+    Ok(())
+}
+
+#[test]
+fn names_come_back_in_order(rt: HostRuntime) -> Result<(), Fail> {
+    let mut table = NameTable::open(rt.alloc(), 2)?;
+    let first = OpName { task: 1, place: 6 };
+    let second = OpName { task: 2, place: 0 };
+    for name in [second, first] {
+        if table.room() && !table.has(name) {
+            table.add(name, name.task);
+        }
+    }
+    assert_eq!(rt;
+        (table.first(), table.next_after(first)),
+        (Some(first), Some(second))
+    );
+    assert_eq!(rt;
+        (table.remove(first), table.remove(second)),
+        (Some(1), Some(2))
+    );
+    assert!(rt; table.is_empty());
+    table.close();
+    Ok(())
+}
+
+/// A value that can't be let go.
+struct Held(u32);
+
+#[test]
+fn places_hold_what_must_be_taken_out(rt: HostRuntime) -> Result<(), Fail> {
+    let mut seats = Seats::open(rt.alloc(), 2)?;
+    for value in 0..2 {
+        if 1 < seats.size() && !seats.has(1) {
+            seats.add(1, Held(value));
+            assert_eq!(rt; (seats.has(0), seats.len()), (false, 1));
+            match seats.remove(1) {
+                Some(Held(held)) => assert_eq!(rt; held, value),
+                None => assert!(rt; false, "nothing was held"),
+            }
+        }
+    }
+    assert_eq!(rt; seats.len(), 0);
+    seats.close();
+    Ok(())
+}
