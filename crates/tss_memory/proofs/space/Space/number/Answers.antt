@@ -1,17 +1,27 @@
--- The number in the block that was found is that in memory.
-use Rattle.std.proofs.Common.{ℕ, List, length, subst, sym, ap, ◌∙◌}
+-- The number in the block that was found is that in memory, and as small as its bytes are few.
+use Rattle.std.proofs.Common.{◌≡◌, ℕ, ◌^◌, ◌<◌, List, length, subst, sym, ap, ◌∙◌}
 use Rattle.std.specs.Prelude.{slice_index}
 use Rattle.tss_model.specs.Memory.{Memory, byte_at, number_at}
 use Rattle.tss_memory.specs.Ranges.{IsFound}
-use Rattle.tss_memory.proofs.ReadLemmas.{found_in, number_read}
+use Rattle.tss_memory.proofs.ReadLemmas.{found_in, count_read, number_read}
 use Rattle.tss_memory.proofs.space.Space.number.Goals as goal
 
-pub returns : goal.returns
-returns c =
+pub returns-clause-exact : goal.returns-clause-exact
+returns-clause-exact c =
     let found = subst (λ (m : Memory). IsFound m.ranges c.args.found c.args.r.now)
     (sym c.self.view_is) c.requires.found in
-    c.number_of.ensures
+    c.number_of.ensures.exact
     ∙ ap (λ (xs : List ℕ). number_at (slice_index xs) 0 (length xs)) c.bytes.ensures
     ∙ number_read c.self.inside.blocks.items c.self.invariant c.args.r.now c.args.found.index c.index.result.now
     (found_in c.self.inside.blocks.items c.args.found c.args.r.now found) c.index.ensures
     ∙ ap (λ (m : Memory). number_at (byte_at m) c.args.r.now.base c.args.r.now.len) c.self.view_is
+
+pub returns-clause-fits : goal.returns-clause-fits
+returns-clause-fits c =
+    let found = subst (λ (m : Memory). IsFound m.ranges c.args.found c.args.r.now)
+    (sym c.self.view_is) c.requires.found in
+    let as_long : length c.bytes.result.now ≡ c.args.r.now.len =
+        ap length c.bytes.ensures
+        ∙ count_read c.self.inside.blocks.items c.args.r.now c.args.found.index c.index.result.now
+        (found_in c.self.inside.blocks.items c.args.found c.args.r.now found) c.index.ensures in
+    subst (λ (n : ℕ). c.number_of.result < 256 ^ n) as_long c.number_of.ensures.fits
