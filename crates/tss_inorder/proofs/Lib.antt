@@ -1,0 +1,11 @@
+pub mod StepLemmas
+pub mod ByteLemmas
+pub mod PlaceLemmas
+pub mod GrantLemmas
+pub mod ViewLemmas
+pub mod TaskLemmas
+pub mod RunLemmas
+pub mod SpawnPlaces
+pub mod FlatLemmas
+pub mod CallLemmas
+pub mod OpenLemmas
