@@ -1,3 +1,4 @@
 pub mod WordsLemmas
 pub mod PutLemmas
 pub mod PlainLemmas
+pub mod TaskLemmas

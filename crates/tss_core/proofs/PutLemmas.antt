@@ -25,13 +25,13 @@ length-list_put [] xs at = refl
 length-list_put (b ∷ bs) xs at = length-set (list_put xs (suc at) bs) at b ∙ length-list_put bs xs (suc at)
 
 -- a place below it keeps its byte, and one above
-list_put-below : (bs xs : List ℕ) (at a : ℕ) → a < at → slice_index (list_put xs at bs) a ≡ slice_index xs a
+pub list_put-below : (bs xs : List ℕ) (at a : ℕ) → a < at → slice_index (list_put xs at bs) a ≡ slice_index xs a
 list_put-below [] xs at a below = refl
 list_put-below (b ∷ bs) xs at a below =
     get_or-set_other (list_put xs (suc at) bs) at a b 0 (λ e. omega arith)
     ∙ list_put-below bs xs (suc at) a (omega arith)
 
-list_put-above : (bs xs : List ℕ) (at a : ℕ) → at + length bs ≤ a
+pub list_put-above : (bs xs : List ℕ) (at a : ℕ) → at + length bs ≤ a
     → slice_index (list_put xs at bs) a ≡ slice_index xs a
 list_put-above [] xs at a above = refl
 list_put-above (b ∷ bs) xs at a above =
@@ -39,7 +39,7 @@ list_put-above (b ∷ bs) xs at a above =
     ∙ list_put-above bs xs (suc at) a (omega arith)
 
 -- a place of it has the byte that was put there
-list_put-in : (bs xs : List ℕ) (at a k : ℕ) → at + length bs ≤ length xs → a ≡ at + k → k < length bs
+pub list_put-in : (bs xs : List ℕ) (at a k : ℕ) → at + length bs ≤ length xs → a ≡ at + k → k < length bs
     → slice_index (list_put xs at bs) a ≡ slice_index bs k
 list_put-in [] xs at a k there here small = absurd (omega arith)
 list_put-in (b ∷ bs) xs at a zero there here small =
@@ -51,19 +51,31 @@ list_put-in (b ∷ bs) xs at a (suc k) there here small =
     get_or-set_other (list_put xs (suc at) bs) at a b 0 (λ e. omega arith)
     ∙ list_put-in bs xs (suc at) a k (omega arith) (omega arith) (omega arith)
 
+-- bytes that stay below and above a write, and are its own in it, are those after it
+pub byte_after-by : (byte new : ℕ → ℕ) (w : Write)
+    → ((a : ℕ) → a < w.at → new a ≡ byte a)
+    → ((a : ℕ) → w.at + length w.bytes ≤ a → new a ≡ byte a)
+    → ((a k : ℕ) → a ≡ w.at + k → k < length w.bytes → new a ≡ slice_index w.bytes k)
+    → (a : ℕ) → new a ≡ byte_after byte (Some w) a
+byte_after-by byte new w below above own a =
+    elim (cases_lt a w.at) [
+      | inl lower ↦ below a lower ∙ sym (byte_after-below byte w a lower)
+      | inr from ↦
+          elim (cases_lt a (w.at + length w.bytes)) [
+            | inl to ↦
+                let place : a ≡ w.at + (a - w.at) = omega arith in
+                let small : a - w.at < length w.bytes = omega arith in
+                own a (a - w.at) place small ∙ sym (byte_after-in byte w a from to)
+            | inr higher ↦ above a higher ∙ sym (byte_after-above byte w a higher)
+          ]
+    ]
+
 -- the byte at each place after a put
 pub list_put-byte : (bs xs : List ℕ) (at a : ℕ) → at + length bs ≤ length xs
     → slice_index (list_put xs at bs) a ≡ byte_after (slice_index xs) (Some (record { at = at; bytes = bs })) a
 list_put-byte bs xs at a there =
-    let w : Write = record { at = at; bytes = bs } in
-    elim (cases_lt a at) [
-      | inl below ↦ list_put-below bs xs at a below ∙ sym (byte_after-below (slice_index xs) w a below)
-      | inr from ↦
-          elim (cases_lt a (at + length bs)) [
-            | inl to ↦
-                let place : a ≡ at + (a - at) = omega arith in
-                let small : a - at < length bs = omega arith in
-                list_put-in bs xs at a (a - at) there place small ∙ sym (byte_after-in (slice_index xs) w a from to)
-            | inr above ↦ list_put-above bs xs at a above ∙ sym (byte_after-above (slice_index xs) w a above)
-          ]
-    ]
+    byte_after-by (slice_index xs) (slice_index (list_put xs at bs)) (record { at = at; bytes = bs })
+    (λ a lower. list_put-below bs xs at a lower)
+    (λ a higher. list_put-above bs xs at a higher)
+    (λ a k place small. list_put-in bs xs at a k there place small)
+    a

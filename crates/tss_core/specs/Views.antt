@@ -40,9 +40,11 @@ abbrev pub write_on : Access → Write → Option Write
 write_on Granted w = Some w
 write_on a w = None
 
+abbrev pub write_at : ℕ → ℕ → ℕ → Write
+write_at at width value = record { at = at; bytes = low_bytes width value }
+
 abbrev pub stored : Sight → ℕ → ℕ → ℕ → Option Write
-stored s at width value =
-    write_on (access_at s Stores at width) (record { at = at; bytes = low_bytes width value })
+stored s at width value = write_on (access_at s Stores at width) (write_at at width value)
 
 -- the byte at an address after a write, where there is one
 abbrev pub byte_after : (ℕ → ℕ) → Option Write → ℕ → ℕ

@@ -6,7 +6,9 @@
 
 mod access;
 mod arithmetic;
-mod plain;
+mod blocks;
+mod plain_main;
+mod plain_task;
 mod regs;
 mod stepping;
 #[cfg(test)]
@@ -14,7 +16,8 @@ mod tests;
 mod view;
 
 pub use access::{Deny, Purpose, main_access, owns, task_access};
-pub use plain::PlainMain;
+pub use plain_main::PlainMain;
+pub use plain_task::PlainTask;
 pub use regs::Regs;
 pub use stepping::{Outcome, step};
 pub use view::View;

@@ -52,8 +52,8 @@ impl Regs {
         }
     }
 
-    /// A task's at first: it begins at its entry, with the address at which it ends in x1, the end of its scratch in x2,
-    /// and from x10 on the bases of its operands as listed, then its argument.
+    /// A task's at first: it begins at its entry, with the address at which it ends in x1, the end of its scratch in
+    /// x2, and from x10 on the bases of its operands as listed, then its argument.
     pub fn task(task: &Task) -> Regs
         requires { task.now.listed ≤ 7 }
         ensures { result ≡ task_registers task.now }

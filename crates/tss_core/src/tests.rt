@@ -1,7 +1,7 @@
 // Steps whose results are known from the rules, over plain views.
-ghost use Rattle.std.specs.Prelude.{◌≡◌};
+ghost use Rattle.std.specs.Prelude.{◌≡◌, vec_len, IfOk};
 
-use crate::{Outcome, PlainMain, Regs, step};
+use crate::{Outcome, PlainMain, PlainTask, Regs, step};
 use std::alloc::{AllocError, Global};
 use std::test::Fail;
 use tss_base::{Mode, Operand, Range, Task, Trap};
@@ -94,7 +94,7 @@ fn unexecuted() -> [(u32, u32, Outcome); 12] {
         (0x0000_0000, 0, trap(2, 0)),
         (0x0010_0073, 0, trap(3, PC)),
         (0x0000_0073, 0, Outcome::Call),
-        // lh x6, 0(x5) at odd addresses, also where main may not load; lw x0, 0(x5) beyond the memory and across its end
+        // lh x6, 0(x5) at odd addresses, also where main may not load; lw x0, 0(x5) beyond the memory, and lw x6
         (0x0002_9303, 1, trap(4, 1)),
         (0x0002_9303, 0xFFFF_FFFF, trap(4, 0xFFFF_FFFF)),
         (0x0002_A003, 256, trap(5, 256)),
@@ -165,6 +165,65 @@ fn stores_write_their_bytes_alone(rt: HostRuntime) -> Result<(), Fail> {
         let mut regs = registers(x5, 0x89AB_CDEF);
         assert_eq!(rt; step(&mut regs, &mut view), Outcome::Next);
         assert_eq!(rt; view.bytes.as_slice().get(..8), Some(want.as_slice()));
+    }
+    Ok(())
+}
+
+/// So many zeros.
+fn zeros(alloc: Global, n: usize) -> Result<Vec<u8>, AllocError>
+    ensures { IfOk result (λ v. vec_len v ≡ n) }
+{
+    vec![in alloc; 0; n]
+}
+
+/// A task's view of 256 bytes that main can write, with the word that is executed, an input at 16 and an output at 32.
+fn task_view(alloc: Global, word: u32) -> Result<PlainTask, AllocError> {
+    let bytes = zeros(alloc, 256)?;
+    let scratch = zeros(alloc, 0x10000)?;
+    let input = Operand {
+        object: Range { base: 16, len: 8 },
+        mode: Mode::Input,
+    };
+    let output = Operand {
+        object: Range { base: 32, len: 8 },
+        mode: Mode::Output,
+    };
+    Ok(PlainTask {
+        bytes,
+        writable: true,
+        scratch,
+        operands: vec![in alloc; input, output]?,
+        text: PC,
+        code: vec![in alloc; word]?,
+    })
+}
+
+/// lw x6, 0(x5) and sw x7, 0(x5) with x5 before them, and the cause of the trap, or none.
+fn accesses() -> [(u32, u32, Option<u32>); 10] {
+    [
+        (0x0002_A303, 16, None),
+        (0x0002_A303, 36, None),
+        (0x0002_A303, 40, Some(5)),
+        (0x0002_A303, 0xFFFD_0000, None),
+        (0x0002_A303, 0xFFFC_FFFC, Some(5)),
+        (0x0072_A023, 16, Some(7)),
+        (0x0072_A023, 36, None),
+        (0x0072_A023, 64, Some(7)),
+        (0x0072_A023, 0xFFFD_FFFC, None),
+        (0x0072_A023, 0xFFFE_0000, Some(7)),
+    ]
+}
+
+#[test]
+fn a_task_uses_its_operands_and_its_scratch_alone(rt: HostRuntime) -> Result<(), Fail> {
+    for (word, x5, cause) in accesses() {
+        let mut view = task_view(rt.alloc(), word)?;
+        let mut regs = registers(x5, 9);
+        let want = match cause {
+            Some(cause) => trap(cause, x5),
+            None => Outcome::Next,
+        };
+        assert_eq!(rt; step(&mut regs, &mut view), want, "at {x5}");
     }
     Ok(())
 }
