@@ -108,6 +108,6 @@ number_at-same f g a b (suc n) same =
     let first : f a ≡ g b = ap f (sym (add-zero a)) ∙ same 0 (omega arith) ∙ ap g (add-zero b) in
     let rest = number_at-same f g (suc a) (suc b) n (λ k h. ap f (later a k) ∙ same (suc k) (omega arith) ∙ ap g (sym (later b k))) in
     λ t. first t + 256 * rest t
-    where
+  where
     later : (x k : ℕ) → suc x + k ≡ x + suc k
     later x k = omega arith

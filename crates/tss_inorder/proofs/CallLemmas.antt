@@ -34,7 +34,7 @@ module _ (code : List SegmentState) (limits : Limits) (r : Registers) (spawned :
   print_leads x q bytes place some within apart room regs shown =
       (λ i. record { main = print_call limits memory (main_now r spawned objects pieces) (sym place i); memory = memory })
       ∙ ap (λ (m : MainState). record { main = m; memory = memory })
-        (cond-false _ _ _ some ∙ cond-false _ _ _ within ∙ cond-false _ _ _ apart ∙ cond-false _ _ _ room)
+      (cond-false _ _ _ some ∙ cond-false _ _ _ within ∙ cond-false _ _ _ apart ∙ cond-false _ _ _ room)
       ∙ (λ i. flat_now (sym regs i) spawned objects (pieces ++ record { before = spawned; bytes = sym shown i } ∷ []) memory)
 
 -- what was printed with one piece more

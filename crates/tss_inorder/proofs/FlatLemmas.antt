@@ -41,11 +41,11 @@ module _ (code : List SegmentState) (limits : Limits) (r : Registers) (spawned :
   -- main that has spent its budget is refused
   pub flat_step-spent : nat_le limits.main_budget r.done ≡ true
       → flat_step code limits (flat_now r spawned objects pieces memory)
-        ≡ record { main = main_refused (main_now r spawned objects pieces) main_budget_spent; memory = memory }
+      ≡ record { main = main_refused (main_now r spawned objects pieces) main_budget_spent; memory = memory }
   unfolding flat_step main_step
   flat_step-spent spent =
       ap (λ (b : Bool). flat_by code limits (flat_now r spawned objects pieces memory)
-        (cond b None (called_by r (main_core code (flat_now r spawned objects pieces memory))))) spent
+      (cond b None (called_by r (main_core code (flat_now r spawned objects pieces memory))))) spent
       ∙ cond-true _ _ _ spent
 
   -- where its next step is
@@ -56,7 +56,7 @@ module _ (code : List SegmentState) (limits : Limits) (r : Registers) (spawned :
   -- a call is done
   pub flat_step-called : nat_le limits.main_budget r.done ≡ false → Called ≡ main_core code (flat_now r spawned objects pieces memory)
       → flat_step code limits (flat_now r spawned objects pieces memory)
-        ≡ called code limits (call_of (register_at r 17)) (flat_now r spawned objects pieces memory)
+      ≡ called code limits (call_of (register_at r 17)) (flat_now r spawned objects pieces memory)
   unfolding flat_step
   flat_step-called left core = ap (flat_by code limits (flat_now r spawned objects pieces memory)) (next_is left Called core)
 
@@ -74,7 +74,7 @@ module _ (code : List SegmentState) (limits : Limits) (r : Registers) (spawned :
   pub flat_step-outcome : nat_le limits.main_budget r.done ≡ false → (x : Stepped) → x ≡ main_core code (flat_now r spawned objects pieces memory)
       → (o : Outcome) → o ≡ outcome_of x → (o ≡ Call → ⊥) → (q : Registers) → q ≡ registers_after r x → (n : Memory) → n ≡ flat_written memory (write_of x)
       → flat_step code limits (flat_now r spawned objects pieces memory)
-        ≡ record { main = record { registers = q; spawned = spawned; epoch = objects; pieces = pieces; ending = ending_after q o }; memory = n }
+      ≡ record { main = record { registers = q; spawned = spawned; epoch = objects; pieces = pieces; ending = ending_after q o }; memory = n }
   flat_step-outcome left (Executed p w) core o out other q regs n written =
       flat_step-stepped left (Executed p w) core refl
       ∙ (λ i. record { main = record { registers = sym regs i; spawned = spawned; epoch = objects; pieces = pieces; ending = ending_after (sym regs i) (sym out i) }; memory = sym written i })
@@ -122,29 +122,33 @@ module _ (old mid : FlatMachine) (rest : KeepsRest old mid) (left : nat_le old.l
       let core = called_is (core_of old) out in
       let same : mid.regs ≡ old.regs = regs ∙ ap (registers_after old.regs) (sym core) in
       let kept : mid.space ≡ old.space = written ∙ ap (λ (x : Stepped). flat_written old.space (write_of x)) (sym core) in
-      let next = leads pieces (printed ∙ sym rest.output) in
-      (next.0, next.1,
+      let next = leads pieces (printed ∙ sym rest.output) in (
+        next.0,
+        next.1,
         flat_step-called old.code old.limits old.regs old.spawned old.epoch.objects pieces old.space left core
-        ∙ (λ i. called (sym rest.code i) (sym rest.limits i) (call_of (register_at (sym same i) 17))
-          (flat_now (sym same i) (sym rest.spawned i) ((sym rest.epoch i).objects) pieces (sym kept i)))
-        ∙ next.2)
+            ∙ (λ i. called (sym rest.code i) (sym rest.limits i) (call_of (register_at (sym same i) 17))
+            (flat_now (sym same i) (sym rest.spawned i) ((sym rest.epoch i).objects) pieces (sym kept i)))
+            ∙ next.2,
+      )
 
   module _ (o : Outcome) (out : o ≡ outcome_of (core_of old)) (other : o ≡ Call → ⊥) (e : Option Ending) (ends : e ≡ ending_after mid.regs o) where
     -- any other step
     pub core_leads : LeadsTo (flat_step old.code old.limits) old mid e
-    core_leads pieces printed =
-        (pieces, printed ∙ sym rest.output,
-          flat_step-outcome old.code old.limits old.regs old.spawned old.epoch.objects pieces old.space left (core_of old) refl o out other mid.regs regs mid.space written
-          ∙ (λ i. record { main = record { registers = mid.regs; spawned = sym rest.spawned i; epoch = (sym rest.epoch i).objects; pieces = pieces; ending = sym ends i }; memory = mid.space }))
+    core_leads pieces printed = (
+      pieces,
+      printed ∙ sym rest.output,
+      flat_step-outcome old.code old.limits old.regs old.spawned old.epoch.objects pieces old.space left (core_of old) refl o out other mid.regs regs mid.space written
+          ∙ (λ i. record { main = record { registers = mid.regs; spawned = sym rest.spawned i; epoch = (sym rest.epoch i).objects; pieces = pieces; ending = sym ends i }; memory = mid.space }),
+    )
 
     pub core_advances : Advances old mid e
     core_advances = record {
       code = rest.code;
       limits = rest.limits;
       done = λ goes.
-        core-completes old.regs mid.regs (core_of old) o
-        (core_step-completes (MainActor old.space.ranges old.epoch.objects) (byte_at old.space) old.regs (code_word old.code))
-        out other regs (sym ends ∙ goes);
+          core-completes old.regs mid.regs (core_of old) o
+          (core_step-completes (MainActor old.space.ranges old.epoch.objects) (byte_at old.space) old.regs (code_word old.code))
+          out other regs (sym ends ∙ goes);
       budget = λ goes. leb-false old.limits.main_budget old.regs.done left;
     }
 
@@ -156,8 +160,8 @@ pub record IsOnTheWay (a v : FlatMachine) : Type 0 where
   pub limits : v.limits ≡ a.limits
   pub way : (pieces : List Piece) → output_of pieces ≡ a.output.items
       → (after : List Piece) × (output_of after ≡ v.output.items)
-        × (repeated (flat_step a.code a.limits) (suc (a.limits.main_budget - v.regs.done)) (flat_of v after None)
-          ≡ repeated (flat_step a.code a.limits) (suc (a.limits.main_budget - a.regs.done)) (flat_of a pieces None))
+      × (repeated (flat_step a.code a.limits) (suc (a.limits.main_budget - v.regs.done)) (flat_of v after None)
+      ≡ repeated (flat_step a.code a.limits) (suc (a.limits.main_budget - a.regs.done)) (flat_of a pieces None))
 
 pub on_the_way-start : (a : FlatMachine) → IsOnTheWay a a
 on_the_way-start a = record { code = refl; limits = refl; way = λ pieces e. (pieces, e, refl) }
@@ -172,25 +176,29 @@ module _ (a v w : FlatMachine) (on : IsOnTheWay a v) where
     code = advances.code ∙ on.code;
     limits = advances.limits ∙ on.limits;
     way = λ pieces e.
-      let here = on.way pieces e in
-      let next = leads here.0 here.1 in
-      let done : w.regs.done ≡ v.regs.done + 1 = advances.done refl in
-      let left : v.regs.done < a.limits.main_budget = subst (λ (l : Limits). v.regs.done < l.main_budget) on.limits (advances.budget refl) in
-      let count : suc (a.limits.main_budget - w.regs.done) ≡ a.limits.main_budget - v.regs.done = omega arith in
-      (next.0, next.1,
-        ap (λ (n : ℕ). repeated (flat_step a.code a.limits) n (flat_of w next.0 None)) count
-        ∙ sym (repeated-suc (flat_step a.code a.limits) (a.limits.main_budget - v.regs.done) (flat_of v here.0 None) (flat_of w next.0 None) (steps_as _ _ next.2))
-        ∙ here.2);
+        let here = on.way pieces e in
+        let next = leads here.0 here.1 in
+        let done : w.regs.done ≡ v.regs.done + 1 = advances.done refl in
+        let left : v.regs.done < a.limits.main_budget = subst (λ (l : Limits). v.regs.done < l.main_budget) on.limits (advances.budget refl) in
+        let count : suc (a.limits.main_budget - w.regs.done) ≡ a.limits.main_budget - v.regs.done = omega arith in (
+          next.0,
+          next.1,
+          ap (λ (n : ℕ). repeated (flat_step a.code a.limits) n (flat_of w next.0 None)) count
+              ∙ sym (repeated-suc (flat_step a.code a.limits) (a.limits.main_budget - v.regs.done) (flat_of v here.0 None) (flat_of w next.0 None) (steps_as _ _ next.2))
+              ∙ here.2,
+        );
   }
 
   pub on_the_way-ended : (e : Ending) → LeadsTo (flat_step v.code v.limits) v w (Some e) → RunsTo a w e
   on_the_way-ended e leads pieces h =
       let here = on.way pieces h in
-      let next = leads here.0 here.1 in
-      (next.0, next.1,
+      let next = leads here.0 here.1 in (
+        next.0,
+        next.1,
         sym here.2
-        ∙ repeated-reached (flat_step a.code a.limits) (a.limits.main_budget - v.regs.done) (flat_of v here.0 None) (flat_of w next.0 (Some e)) (steps_as _ _ next.2)
-          (flat_step-ended a.code a.limits (main_of w next.0 None) e w.space))
+            ∙ repeated-reached (flat_step a.code a.limits) (a.limits.main_budget - v.regs.done) (flat_of v here.0 None) (flat_of w next.0 (Some e)) (steps_as _ _ next.2)
+            (flat_step-ended a.code a.limits (main_of w next.0 None) e w.space),
+      )
 
 -- from the start of an image, that is the execution in program order
 pub in_order-reached : (a w : FlatMachine) (image : ImageState) (limits : Limits) (e : Ending) → flat_of a [] None ≡ flat_start image

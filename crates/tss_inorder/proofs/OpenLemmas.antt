@@ -25,6 +25,6 @@ unfolding loaded
 beside_scratch-loaded i accepted =
     list_all-append (λ m. not (meets m.range scratch_range)) (map memory_range i.segments) (record { range = stack_range; writable = true } ∷ [])
     ∙ and_from (list_all (λ m. not (meets m.range scratch_range)) (map memory_range i.segments)) true
-      (list_all-map (λ m. not (meets m.range scratch_range)) memory_range i.segments
-        ∙ all_from (λ s. not (meets (segment_range s) scratch_range)) i.segments (λ j d h. segment_beside (get_or i.segments j d) (accepted.each j d h).1))
-      refl
+    (list_all-map (λ m. not (meets m.range scratch_range)) memory_range i.segments
+    ∙ all_from (λ s. not (meets (segment_range s) scratch_range)) i.segments (λ j d h. segment_beside (get_or i.segments j d) (accepted.each j d h).1))
+    refl

@@ -84,10 +84,10 @@ range_of-inside ranges are o r w some inside e =
     let held : contains l.1.range r ≡ true = contains_from l.1.range r (omega arith) (omega arith) in
     ap (option_map (λ m. m.writable))
     (find_first (λ m. contains m.range r) ranges l.0
-      (λ j m h there.
-        let apart = ranges_apart ranges are j l.0 m l.1 h there l.2 in
-        contains_not_end m.range r (omega arith))
-      (λ m there. ap (λ (x : MemoryRange). contains x.range r) (same_Some m l.1 (sym there ∙ l.2)) ∙ held)
+    (λ j m h there.
+    let apart = ranges_apart ranges are j l.0 m l.1 h there l.2 in
+    contains_not_end m.range r (omega arith))
+    (λ m there. ap (λ (x : MemoryRange). contains x.range r) (same_Some m l.1 (sym there ∙ l.2)) ∙ held)
     ∙ l.2)
     ∙ ap Some l.4
 
@@ -105,10 +105,10 @@ beside_address ranges r w a beside e low high =
     let parts = contains_parts l.1.range r l.3 in
     let apart = not-true (meets l.1.range scratch_range) (all_at (λ m. not (meets m.range scratch_range)) ranges l.0 l.1 beside l.2) in
     false_from_ne_true (covers scratch_range a) (λ c.
-      let in_scratch = and_parts (nat_le scratch_range.base a) (nat_lt a (end_of scratch_range)) c in
-      let first = leb-true scratch_range.base a in_scratch.0 in
-      let last = ltb-true a (end_of scratch_range) in_scratch.1 in
-      apart_addresses l.1.range scratch_range a apart (omega arith) (omega arith) first last)
+    let in_scratch = and_parts (nat_le scratch_range.base a) (nat_lt a (end_of scratch_range)) c in
+    let first = leb-true scratch_range.base a in_scratch.0 in
+    let last = ltb-true a (end_of scratch_range) in_scratch.1 in
+    apart_addresses l.1.range scratch_range a apart (omega arith) (omega arith) first last)
 
 -- ---- operands
 

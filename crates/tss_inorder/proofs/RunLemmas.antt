@@ -36,7 +36,7 @@ module _ (budget : ℕ) (a v : TaskView) (o r : Registers) (same : IsSameTask a 
       → end_of_task (repeated (step_of_view budget a) (suc (budget - q.done)) (task_of w q)) ≡ end_of_task (repeated (step_of_view budget a) (suc (budget - o.done)) (task_of a o))
   left_further w q goes =
       ap end_of_task (one_further (step_of_view budget a) budget (task_of v r) (task_of w q)
-        (subst (λ (f : TaskState Memory → TaskState Memory). f (task_of v r) ≡ task_of w q) (same_step budget a v same) goes.next) goes.done goes.budget)
+      (subst (λ (f : TaskState Memory → TaskState Memory). f (task_of v r) ≡ task_of w q) (same_step budget a v same) goes.next) goes.done goes.budget)
       ∙ left
 
   -- and one that is over has come to it
@@ -45,7 +45,7 @@ module _ (budget : ℕ) (a v : TaskView) (o r : Registers) (same : IsSameTask a 
   left_over m trap ends =
       sym left
       ∙ subst (λ (f : TaskState Memory → TaskState Memory). end_of_task (repeated f (suc (budget - r.done)) (task_of v r)) ≡ record { memory = m; trap = trap })
-        (same_step budget a v same) (ends (budget - r.done))
+      (same_step budget a v same) (ends (budget - r.done))
 
 -- ---- outputs
 

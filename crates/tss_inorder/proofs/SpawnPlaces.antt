@@ -102,9 +102,9 @@ module _ (ranges : List MemoryRange) (listed : List Operand) (all : are_placed r
   are_placed-merged =
       list_all-map (is_placed ranges) (merged_on listed) (name_objects [] (objects_of listed))
       ∙ all_implies (is_in_memory ranges) (λ r. is_placed ranges (merged_on listed r)) (name_objects [] (objects_of listed)) merged_placed
-        (named_all (is_in_memory ranges) (objects_of listed) [] refl
-          (list_all-map (is_in_memory ranges) (λ (o : Operand). o.object) listed
-          ∙ all_implies (is_placed ranges) (λ o. is_in_memory ranges o.object) listed (in_memory ranges) all))
+      (named_all (is_in_memory ranges) (objects_of listed) [] refl
+      (list_all-map (is_in_memory ranges) (λ (o : Operand). o.object) listed
+      ∙ all_implies (is_placed ranges) (λ o. is_in_memory ranges o.object) listed (in_memory ranges) all))
 
 -- ---- the checks
 
@@ -165,7 +165,7 @@ module _ (limits : Limits) (call : SpawnCall) (m : Memory) (named : List Range) 
       let same = same_ok (task_of call (suc spawned) listed (merged_operands listed)) t many.1 in
       subst (λ (x : Task). are_placed m.ranges (operands_of x) ≡ true) same
       (ap (are_placed m.ranges) (take_whole (merged_operands listed) (replicate (7 - length (merged_operands listed)) no_operand))
-        ∙ are_placed-merged m.ranges listed (entries_placed limits m (entries_at m call.list call.count) named listed (sym e)))
+      ∙ are_placed-merged m.ranges listed (entries_placed limits m (entries_at m call.list call.count) named listed (sym e)))
   task_placed (Err n) e h = absurd (cc)
 
   task_number : (listed : Result (List Operand) ℕ) → task_checked limits call named spawned listed ≡ Ok t → t.number ≡ suc spawned

@@ -64,7 +64,7 @@ module _ (budget : ℕ) (code : List SegmentState) (ranges : List MemoryRange) (
     executed-parts None q = refl
     executed-parts (Some w) q =
         elim (covers scratch_range w.at) as (λ b. record (cond b (record (task_now r scratch m) { scratch = list_put scratch (w.at - scratch_range.base) w.bytes }) (record (task_now r scratch m) { memory = memory_write m w })) { registers = q }
-          ≡ task_now q (cond b (list_put scratch (w.at - scratch_range.base) w.bytes) scratch) (cond b m (memory_write m w))) [
+        ≡ task_now q (cond b (list_put scratch (w.at - scratch_range.base) w.bytes) scratch) (cond b m (memory_write m w))) [
           | true ↦ refl
           | false ↦ refl
         ]
@@ -79,21 +79,21 @@ module _ (budget : ℕ) (code : List SegmentState) (ranges : List MemoryRange) (
           (sym (ap (turn_after q) out))
           (record {
             next =
-              step-core (task_now r scratch m) on left (Executed p w) core
-              ∙ executed-parts w p
-              ∙ (λ i. task_now (sym regs i) (sym bytes i) (sym memory i));
+                step-core (task_now r scratch m) on left (Executed p w) core
+                ∙ executed-parts w p
+                ∙ (λ i. task_now (sym regs i) (sym bytes i) (sym memory i));
             done =
-              ap (λ (x : Registers). x.done) regs
-              ∙ subst (Completes r) (sym core) (core_step-completes (TaskActor ranges operands) (task_byte byte_at (task_now r scratch m)) r (code_word code));
+                ap (λ (x : Registers). x.done) regs
+                ∙ subst (Completes r) (sym core) (core_step-completes (TaskActor ranges operands) (task_byte byte_at (task_now r scratch m)) r (code_word code));
             budget = leb-false budget r.done left;
           })
       turns-stepped Called core out regs bytes memory =
           subst (λ (u : Turn). Turns budget (flat_task_step budget code ranges operands) (task_now r scratch m) (task_now q after n) u)
           (sym (ap (turn_after q) out))
           (λ k.
-            ends-at (task_now r scratch m) (task_trapped (task_now r scratch m) (trap_of r call_in_task (register_at r 17)))
-            (step-core (task_now r scratch m) on left Called core) refl k
-            ∙ (λ i. record { memory = sym memory i; trap = Some (trap_of (sym regs i) call_in_task (register_at (sym regs i) 17)) }))
+          ends-at (task_now r scratch m) (task_trapped (task_now r scratch m) (trap_of r call_in_task (register_at r 17)))
+          (step-core (task_now r scratch m) on left Called core) refl k
+          ∙ (λ i. record { memory = sym memory i; trap = Some (trap_of (sym regs i) call_in_task (register_at (sym regs i) 17)) }))
       turns-stepped Ended core out regs bytes memory =
           subst (λ (u : Turn). Turns budget (flat_task_step budget code ranges operands) (task_now r scratch m) (task_now q after n) u)
           (sym (ap (turn_after q) out))
@@ -102,9 +102,9 @@ module _ (budget : ℕ) (code : List SegmentState) (ranges : List MemoryRange) (
           subst (λ (u : Turn). Turns budget (flat_task_step budget code ranges operands) (task_now r scratch m) (task_now q after n) u)
           (sym (ap (turn_after q) out))
           (λ k.
-            ends-at (task_now r scratch m) (task_trapped (task_now r scratch m) t)
-            (step-core (task_now r scratch m) on left (Trapped t) core) refl k
-            ∙ (λ i. record { memory = sym memory i; trap = Some t }))
+          ends-at (task_now r scratch m) (task_trapped (task_now r scratch m) t)
+          (step-core (task_now r scratch m) on left (Trapped t) core) refl k
+          ∙ (λ i. record { memory = sym memory i; trap = Some t }))
       turns-stepped Touched core out regs bytes memory =
           subst (λ (u : Turn). Turns budget (flat_task_step budget code ranges operands) (task_now r scratch m) (task_now q after n) u)
           (sym (ap (turn_after q) out))

@@ -43,7 +43,7 @@ main_after code objects m n at width value granted e =
     subst (λ (o : Option Write). IsAfter (main_sight code objects m) o (main_sight code objects n))
     (sym (ap (λ (a : Access). write_on a (write_at at width value)) granted))
     (subst (λ (k : Memory). IsAfter (main_sight code objects m) (Some (write_at at width value)) (main_sight code objects k)) (sym e)
-      (record { actor = refl; bytes = put_bytes-byte m at (low_bytes width value); words = λ pc. refl }))
+    (record { actor = refl; bytes = put_bytes-byte m at (low_bytes width value); words = λ pc. refl }))
 
 -- ---- a task: what it reads
 
@@ -66,14 +66,14 @@ pub scratch_number : (scratch : List ℕ) (m : Memory) (at width : ℕ) → cont
 scratch_number scratch m at width inside =
     let parts = contains_parts scratch_range (access_range at width) inside in
     number_at-same (slice_index scratch) (task_sees scratch m) (at - scratch_range.base) at width (λ k h.
-      let place : (at - scratch_range.base) + k ≡ (at + k) - scratch_range.base = omega arith in
-      ap (slice_index scratch) place ∙ sym (sees-scratch scratch m (at + k) (in_scratch at width (at + k) inside (omega arith) (omega arith))))
+    let place : (at - scratch_range.base) + k ≡ (at + k) - scratch_range.base = omega arith in
+    ap (slice_index scratch) place ∙ sym (sees-scratch scratch m (at + k) (in_scratch at width (at + k) inside (omega arith) (omega arith))))
 
 pub memory_number : (scratch : List ℕ) (m : Memory) (at width : ℕ) (w : Bool) → beside_scratch m.ranges ≡ true → range_of m.ranges (access_range at width) ≡ Some w
     → number_at (byte_at m) at width ≡ number_at (task_sees scratch m) at width
 memory_number scratch m at width w beside within =
     number_at-same (byte_at m) (task_sees scratch m) at at width (λ k h.
-      sym (sees-memory scratch m (at + k) (beside_address m.ranges (access_range at width) w (at + k) beside within (omega arith) (omega arith))))
+    sym (sees-memory scratch m (at + k) (beside_address m.ranges (access_range at width) w (at + k) beside within (omega arith) (omega arith))))
 
 -- a task may access its scratch
 scratch_granted : (p : Purpose) (ranges : List MemoryRange) (operands : List Operand) (r : Range) → contains scratch_range r ≡ true → task_access ranges operands p r ≡ Granted
@@ -118,16 +118,17 @@ sees_put scratch m at width value a long inside =
           beside put a beyond (cases_Bool (covers scratch_range a)) parts.0
           ∙ sym (byte_after-outside (task_sees scratch m) at bs a beyond)
     ]
-    where
+  where
     place : (a : ℕ) → at ≤ a → scratch_range.base ≤ at → (a - scratch_range.base) - (at - scratch_range.base) ≡ a - at
     place a low base = omega arith
+
     beside : (put : List ℕ) (a : ℕ) → (a < at) ⊎ (at + length (low_bytes width value) ≤ a) → (covers scratch_range a ≡ true) ⊎ (covers scratch_range a ≡ false)
         → scratch_range.base ≤ at → task_sees (list_put scratch (at - scratch_range.base) (low_bytes width value)) m a ≡ task_sees scratch m a
     beside put a beyond (inl c) base =
         let first = leb-true scratch_range.base a (and_parts (nat_le scratch_range.base a) (nat_lt a (end_of scratch_range)) c).0 in
         sees-scratch _ m a c
         ∙ list_put-outside (low_bytes width value) scratch (at - scratch_range.base) (a - scratch_range.base)
-          (elim beyond [ inl low ↦ inl (omega arith) | inr high ↦ inr (omega arith) ])
+        (elim beyond [ inl low ↦ inl (omega arith) | inr high ↦ inr (omega arith) ])
         ∙ sym (sees-scratch scratch m a c)
     beside put a beyond (inr c) base = sees-memory _ m a c ∙ sym (sees-memory scratch m a c)
 
@@ -136,7 +137,7 @@ sees_written : (scratch : List ℕ) (m : Memory) (at width value : ℕ) (w : Boo
     → task_sees scratch (put_bytes m at (low_bytes width value)) a ≡ byte_after (task_sees scratch m) (Some (write_at at width value)) a
 sees_written scratch m at width value w a beside within =
     by (place_of at (length (low_bytes width value)) a) (cases_Bool (covers scratch_range a)) (length-bytes_low_first 0 width value)
-    where
+  where
     by : ((at ≤ a) × (a < at + length (low_bytes width value))) ⊎ ((a < at) ⊎ (at + length (low_bytes width value) ≤ a))
         → (covers scratch_range a ≡ true) ⊎ (covers scratch_range a ≡ false) → length (low_bytes width value) ≡ width
         → task_sees scratch (put_bytes m at (low_bytes width value)) a ≡ byte_after (task_sees scratch m) (Some (write_at at width value)) a
@@ -172,7 +173,7 @@ module _ (code : List SegmentState) (operands : List Operand) (scratch : List �
       subst (λ (o : Option Write). IsAfter (task_sight code operands scratch m) o (task_sight code operands after m))
       (sym (stored_some (scratch_granted Stores m.ranges operands (access_range at width) inside)))
       (subst (λ (xs : List ℕ). IsAfter (task_sight code operands scratch m) (Some (write_at at width value)) (task_sight code operands xs m)) (sym e)
-        (record { actor = refl; bytes = λ a. sees_put scratch m at width value a long inside; words = λ pc. refl }))
+      (record { actor = refl; bytes = λ a. sees_put scratch m at width value a long inside; words = λ pc. refl }))
 
   module _ (n : Memory) (w : Bool) (beside : beside_scratch m.ranges ≡ true) (granted : task_access m.ranges operands Stores (access_range at width) ≡ Granted)
       (within : range_of m.ranges (access_range at width) ≡ Some w) (e : n ≡ put_bytes m at (low_bytes width value)) where
@@ -181,17 +182,17 @@ module _ (code : List SegmentState) (operands : List Operand) (scratch : List �
     memory_stored =
         subst (λ (o : Option Write). IsAfter (task_sight code operands scratch m) o (task_sight code operands scratch n)) (sym (stored_some granted))
         (subst (λ (k : Memory). IsAfter (task_sight code operands scratch m) (Some (write_at at width value)) (task_sight code operands scratch k)) (sym e)
-          (record { actor = refl; bytes = λ a. sees_written scratch m at width value w a beside within; words = λ pc. refl }))
+        (record { actor = refl; bytes = λ a. sees_written scratch m at width value w a beside within; words = λ pc. refl }))
 
     -- which leaves the scratch, and memory with the bytes
     pub scratch_kept : 0 < width → scratch ≡ scratch_after scratch (stored (task_sight code operands scratch m) at width value)
     scratch_kept some =
         let beyond = beside_address m.ranges (access_range at width) w at beside within (omega arith) (omega arith) in
         sym (ap (scratch_after scratch) (stored_some granted)
-          ∙ cond-false (covers scratch_range at) (list_put scratch (at - scratch_range.base) (low_bytes width value)) scratch beyond)
+        ∙ cond-false (covers scratch_range at) (list_put scratch (at - scratch_range.base) (low_bytes width value)) scratch beyond)
 
     pub memory_put : 0 < width → n ≡ memory_after m (stored (task_sight code operands scratch m) at width value)
     memory_put some =
         let beyond = beside_address m.ranges (access_range at width) w at beside within (omega arith) (omega arith) in
         e ∙ sym (ap (memory_after m) (stored_some granted)
-          ∙ cond-false (covers scratch_range at) m (put_bytes m at (low_bytes width value)) beyond)
+        ∙ cond-false (covers scratch_range at) m (put_bytes m at (low_bytes width value)) beyond)

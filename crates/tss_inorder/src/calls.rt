@@ -7,11 +7,10 @@ ghost use Rattle.tss_model.specs.MainStep.{call_of, spawn_call, ExitCall, Spawn,
 ghost use Rattle.tss_operands.specs.Naming.{CanNameAll};
 ghost use Rattle.tss_inorder.specs.Flat.{Calls};
 
-use tss_base::{Ending, Range, Task};
-use tss_operands::{SpawnWords, read_spawn};
-
 use crate::flat::FlatMachine;
 use crate::running::{run_task, trap_of};
+use tss_base::{Ending, Range, Task};
+use tss_operands::{SpawnWords, read_spawn};
 
 /// The numbers of the calls, in x17.
 const EXIT: u32 = 1;
@@ -126,7 +125,13 @@ impl FlatMachine {
         self.regs.called();
         self.spawned = task.number;
         self.epoch.name_all(task);
-        match run_task(&mut self.space, &self.code, &mut self.scratch, task, &self.limits) {
+        match run_task(
+            &mut self.space,
+            &self.code,
+            &mut self.scratch,
+            task,
+            &self.limits,
+        ) {
             Some(trap) => Some(Ending::TaskTrap(task.number, trap)),
             None => None,
         }

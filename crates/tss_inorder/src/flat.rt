@@ -9,16 +9,14 @@ ghost use Rattle.std.specs.Prelude.{vec_capacity};
 ghost use Rattle.tss_inorder.specs.Sound.{IsSound};
 ghost use Rattle.tss_inorder.specs.Endings.{ending_after};
 
+use crate::running::trap_of;
+use crate::scratch::Scratch;
+use crate::views::MainView;
 use std::alloc::Global;
-
 use tss_base::{Ending, Image, Limits, NoMemory};
 use tss_core::{Outcome, Regs, step};
 use tss_memory::{Code, Space};
 use tss_operands::Epoch;
-
-use crate::running::trap_of;
-use crate::scratch::Scratch;
-use crate::views::MainView;
 
 /// Cause of a trap: there is no word at the pc.
 const FETCH_OUTSIDE: u32 = 1;

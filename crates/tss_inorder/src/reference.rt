@@ -2,13 +2,11 @@
 ghost use Rattle.std.specs.Prelude.{◌≡◌, ◌≤◌, IfOk};
 ghost use Rattle.tss_model.specs.InOrder.{in_order};
 
+use crate::flat::FlatMachine;
 use std::alloc::Global;
 use std::marker::Model;
-
 use tss_base::{Ending, Image, Limits, NoMemory};
 use tss_memory::Space;
-
-use crate::flat::FlatMachine;
 
 /// What the execution in program order comes to.
 #[derive(Drop)]

@@ -7,12 +7,11 @@ ghost use Rattle.tss_model.specs.TaskRun.{zeroed_outputs, task_end};
 ghost use Rattle.tss_inorder.specs.Sound.{are_placed, IsGround};
 ghost use Rattle.tss_inorder.specs.Running.{IsSameTask, TaskTurns, TaskRuns, turn_after};
 
+use crate::scratch::Scratch;
+use crate::views::TaskView;
 use tss_base::{Limits, Mode, Operand, Task, Trap};
 use tss_core::{Outcome, Regs, step};
 use tss_memory::{Code, Space};
-
-use crate::scratch::Scratch;
-use crate::views::TaskView;
 
 /// The address at which a task has ended.
 const END_PC: u32 = 0xFFFF_FFF0;

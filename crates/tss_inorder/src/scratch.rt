@@ -7,7 +7,6 @@ ghost use Rattle.tss_core.specs.Views.{is_width};
 
 use std::alloc::{AllocError, Global};
 use std::marker::Model;
-
 use tss_base::{NoMemory, Range};
 
 /// The addresses of a task's scratch.

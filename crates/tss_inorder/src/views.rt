@@ -1,13 +1,12 @@
 // What main and a task see of the machine.
 ghost use Rattle.tss_inorder.specs.Sound.{IsGround};
 
+use crate::placing::{main_place, task_place};
+use crate::scratch::{SCRATCH, Scratch};
 use tss_base::{Operand, Range};
 use tss_core::{Deny, Purpose, View};
 use tss_memory::{Code, Space};
 use tss_operands::Epoch;
-
-use crate::placing::{main_place, task_place};
-use crate::scratch::{SCRATCH, Scratch};
 
 /// What main sees: memory, the code, and the objects that it has named. The range of memory at the place `near` is
 /// tried first.
@@ -37,7 +36,10 @@ impl View for MainView<'_> {
 
     #[inline(always)]
     fn load(&mut self, at: u32, width: u32) -> Result<u32, Deny> {
-        let r = Range { base: at, len: width };
+        let r = Range {
+            base: at,
+            len: width,
+        };
         let found = main_place(self.space, self.epoch, Purpose::Loads, &r, self.near)?;
         self.near = found.index;
         Ok(self.space.number(found, &r))
@@ -45,7 +47,10 @@ impl View for MainView<'_> {
 
     #[inline(always)]
     fn store(&mut self, at: u32, width: u32, value: u32) -> Result<(), Deny> {
-        let r = Range { base: at, len: width };
+        let r = Range {
+            base: at,
+            len: width,
+        };
         let found = main_place(self.space, self.epoch, Purpose::Stores, &r, self.near)?;
         self.near = found.index;
         self.space.set_number(found, &r, value);
@@ -83,7 +88,10 @@ impl View for TaskView<'_> {
 
     #[inline(always)]
     fn load(&mut self, at: u32, width: u32) -> Result<u32, Deny> {
-        let r = Range { base: at, len: width };
+        let r = Range {
+            base: at,
+            len: width,
+        };
         if SCRATCH.contains(&r) {
             return Ok(self.scratch.number(&r));
         }
@@ -94,7 +102,10 @@ impl View for TaskView<'_> {
 
     #[inline(always)]
     fn store(&mut self, at: u32, width: u32, value: u32) -> Result<(), Deny> {
-        let r = Range { base: at, len: width };
+        let r = Range {
+            base: at,
+            len: width,
+        };
         if SCRATCH.contains(&r) {
             self.scratch.put(&r, value);
             return Ok(());

@@ -17,7 +17,7 @@ returns-clause-found c = record {
   found = c.in-Some.ensures.found;
   within = sym c.in-Some.ensures.exact;
   stored =
-    main_stored c.args.purpose c.writable.result (c.in-Some.found).writable
-    (c.writable.ensures ∙ ap (option_map (λ (f : Found). f.writable)) c.in-Some.is)
-    c.in_ok-main_access.ensures.placed;
+      main_stored c.args.purpose c.writable.result (c.in-Some.found).writable
+      (c.writable.ensures ∙ ap (option_map (λ (f : Found). f.writable)) c.in-Some.is)
+      c.in_ok-main_access.ensures.placed;
 }

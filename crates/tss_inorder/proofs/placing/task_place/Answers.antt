@@ -18,7 +18,7 @@ returns-clause-found c = record {
   found = c.in-Some.ensures.found;
   within = sym c.in-Some.ensures.exact;
   stored =
-    task_stored c.args.space.now.ranges c.requires.ranges c.args.operands.now c.requires.placed c.args.r.now c.requires.some
-    c.requires.outside c.args.purpose c.writable.result (c.in-Some.found).writable (sym c.in-Some.ensures.exact)
-    c.in_ok-task_access.ensures.placed;
+      task_stored c.args.space.now.ranges c.requires.ranges c.args.operands.now c.requires.placed c.args.r.now c.requires.some
+      c.requires.outside c.args.purpose c.writable.result (c.in-Some.found).writable (sym c.in-Some.ensures.exact)
+      c.in_ok-task_access.ensures.placed;
 }

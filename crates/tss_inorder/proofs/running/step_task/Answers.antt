@@ -26,9 +26,9 @@ pub returns-clause-exact : goal.returns-clause-exact
 returns-clause-exact c =
     subst (λ (u : Turn). TaskTurns c.args.budget c.args.view.now c.args.regs.now c.step-outcome.new.view c.step-outcome.new.regs u) (sym c.turn_after.ensures)
     (turns-stepped c.args.budget c.args.view.now.code.now c.args.view.now.space.now.ranges c.args.view.now.operands.now
-      c.args.regs.now c.args.view.now.scratch.now c.args.view.now.space.now
-      (ne_eqb c.args.regs.now.pc 4294967280 (λ e. c.if-pc-eq-END_PC.false (c.pc.ensures ∙ e)))
-      (lt-leb c.args.budget c.args.regs.now.done (omega arith))
-      c.step-outcome.new.view.scratch.now c.step-outcome.new.view.space.now c.step-outcome.new.regs c.step-outcome.result
-      (step_of (task_sight c.args.view.now.code.now c.args.view.now.operands.now c.args.view.now.scratch.now c.args.view.now.space.now) c.args.regs.now)
-      refl c.step-outcome.ensures.exact c.step-outcome.ensures.registers c.step-outcome.ensures.leaves.scratch c.step-outcome.ensures.leaves.memory)
+    c.args.regs.now c.args.view.now.scratch.now c.args.view.now.space.now
+    (ne_eqb c.args.regs.now.pc 4294967280 (λ e. c.if-pc-eq-END_PC.false (c.pc.ensures ∙ e)))
+    (lt-leb c.args.budget c.args.regs.now.done (omega arith))
+    c.step-outcome.new.view.scratch.now c.step-outcome.new.view.space.now c.step-outcome.new.regs c.step-outcome.result
+    (step_of (task_sight c.args.view.now.code.now c.args.view.now.operands.now c.args.view.now.scratch.now c.args.view.now.space.now) c.args.regs.now)
+    refl c.step-outcome.ensures.exact c.step-outcome.ensures.registers c.step-outcome.ensures.leaves.scratch c.step-outcome.ensures.leaves.memory)

@@ -12,8 +12,8 @@ invariant_of-result c = record {
     few = c.requires;
     are = c.range_at-first.ensures.ranges;
     beside =
-      ap (λ (m : Memory). beside_scratch m.ranges) c.in_ok-space.ensures.space
-      ∙ beside_scratch-loaded c.args.image.now c.entry-entry.ensures.accepted;
+        ap (λ (m : Memory). beside_scratch m.ranges) c.in_ok-space.ensures.space
+        ∙ beside_scratch-loaded c.args.image.now c.entry-entry.ensures.accepted;
     named = ap (λ (e : EpochState). e.limit) c.in_ok-open-2.ensures;
     printed = omega (arith, c.in_ok-with_capacity.ensures.exact);
   };

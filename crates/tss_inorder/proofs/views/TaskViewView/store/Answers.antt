@@ -17,13 +17,13 @@ returns-clause-bytes c =
 pub returns-clause-leaves : goal.returns-clause-leaves
 returns-clause-leaves c = record {
   scratch =
-    scratch_kept c.args.self.now.code.now c.args.self.now.operands.now c.args.self.now.scratch.now c.args.self.now.space.now
-    c.args.at c.args.width c.args.value c.set_number.new.self (c.in_ok-found.found).writable c.args.self.now.ground.beside
-    c.in_ok-found.ensures.granted c.in_ok-found.ensures.found.within c.set_number.ensures (width_some c.args.width c.requires);
+      scratch_kept c.args.self.now.code.now c.args.self.now.operands.now c.args.self.now.scratch.now c.args.self.now.space.now
+      c.args.at c.args.width c.args.value c.set_number.new.self (c.in_ok-found.found).writable c.args.self.now.ground.beside
+      c.in_ok-found.ensures.granted c.in_ok-found.ensures.found.within c.set_number.ensures (width_some c.args.width c.requires);
   memory =
-    memory_put c.args.self.now.code.now c.args.self.now.operands.now c.args.self.now.scratch.now c.args.self.now.space.now
-    c.args.at c.args.width c.args.value c.set_number.new.self (c.in_ok-found.found).writable c.args.self.now.ground.beside
-    c.in_ok-found.ensures.granted c.in_ok-found.ensures.found.within c.set_number.ensures (width_some c.args.width c.requires);
+      memory_put c.args.self.now.code.now c.args.self.now.operands.now c.args.self.now.scratch.now c.args.self.now.space.now
+      c.args.at c.args.width c.args.value c.set_number.new.self (c.in_ok-found.found).writable c.args.self.now.ground.beside
+      c.in_ok-found.ensures.granted c.in_ok-found.ensures.found.within c.set_number.ensures (width_some c.args.width c.requires);
   code = refl;
   operands = refl;
   reference = refl;

@@ -24,5 +24,5 @@ returns-clause-fits c =
     let P : Memory → Type 0 = λ m. IsFound m.ranges c.args.found r in
     let inside = found_in blocks c.args.found r (subst P (sym c.self.view_is) c.requires.found) in
     let as_long : length c.bytes.result.now ≡ r.len =
-        ap length c.bytes.ensures ∙ count_read blocks r c.args.found.index c.index.result.now inside c.index.ensures in
+    ap length c.bytes.ensures ∙ count_read blocks r c.args.found.index c.index.result.now inside c.index.ensures in
     subst (λ (n : ℕ). c.number_of.result < 256 ^ n) as_long c.number_of.ensures.fits
