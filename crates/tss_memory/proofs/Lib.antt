@@ -5,4 +5,5 @@ mod PartLemmas
 mod WriteLemmas
 mod ReadLemmas
 mod LoadLemmas
+mod SegmentLemmas
 mod StripedLemmas
