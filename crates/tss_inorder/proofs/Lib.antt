@@ -9,3 +9,4 @@ pub mod SpawnPlaces
 pub mod FlatLemmas
 pub mod CallLemmas
 pub mod OpenLemmas
+pub mod ImageLemmas

@@ -10,6 +10,8 @@ mod placing;
 mod reference;
 mod running;
 mod scratch;
+#[cfg(test)]
+mod tests;
 mod views;
 
 pub use reference::{Reference, run_in_order};
