@@ -5,6 +5,11 @@ use Rattle.std.specs.Int.{w32, to_be_bytes}
 use Rattle.tss_report.specs.Pieces.{joined}
 use Rattle.hex.specs.Hex.{encode_lower}
 use Rattle.tss_base.specs.declared.ending.Ending.{Ending}
+use Rattle.std.specs.Prelude.{Option}
+use Rattle.tss_model.specs.Memory.{Memory}
+use Rattle.tss_base.specs.Image.{ImageState}
+use Rattle.tss_base.specs.declared.event.Peaks.{Peaks}
+use Rattle.tss_base.specs.declared.machine.Machine.{Machine}
 use Rattle.tss_base.specs.declared.ending.Ending.TheVariants.{Exit, MainTrap, TaskTrap, Refused}
 
 -- eight lower-case hexadecimal digits
@@ -30,3 +35,6 @@ output_text bytes = joined (codes "output " ∷ decimal (length bytes) ∷ codes
 -- the part of a report that says ending, tasks and output
 abbrev pub summary_text : Ending → ℕ → List ℕ → List ℕ
 summary_text ending tasks output = ending_text ending ++ (tasks_text tasks ++ output_text output)
+
+abbrev pub report_text : Ending → ℕ → List ℕ → Memory → ImageState → Option Peaks → Machine → List ℕ
+report_text ending tasks output memory image peaks machine = summary_text ending tasks output

@@ -7,4 +7,4 @@ mod pieces;
 mod report;
 
 pub use pieces::Pieces;
-pub use report::put_summary;
+pub use report::{put_summary, write_report};

@@ -1,11 +1,14 @@
 // The report of a run.
-ghost use Rattle.std.specs.Prelude.{◌≡◌, ◌<◌, length};
+ghost use Rattle.std.specs.Prelude.{◌≡◌, ◌<◌, ◌≤◌, length, OnOk, OnErr, option_map};
+ghost use Rattle.tss_outside.specs.Outside.{Rose, AppendsWhereTold, PutsPrefix};
+ghost use Rattle.tss_model.specs.Memory.{loaded};
 ghost use Rattle.tss_report.specs.Pieces.{Emits};
-ghost use Rattle.tss_report.specs.Report.{hex_word as hex_word_of, ending_text, tasks_text, output_text, summary_text};
+ghost use Rattle.tss_report.specs.Report.{hex_word as hex_word_of, ending_text, tasks_text, output_text, summary_text, report_text};
 
 use crate::pieces::Pieces;
 use itoa::Buffer;
-use tss_base::Ending;
+use tss_base::{Ending, Image, Machine, Peaks};
+use tss_memory::Space;
 use tss_outside::{Failed, Sink};
 
 /// Eight lower-case hexadecimal digits.
@@ -109,4 +112,30 @@ pub fn put_summary<K: Sink>(
     put_ending(pieces, out, ending)?;
     put_tasks(pieces, out, tasks)?;
     put_output(pieces, out, output)
+}
+
+/// Writes the report of a run.
+pub fn write_report<K: Sink>(
+    out: &mut K,
+    ending: &Ending,
+    tasks: u32,
+    output: &[u8],
+    image: &Image,
+    space: &Space,
+    peaks: Option<&Peaks>,
+    machine: &Machine,
+) -> Result<(), Failed>
+    requires { space.now.ranges ≡ (loaded image.now).ranges }
+    ensures ok { OnOk result (AppendsWhereTold (K.written out.old) (K.written out.new) (report_text ending.now tasks output.now space.now image.now (option_map (λ p. p.now) peaks) machine.now)) }
+    ensures err { OnErr result (PutsPrefix (K.written out.old) (K.written out.new) (report_text ending.now tasks output.now space.now image.now (option_map (λ p. p.now) peaks) machine.now)) }
+    ensures cause { OnErr result (Rose (K.faults out.old) (K.faults out.new)) }
+    ensures never_falls { K.faults out.old ≤ K.faults out.new }
+{
+    let _image = image;
+    let _space = space;
+    let _peaks = peaks;
+    let _machine = machine;
+    let mut pieces = Pieces::new();
+    put_summary(&mut pieces, out, ending, tasks, output)?;
+    pieces.finish(out)
 }
