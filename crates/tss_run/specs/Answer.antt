@@ -1,5 +1,5 @@
 -- What the program answers: its status and text, by its words and by what the named files hold.
-use Rattle.std.specs.Prelude.{◌≡◌, ℕ, ◌<◌, nat_lt, if◌then◌else◌, List, [], ◌∷◌, ◌++◌, map, length, Option, Some, None, IfSome, Result, Ok, Err, codes, string_bytes}
+use Rattle.std.specs.Prelude.{◌≡◌, ℕ, ◌<◌, nat_lt, if◌then◌else◌, List, [], ◌∷◌, ◌++◌, map, length, Option, Some, None, IfSome, Result, Ok, Err, codes, string_bytes, true, false}
 use Rattle.std.specs.Fmt.{decimal}
 use Rattle.std.specs.Str.{bytes_eq}
 use Rattle.std.proofs.Common.{String, Global}
@@ -12,7 +12,9 @@ use Rattle.tss_elf.specs.Elf.{Verdict, Refused, Accepted, image_of}
 use Rattle.tss_machine.specs.declared.fault.MachineFault.{MachineFault}
 use Rattle.tss_machine.specs.Fault.{number_of, key_of}
 use Rattle.tss_machine.specs.Description.{machine_of}
-use Rattle.tss_model.specs.InOrder.{ReferenceState, in_order}
+use Rattle.tss_model.specs.Memory.{loaded}
+use Rattle.tss_model.specs.InOrder.{in_order}
+use Rattle.tss_protocol.specs.Counts.{sizes_of}
 use Rattle.tss_report.specs.Pieces.{joined}
 use Rattle.tss_report.specs.Report.{report_text}
 use Rattle.tss_run.specs.declared.outcome.Input.{Input}
@@ -218,7 +220,8 @@ refusal_text refusal.NoMemory = codes "no memory\n"
 -- the text of a run: its report without peaks
 abbrev pub run_text : Run → List ℕ
 run_text r =
-    report_text r.reference.ending r.reference.tasks r.reference.output r.reference.memory r.image None r.machine
+    report_text r.reference.ending r.reference.tasks r.reference.output (loaded r.image) r.reference.memory None
+    (sizes_of r.machine)
 
 -- the text of an outcome
 abbrev pub text_of : Outcome → List ℕ
