@@ -5,6 +5,5 @@ mod PartLemmas
 mod WriteLemmas
 mod ReadLemmas
 mod LoadLemmas
-mod LoadingLemmas
 mod SegmentLemmas
 mod StripedLemmas

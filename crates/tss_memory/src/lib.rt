@@ -7,7 +7,6 @@
 mod block;
 mod code;
 mod found;
-mod loading;
 mod numbers;
 mod placing;
 mod space;
@@ -16,5 +15,4 @@ mod tests;
 
 pub use code::Code;
 pub use found::Found;
-pub use loading::copy_as_loaded;
 pub use space::Space;

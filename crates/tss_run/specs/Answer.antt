@@ -2,7 +2,7 @@
 use Rattle.std.specs.Prelude.{◌≡◌, ℕ, ◌<◌, nat_lt, if◌then◌else◌, List, [], ◌∷◌, ◌++◌, map, length, Option, Some, None, IfSome, Result, Ok, Err, codes, string_bytes, true, false}
 use Rattle.std.specs.Fmt.{decimal}
 use Rattle.std.specs.Str.{bytes_eq}
-use Rattle.std.proofs.Common.{String, Global}
+use Rattle.std.proofs.Common.{String, Vec, Global}
 use Rattle.tss_base.specs.declared.ending.Ending.{Ending}
 use Rattle.tss_base.specs.declared.ending.Ending.TheVariants as ending
 use Rattle.tss_base.specs.declared.machine.Machine.{Machine}
@@ -139,9 +139,9 @@ Gives r answer = r ≡ answer
 
 -- a file was read: its bytes, those that are held where that is told, within the limit; or reading it failed, or it is
 -- longer, or memory ran out
-abbrev pub IsRead : Option Held → Type 0 → Input → List ℕ → ℕ → Result (List ℕ) Refusal → Type 0
-IsRead told failed which name limit (Ok bytes) =
-    IfSome told (λ h. h name ≡ Some bytes) × (nat_lt limit (length bytes) ≡ false)
+abbrev pub IsRead : Option Held → Type 0 → Input → List ℕ → ℕ → Result (Vec ℕ Global) Refusal → Type 0
+IsRead told failed which name limit (Ok v) =
+    IfSome told (λ h. h name ≡ Some v.items) × (nat_lt limit (length v.items) ≡ false)
 IsRead told failed which name limit (Err (refusal.ReadFault other)) = (other ≡ which) × failed
 IsRead told failed which name limit (Err refusal.NoMemory) = Unit {0}
 IsRead told failed which name limit (Err e) =

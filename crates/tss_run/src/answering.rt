@@ -1,5 +1,5 @@
 // From words to an outcome, and from an outcome to its text.
-ghost use Rattle.std.specs.Prelude.{◌≡◌, ◌≢◌, ◌≤◌, ◌⊎◌, ℕ, List, Option, Some, None, All, IsTrue, IfOk, IfSome, OnOk, OnErr, Err, take};
+ghost use Rattle.std.specs.Prelude.{◌≡◌, ◌≢◌, ◌≤◌, ◌⊎◌, ℕ, List, Option, Some, None, option_map, All, IsTrue, IfOk, IfSome, OnOk, OnErr, Err, take};
 ghost use Rattle.tss_outside.specs.Outside.{Held, Rose, AppendsWhereTold, PutsPrefix};
 ghost use Rattle.tss_model.specs.Memory.{loaded};
 ghost use Rattle.tss_report.specs.Pieces.{Emits};
@@ -12,7 +12,6 @@ use itoa::Buffer;
 use std::alloc::Global;
 use tss_base::Ending;
 use tss_inorder::run_in_order;
-use tss_machine::MachineFault;
 use tss_outside::{Failed, Files, Sink};
 use tss_report::{Pieces, write_report};
 
@@ -55,7 +54,7 @@ fn put_machine<K: Sink>(
     number: Option<u32>,
     key: Option<&[u8]>,
 ) -> Result<(), Failed>
-    ensures { Emits (K.written out.old) pieces.old (K.written out.new) pieces.new (K.faults out.old) (K.faults out.new) result (machine_line number (option_map (λ k. k.now) key)) }
+    ensures { Emits (K.written out.old) pieces.old (K.written out.new) pieces.new (K.faults out.old) (K.faults out.new) result (machine_line number (option_map (λ k. k.now) key.entry)) }
 {
     let mut digits = Buffer::new();
     match (number, key) {
@@ -90,7 +89,7 @@ fn put_refusal<K: Sink>(pieces: &mut Pieces, out: &mut K, refusal: &Refusal) -> 
 /// Writes the text of a refusal.
 fn write_refusal<K: Sink>(out: &mut K, refusal: &Refusal) -> Result<(), Failed>
     ensures ok { OnOk result (AppendsWhereTold (K.written out.old) (K.written out.new) (refusal_text refusal.now)) }
-    ensures err { OnErr result (PutsPrefix (K.written out.old) (K.written out.new) (refusal_text refusal.now)) }
+    ensures prefix { OnErr result (PutsPrefix (K.written out.old) (K.written out.new) (refusal_text refusal.now)) }
     ensures cause { OnErr result (Rose (K.faults out.old) (K.faults out.new)) }
 {
     let mut pieces = Pieces::new();
@@ -102,7 +101,7 @@ fn write_refusal<K: Sink>(out: &mut K, refusal: &Refusal) -> Result<(), Failed>
 fn write_outcome<K: Sink>(out: &mut K, outcome: &Result<Run, Refusal>) -> Result<(), Failed>
     requires { IfOk outcome.now (λ r. r.reference.memory.ranges ≡ (loaded r.image).ranges) }
     ensures ok { OnOk result (AppendsWhereTold (K.written out.old) (K.written out.new) (text_of outcome.now)) }
-    ensures err { OnErr result (PutsPrefix (K.written out.old) (K.written out.new) (text_of outcome.now)) }
+    ensures prefix { OnErr result (PutsPrefix (K.written out.old) (K.written out.new) (text_of outcome.now)) }
     ensures cause { OnErr result (Rose (K.faults out.old) (K.faults out.new)) }
 {
     match outcome {

@@ -1,15 +1,14 @@
 // The files that a command names, and what their bytes are.
-ghost use Rattle.std.specs.Prelude.{◌≡◌, ◌≤◌, IfOk, option_map, length};
-ghost use Rattle.tss_base.specs.Image.{IsAccepted};
+ghost use Rattle.std.specs.Prelude.{◌≡◌, ◌≤◌, ℕ, List, IfOk, option_map};
 ghost use Rattle.tss_base.specs.Machine.{IsAdmissible};
 ghost use Rattle.tss_outside.specs.Outside.{Rose};
-ghost use Rattle.tss_run.specs.Answer.{words_of, inorder_names as inorder_names_of, machine_limit, image_limit, described_machine as described_machine_of, accepted_image as accepted_image_of, machine_from, image_from, Gives, Reads, IsRead};
+ghost use Rattle.tss_run.specs.Answer.{words_of, inorder_names as inorder_names_of, described_machine as described_machine_of, accepted_image as accepted_image_of, machine_from, image_from, Gives, Reads, IsRead};
 
 use crate::outcome::{Input, Refusal};
 use std::alloc::Global;
 use tss_base::{Image, Machine};
 use tss_elf::{ImageFault, read_image};
-use tss_machine::{MachineFault, read_machine};
+use tss_machine::read_machine;
 use tss_outside::{FileFault, Files};
 
 /// The most bytes that the file of a machine may have.
@@ -39,6 +38,7 @@ fn read<F: Files>(
     limit: u64,
 ) -> Result<Vec<u8>, Refusal>
     ensures read { IsRead (F.held files.old) (Rose (F.read_faults files.old name.now) (F.read_faults files.new name.now)) input name.now limit result }
+    ensures never_falls { (n : List ℕ) → F.read_faults files.old n ≤ F.read_faults files.new n }
     ensures held { F.held files.new ≡ F.held files.old }
 {
     match files.read(alloc, name, limit) {
@@ -56,8 +56,11 @@ fn described_machine(alloc: Global, bytes: &[u8]) -> Result<Machine, Refusal>
 {
     match read_machine(alloc, bytes) {
         Ok(machine) => Ok(machine),
-        Err(MachineFault::NoMemory) => Err(Refusal::NoMemory),
-        Err(fault) => Err(Refusal::Machine(fault)),
+        // Only want of memory has no number.
+        Err(fault) => match fault.number() {
+            Some(_) => Err(Refusal::Machine(fault)),
+            None => Err(Refusal::NoMemory),
+        },
     }
 }
 
@@ -76,6 +79,7 @@ fn accepted_image(alloc: Global, bytes: &[u8]) -> Result<Image, Refusal>
 pub fn machine_in<F: Files>(alloc: Global, files: &mut F, name: &str) -> Result<Machine, Refusal>
     ensures exact { Reads machine_from Input.Machine (F.held files.old) (Rose (F.read_faults files.old name.now) (F.read_faults files.new name.now)) name.now result }
     ensures ok { IfOk result IsAdmissible }
+    ensures never_falls { (n : List ℕ) → F.read_faults files.old n ≤ F.read_faults files.new n }
     ensures held { F.held files.new ≡ F.held files.old }
 {
     let bytes = read(alloc, files, Input::Machine, name, MACHINE_LIMIT)?;
@@ -85,6 +89,7 @@ pub fn machine_in<F: Files>(alloc: Global, files: &mut F, name: &str) -> Result<
 /// The image that a file holds.
 pub fn image_in<F: Files>(alloc: Global, files: &mut F, name: &str) -> Result<Image, Refusal>
     ensures exact { Reads image_from Input.Image (F.held files.old) (Rose (F.read_faults files.old name.now) (F.read_faults files.new name.now)) name.now result }
+    ensures never_falls { (n : List ℕ) → F.read_faults files.old n ≤ F.read_faults files.new n }
     ensures held { F.held files.new ≡ F.held files.old }
 {
     let bytes = read(alloc, files, Input::Image, name, IMAGE_LIMIT)?;

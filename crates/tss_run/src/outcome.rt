@@ -1,4 +1,5 @@
 // What comes of a command.
+ghost use Rattle.std.specs.Prelude.{◌≡◌};
 ghost use Rattle.tss_run.specs.declared.outcome.Refusal.TheVariants as refusal;
 
 use tss_base::{Image, Machine, NoMemory};

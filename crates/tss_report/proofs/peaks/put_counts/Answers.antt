@@ -1,1 +1,0 @@
-use Rattle.tss_report.proofs.peaks.put_counts.Goals as goal

@@ -1,1 +1,0 @@
-use Rattle.tss_report.proofs.rows.put_rows.Goals as goal
