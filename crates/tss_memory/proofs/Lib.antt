@@ -5,5 +5,6 @@ mod PartLemmas
 mod WriteLemmas
 mod ReadLemmas
 mod LoadLemmas
+mod LoadingLemmas
 mod SegmentLemmas
 mod StripedLemmas

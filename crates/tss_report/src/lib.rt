@@ -3,8 +3,11 @@
 //! text after them; after a fault of the sink a prefix of the text was put.
 #![tactic(auto)]
 
+mod digits;
+mod peaks;
 mod pieces;
 mod report;
+mod rows;
 
 pub use pieces::Pieces;
-pub use report::put_summary;
+pub use report::{put_summary, write_report};

@@ -1,0 +1,1 @@
+use Rattle.tss_report.proofs.peaks.put_counts.Goals as goal

@@ -1,0 +1,1 @@
+use Rattle.tss_report.proofs.rows.put_changed.Goals as goal

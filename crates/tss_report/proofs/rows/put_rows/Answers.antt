@@ -1,0 +1,1 @@
+use Rattle.tss_report.proofs.rows.put_rows.Goals as goal
