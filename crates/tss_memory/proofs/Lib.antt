@@ -1,4 +1,4 @@
-mod RangeLemmas
+pub mod RangeLemmas
 mod PlaceLemmas
 mod EntryLemmas
 mod PartLemmas

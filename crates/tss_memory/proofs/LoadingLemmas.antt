@@ -1,5 +1,5 @@
 -- The bytes of a range before the first instruction: those of the segment in which it lies, and zeros on the stack.
-use Rattle.std.proofs.Common.{◌≡◌, ℕ, zero, suc, ◌+◌, ◌-◌, ◌<◌, ◌≤◌, true, Some, List, [], ◌∷◌, ◌++◌, length, map, take, refl, sym, ap, subst, ◌∙◌, arith, length-append}
+use Rattle.std.proofs.Common.{◌≡◌, ℕ, zero, suc, ◌+◌, ◌-◌, ◌≤◌, true, Some, List, [], ◌∷◌, ◌++◌, length, map, take, refl, sym, ap, subst, ◌∙◌, arith, length-append}
 use Rattle.std.specs.Prelude.{slice_get, option_map}
 use Rattle.std.proofs.lemmas.List.{length-map, take-replicate, drop-replicate}
 use Rattle.std.proofs.lemmas.Option.{none-some, slice_get_within, slice_get-map, same_Some}
@@ -8,7 +8,7 @@ use Rattle.tss_base.specs.Range.{contains}
 use Rattle.tss_base.specs.Image.{SegmentState, ImageState, IsAccepted}
 use Rattle.tss_model.specs.Memory.{Memory, bytes_of, loaded, segment_range, zeros}
 use Rattle.tss_memory.specs.Ranges.{IsInside}
-use Rattle.tss_memory.specs.Blocks.{BlockState, block_of, block_part, block_range, blocks_in, memory_of, part_of, stack_block}
+use Rattle.tss_memory.specs.Blocks.{BlockState, block_of, block_part, block_range, blocks_in, part_of, stack_block}
 use Rattle.tss_memory.proofs.RangeLemmas.{contains_parts}
 use Rattle.tss_memory.proofs.PartLemmas.{length-part_of, length-zeros}
 use Rattle.tss_memory.proofs.ReadLemmas.{bytes_of-part, placed_in}

@@ -1,9 +1,9 @@
 -- Reads in one block are reads in the memory that the blocks are.
 use Rattle.std.proofs.Common.{◌≡◌, ℕ, zero, suc, ◌+◌, ◌-◌, ◌*◌, ◌<◌, Option, Some, List, length, get_or, refl, sym, ap, subst, ◌∙◌, arith, add-zero, zero-add, true}
-use Rattle.std.specs.Prelude.{slice_get, slice_index, IsTrue, IsSomeAnd, option_map, unwrap_or}
+use Rattle.std.specs.Prelude.{slice_get, slice_index, IsTrue, IsSomeAnd, unwrap_or}
 use Rattle.std.proofs.lemmas.List.{same_lists, get_or_default}
 use Rattle.std.proofs.lemmas.List.FromFn.{length-map-range_with_len, get_or-map-range_with_len}
-use Rattle.std.proofs.lemmas.Option.{unwrap_or-slice_get, get_or_from_slice_get, slice_get-map, same_Some}
+use Rattle.std.proofs.lemmas.Option.{unwrap_or-slice_get, get_or_from_slice_get, slice_get-map}
 use Rattle.tss_base.specs.declared.range.Range.{Range}
 use Rattle.tss_base.specs.Range.{contains}
 use Rattle.tss_model.specs.Memory.{MemoryRange, byte_at, bytes_of, number_at}

@@ -1,1 +1,4 @@
 pub mod PieceLemmas
+mod SizeLemmas
+mod PeakLemmas
+mod RowLemmas

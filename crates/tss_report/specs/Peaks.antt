@@ -41,7 +41,7 @@ peak_text peaks size k =
     ∷ codes " of " ∷ decimal (count_in size k) ∷ codes "\n" ∷ [])
 
 -- those of all counts
-abbrev pub counts_text : Counts → Counts → List ℕ
+unfoldable pub counts_text : Counts → Counts → List ℕ
 counts_text peaks size = flat_map (peak_text peaks size) all_counts
 
 -- the number of events, and the greatest of each count

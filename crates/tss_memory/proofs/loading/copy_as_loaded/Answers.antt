@@ -1,5 +1,5 @@
 -- The bytes are those of the segment at the place, or zeros behind the segments.
-use Rattle.std.proofs.Common.{◌≡◌, ℕ, ◌-◌, length, sym, ap, ◌∙◌, rules}
+use Rattle.std.proofs.Common.{length, sym, ap, ◌∙◌, rules}
 use Rattle.tss_model.specs.Memory.{zeros}
 use Rattle.tss_memory.proofs.LoadingLemmas.{segment_has_range, segment_bytes, segment_count, stack_bytes}
 use Rattle.tss_memory.proofs.loading.copy_as_loaded.Goals as goal
