@@ -2,3 +2,5 @@ pub mod PieceLemmas
 mod SizeLemmas
 mod PeakLemmas
 mod RowLemmas
+mod ImageLemmas
+mod MachineLemmas

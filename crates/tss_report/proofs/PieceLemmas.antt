@@ -128,7 +128,7 @@ pub record HasPut (old : Option (List ℕ)) (kept : List ℕ) (new : Option (Lis
 pub none_put : (o : Option (List ℕ)) (kept : List ℕ) (before : ℕ) (text left : List ℕ) → text ≡ left →
     HasPut o kept o kept before before text left
 none_put o kept before text left e =
-    record { done = []; parts = e; put = carries_none o kept; never_falls = omega arith; }
+    record { done = []; parts = e; put = carries_none o kept; never_falls = omega arith }
 
 module _ {o p : Option (List ℕ)} {kept keeps : List ℕ} {before mid : ℕ} {text left : List ℕ}
     (has : HasPut o kept p keeps before mid text left) where

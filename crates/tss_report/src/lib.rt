@@ -8,6 +8,8 @@ mod peaks;
 mod pieces;
 mod report;
 mod rows;
+#[cfg(test)]
+mod tests;
 
 pub use pieces::Pieces;
 pub use report::{put_summary, write_report};

@@ -90,10 +90,7 @@ fn put_events<K: Sink>(pieces: &mut Pieces, out: &mut K, events: u64) -> Result<
         (K.faults out.old) (K.faults out.new) result (events_text events) }
 {
     let mut number = Buffer::new();
-    pieces.put_all(
-        out,
-        &[b"events ", number.format(events).as_bytes(), b"\n"],
-    )
+    pieces.put_all(out, &[b"events ", number.format(events).as_bytes(), b"\n"])
 }
 
 /// Puts the greatest of a count, and its size.
