@@ -37,7 +37,7 @@ placed_in blocks i r inside =
     (b.0, b.1, ap (λ (x : MemoryRange). contains x.range r) b.2 ∙ m.2)
 
 -- where a range of memory was found the range lies
-pub inside_found : (ranges : List MemoryRange) (f : Found) (r : Range) → IsFound ranges f r → IsInside ranges f.index r
+inside_found : (ranges : List MemoryRange) (f : Found) (r : Range) → IsFound ranges f r → IsInside ranges f.index r
 inside_found ranges f r found =
     let m = some_and (slice_get ranges f.index)
     (λ m. (m.writable ≡ f.writable) × IsTrue (contains m.range r)) found in

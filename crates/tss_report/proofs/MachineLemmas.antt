@@ -1,5 +1,5 @@
 -- The machine of the tests is admissible.
-use Rattle.std.proofs.Common.{◌≡◌, ℕ, Option, Some, None, subst, arith}
+use Rattle.std.proofs.Common.{◌≡◌, ℕ, Some, subst, arith}
 use Rattle.std.proofs.lemmas.Option.{same_Some, none-some}
 use Rattle.tss_base.specs.declared.machine.Limits.{Limits}
 use Rattle.tss_base.specs.declared.machine.Sizes.{Sizes}
