@@ -30,7 +30,8 @@ zeros_part : (n at m : ℕ) → at + m ≤ n → part_of (zeros n) at m ≡ zero
 unfolding zeros
 zeros_part n at m h = ap (take m) (drop-replicate at n 0) ∙ take-replicate m (n - at) 0 (omega arith)
 
-module _ (i : ImageState) (accepted : IsAccepted i) (k : ℕ) (r : Range) (inside : IsInside ((loaded i).ranges) k r) where
+module _ (i : ImageState) (accepted : IsAccepted i) (k : ℕ) (r : Range)
+    (inside : IsInside ((loaded i).ranges) k r) where
   -- the block in which the range lies
   block_there : (b : BlockState) × (slice_get (blocks_in i) k ≡ Some b) × (contains (block_range b) r ≡ true)
   block_there =

@@ -118,7 +118,8 @@ finished_part o p r kept keeps xs first then =
 -- ---- a text of which a part is left
 
 -- what came before what is left was put
-pub record HasPut (old : Option (List ℕ)) (kept : List ℕ) (new : Option (List ℕ)) (keeps : List ℕ) (before now : ℕ) (text left : List ℕ) : Type 0 where
+pub record HasPut (old : Option (List ℕ)) (kept : List ℕ) (new : Option (List ℕ)) (keeps : List ℕ)
+    (before now : ℕ) (text left : List ℕ) : Type 0 where
   pub done : List ℕ
   pub parts : text ≡ done ++ left
   pub put : Carries old kept new keeps done
@@ -143,7 +144,8 @@ module _ {o p : Option (List ℕ)} {kept keeps : List ℕ} {before mid : ℕ} {t
   }
 
   -- one part more failed, so the whole did
-  pub failed_put : {r : Option (List ℕ)} {rest : List ℕ} {now : ℕ} {result : Result (Unit {0}) Failed} (part more : List ℕ) →
+  pub failed_put : {r : Option (List ℕ)} {rest : List ℕ} {now : ℕ} {result : Result (Unit {0}) Failed} →
+      (part more : List ℕ) →
       left ≡ part ++ more → PutsPrefix p r (keeps ++ part) → Rose mid now → mid ≤ now → IsErr result →
       Emits o kept r rest before now result text
   failed_put {r = r} {rest = rest} {now = now} {result = result} part more e err cause grows failed =

@@ -44,7 +44,8 @@ module _ (old new : Memory) (r : Range) where
   rows_next k n h e =
       let one : row_count r - k ≡ suc (row_count r - (k + 1)) = omega arith in
       ap (λ n. flat_map (λ k. row_text old new (row_at r k)) (range_with_len k n)) one
-      ∙ ap (λ n. row_text old new (record { base = r.base + row_len * k; len = n }) ++ rows_from old new r (k + 1)) (sym e)
+      ∙ ap (λ n. row_text old new (record { base = r.base + row_len * k; len = n }) ++ rows_from old new r (k + 1))
+      (sym e)
 
 -- ---- ranges of memory
 

@@ -25,7 +25,8 @@ row_line at bytes = joined (codes "row " ∷ hex_word at ∷ codes " " ∷ encod
 
 -- the line of a row in which a byte has changed, and nothing for another
 abbrev pub row_text : Memory → Memory → Range → List ℕ
-row_text old new row = if bytes_eq (bytes_of new row) (bytes_of old row) then [] else row_line row.base (bytes_of new row)
+row_text old new row =
+    if bytes_eq (bytes_of new row) (bytes_of old row) then [] else row_line row.base (bytes_of new row)
 
 -- the rows of a range in order
 abbrev pub rows_text : Memory → Memory → Range → List ℕ
