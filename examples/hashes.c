@@ -46,7 +46,8 @@ static void put_block(uint32_t state[8], const uint8_t block[64]) {
 
 /* The task of a message: its digest. */
 static void hash(const uint8_t *message, uint8_t *digest, uint32_t length) {
-    uint32_t state[8] = {0x6a09e667, 0xbb67ae85, 0x3c6ef372, 0xa54ff53a, 0x510e527f, 0x9b05688c, 0x1f83d9ab, 0x5be0cd19};
+    uint32_t state[8] = {0x6a09e667, 0xbb67ae85, 0x3c6ef372, 0xa54ff53a,
+                         0x510e527f, 0x9b05688c, 0x1f83d9ab, 0x5be0cd19};
     uint8_t last[128] = {0};
     uint32_t whole = length / 64 * 64, end = length - whole < 56 ? 64 : 128;
     for (uint32_t at = 0; at < whole; at += 64)
