@@ -1,6 +1,6 @@
 -- No step changes which ranges memory has.
-use Rattle.std.proofs.Common.{◌≡◌, ℕ, zero, suc, Bool, true, false, List, [], ◌∷◌, Option, Some, None, refl, sym, ◌∙◌}
-use Rattle.std.specs.Prelude.{cond, ◌||◌, nat_le, is_some}
+use Rattle.std.proofs.Common.{◌≡◌, ℕ, zero, suc, Bool, true, false, List, [], ◌∷◌, Option, Some, None, refl}
+use Rattle.std.specs.Prelude.{cond, nat_le, is_some}
 use Rattle.tss_base.specs.declared.operand.Operand.{Operand}
 use Rattle.tss_base.specs.declared.operand.Task.{Task}
 use Rattle.tss_base.specs.declared.machine.Limits.{Limits}
@@ -8,9 +8,9 @@ use Rattle.tss_base.specs.Image.{SegmentState, ImageState}
 use Rattle.tss_model.specs.Memory.{MemoryRange, Memory, scratch_range, covers, zeroed, loaded, frozen, code_word, byte_at}
 use Rattle.tss_model.specs.Access.{Actor, reads, operands_of}
 use Rattle.tss_model.specs.Core.{Write, Stepped, Executed, Called, Ended, Trapped, Touched, core_step}
-use Rattle.tss_model.specs.TaskRun.{TaskState, repeated, is_over, task_byte, task_write, task_on, task_step, task_trapped, task_start, task_actor, task_stepped, task_end, memory_write, zeroed_output, zeroed_outputs}
+use Rattle.tss_model.specs.TaskRun.{TaskState, repeated, is_over, task_byte, task_write, task_on, task_step, task_start, task_actor, task_end, memory_write, zeroed_outputs}
 use Rattle.tss_model.specs.MainStep.{MainState, Flat, Call, has_spent, main_on, main_core, main_step, next_call, main_call}
-use Rattle.tss_model.specs.InOrder.{flat_start, flat_by, flat_step, flat_stepped, call_ran, in_order}
+use Rattle.tss_model.specs.InOrder.{flat_start, flat_by, flat_step, call_ran, in_order}
 
 -- what a step keeps is kept by many
 repeated-keeps : {A : Type 0} (P : A → Type 0) (f : A → A) → ((a : A) → P a → P (f a)) → (n : ℕ) (a : A) → P a → P (repeated f n a)

@@ -1,9 +1,9 @@
 -- From what is said of each file to the outcome of a command.
-use Rattle.std.proofs.Common.{◌≡◌, ◌⊎◌, inl, inr, ℕ, ◌≤◌, Bool, true, false, List, [], ◌∷◌, length, Option, Some, None, IfSome, Result, Ok, Err, IsErrAnd, All, Vec, Global, refl, sym, ap, ◌∙◌, subst, arith}
+use Rattle.std.proofs.Common.{◌≡◌, ◌⊎◌, inl, inr, ℕ, Bool, true, false, List, [], length, Option, Some, None, IfSome, Result, Ok, Err, IsErrAnd, All, Vec, Global, refl, sym, ap, ◌∙◌, subst, arith}
 use Rattle.std.specs.Prelude.{cond, nat_lt}
 use Rattle.tss_base.specs.Image.{ImageState}
 use Rattle.tss_base.specs.declared.machine.Machine.{Machine}
-use Rattle.tss_outside.specs.Outside.{Held, Rose, risen}
+use Rattle.tss_outside.specs.Outside.{Held}
 use Rattle.tss_elf.specs.Elf.{Verdict, Refused, Accepted, image_of}
 use Rattle.tss_machine.specs.declared.fault.MachineFault.{MachineFault}
 use Rattle.tss_machine.specs.declared.fault.MachineFault.TheVariants as fault
@@ -15,8 +15,7 @@ use Rattle.tss_run.specs.declared.outcome.Input.{Input}
 use Rattle.tss_run.specs.declared.outcome.Input.TheVariants as input
 use Rattle.tss_run.specs.declared.outcome.Refusal.{Refusal}
 use Rattle.tss_run.specs.declared.outcome.Refusal.TheVariants as refusal
-use Rattle.tss_run.specs.declared.outcome.Run.{Run}
-use Rattle.tss_run.specs.Answer.{Names, inorder_names, machine_limit, image_limit, machine_answer, described_machine, image_answer, accepted_image, within, machine_from, image_from, Outcome, run_of, Inputs, inputs_held, outcome_of_image, outcome_of_image_bytes, outcome_of_machine, outcome_of_machine_bytes, outcome_of, files_after_machine, files_read, Gives, IsRead, Reads, FailsToRead, Answers, status_of, text_of}
+use Rattle.tss_run.specs.Answer.{Names, inorder_names, machine_limit, image_limit, machine_answer, described_machine, image_answer, accepted_image, within, machine_from, image_from, Outcome, Inputs, inputs_held, outcome_of_image, outcome_of_machine, outcome_of, files_after_machine, files_read, Gives, IsRead, Reads, FailsToRead, Answers, status_of, text_of}
 
 none_some : {X : Type 0} {x : X} → None ≡ Some x → ⊥
 none_some e = cc

@@ -1,5 +1,5 @@
 -- What the program answers: its status and text, by its words and by what the named files hold.
-use Rattle.std.specs.Prelude.{◌≡◌, ℕ, ◌<◌, nat_lt, if◌then◌else◌, List, [], ◌∷◌, ◌++◌, map, length, Option, Some, None, IfSome, Result, Ok, Err, codes, string_bytes, true, false}
+use Rattle.std.specs.Prelude.{◌≡◌, ℕ, nat_lt, if◌then◌else◌, List, [], ◌∷◌, map, length, Option, Some, None, IfSome, Result, Ok, Err, codes, string_bytes, true, false}
 use Rattle.std.specs.Fmt.{decimal}
 use Rattle.std.specs.Str.{bytes_eq}
 use Rattle.std.proofs.Common.{String, Vec, Global}

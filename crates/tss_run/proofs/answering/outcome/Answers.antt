@@ -1,10 +1,9 @@
 -- The outcome is the first cause in the order of the work, or the run.
-use Rattle.std.proofs.Common.{◌≡◌, ℕ, ◌≤◌, List, Some, Ok, Err, IfSome, refl, sym, ap, ◌∙◌, subst, arith}
+use Rattle.std.proofs.Common.{◌≡◌, Some, Err, IfSome, refl, sym, subst}
 use Rattle.tss_base.specs.declared.machine.Key.TheVariants.{MaxOperands}
 use Rattle.tss_outside.specs.Outside.{Rose}
 use Rattle.tss_report.proofs.PieceLemmas.{rises_since}
 use Rattle.tss_run.specs.declared.outcome.Input.TheVariants as input
-use Rattle.tss_run.specs.declared.outcome.Refusal.TheVariants as refusal
 use Rattle.tss_run.specs.Answer.{Names, words_of, image_from, Reads}
 use Rattle.tss_run.proofs.AnswerLemmas.{reads_weaker, answers_err, no_machine, no_image, ran}
 use Rattle.tss_run.proofs.answering.outcome.Goals as goal

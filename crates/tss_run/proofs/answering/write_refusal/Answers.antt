@@ -1,5 +1,5 @@
 -- What was put before a fault is a part of the text.
-use Rattle.std.proofs.Common.{◌++◌, List, [], ℕ, subst}
+use Rattle.std.proofs.Common.{◌++◌, [], subst}
 use Rattle.std.proofs.lemmas.Result.{on_err_weaker}
 use Rattle.tss_outside.specs.Outside.{PutsPrefix}
 use Rattle.tss_report.specs.Pieces.{Carries}

@@ -1,5 +1,5 @@
 -- Each of the first words is known where all are.
-use Rattle.std.proofs.Common.{◌≡◌, ◌<◌, ℕ, List, true, map, length, string_bytes, arith}
+use Rattle.std.proofs.Common.{◌≡◌, ℕ, List, true, map, string_bytes, arith}
 use Rattle.std.proofs.lemmas.List.Elements.{All-take, All-map}
 use Rattle.tss_outside.specs.MemFiles.{is_known}
 use Rattle.tss_run.proofs.tests.outside.knows_words.Goals as goal
