@@ -1,2 +1,3 @@
 pub mod Phase
 pub mod Alone
+pub mod Told
