@@ -1,3 +1,5 @@
 pub mod Received
 pub mod News
 pub mod Shown
+pub mod QuietEvents
+pub mod DecodeEvent

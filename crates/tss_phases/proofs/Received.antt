@@ -1,5 +1,5 @@
 -- What is looked up of an operand where messages are sent, and where one is taken.
-use Rattle.std.proofs.Common.{◌≡◌, ◌≢◌, true, false, cond, List, [], ◌∷◌, Some, None, refl, ap, ◌∙◌}
+use Rattle.std.proofs.Common.{◌≡◌, ◌≢◌, Bool, true, false, cond, List, [], ◌∷◌, Some, None, refl, ap, ◌∙◌}
 use Rattle.std.specs.FinMap.{get-insert, get-remove}
 use Rattle.tss_base.specs.declared.operand.OpName.{OpName}
 use Rattle.tss_base.specs.declared.event.Event.{Event}
@@ -150,3 +150,34 @@ look_ups-without S (event.Nack v) q = refl
 look_ups-without S (event.Retire v) q = refl
 look_ups-without S (event.Copy b) q = refl
 look_ups-without S (event.Gone v) q = refl
+
+-- whether the message of an event is one for an operand that tells its phase
+abbrev pub takes : Event → OpName → Bool
+takes (event.Decode o) q = same_name q o
+takes (event.Open o) q = same_name q o
+takes (event.Use o) q = same_name q o
+takes (event.Ready o) q = same_name q o
+takes (event.Release o) q = same_name q o
+takes (event.Bye o) q = same_name q o
+takes e q = false
+
+-- an operand whose message isn't taken has everything as before
+pub missing_other : (e : Event) (q : OpName) (l : LookUps) → takes e q ≡ false → missing e q l ≡ l
+missing_other (event.Decode o) q l t = λ i. record l { decoding = cond (t i) None l.decoding }
+missing_other (event.Open o) q l t = λ i. record l { opening = cond (t i) None l.opening }
+missing_other (event.Use o) q l t = λ i. record l { using = cond (t i) None l.using }
+missing_other (event.Ready o) q l t = λ i. record l { telling = cond (t i) None l.telling }
+missing_other (event.Release o) q l t = λ i. record l { releasing = cond (t i) None l.releasing }
+missing_other (event.Bye o) q l t = λ i. record l { leaving = cond (t i) None l.leaving }
+missing_other event.Main q l t = refl
+missing_other event.Take q l t = refl
+missing_other (event.Ack o) q l t = refl
+missing_other (event.Link o) q l t = refl
+missing_other (event.Start w) q l t = refl
+missing_other (event.Exec w) q l t = refl
+missing_other (event.Finish w) q l t = refl
+missing_other (event.Idle v) q l t = refl
+missing_other (event.Nack v) q l t = refl
+missing_other (event.Retire v) q l t = refl
+missing_other (event.Copy b) q l t = refl
+missing_other (event.Gone v) q l t = refl
