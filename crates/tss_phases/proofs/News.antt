@@ -34,7 +34,7 @@ news_both [] ns h k = k
 news_both (m ∷ ms) ns h k = (h.0, news_both ms ns h.1 k)
 
 -- one message: who isn't told has everything as before
-untold_one : (m : Message) (q : OpName) (l : LookUps) → IsNews m → is_ready_for m q ≡ false → received m q l ≡ l
+pub untold_one : (m : Message) (q : OpName) (l : LookUps) → IsNews m → is_ready_for m q ≡ false → received m q l ≡ l
 untold_one (Decode o operand) q l n e = absurd n
 untold_one (Ack o) q l n e = refl
 untold_one (Open o opening) q l n e = absurd n

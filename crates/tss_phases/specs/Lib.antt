@@ -1,3 +1,4 @@
 pub mod Phase
 pub mod Alone
 pub mod Told
+pub mod Settling

@@ -1,9 +1,10 @@
 -- Which operands a list of messages tells, and their phases then.
-use Rattle.std.specs.Prelude.{Bool, true, false, ◌||◌, List, [], ◌∷◌}
+use Rattle.std.specs.Prelude.{◌≡◌, Bool, true, false, ◌||◌, List, [], ◌∷◌}
 use Rattle.tss_base.specs.declared.operand.OpName.{OpName}
 use Rattle.tss_protocol.specs.Names.{same_name}
 use Rattle.tss_protocol.specs.Mail.{Message, Ready}
-use Rattle.tss_phases.specs.Phase.{Phase, Told}
+use Rattle.tss_protocol.specs.State.{State}
+use Rattle.tss_phases.specs.Phase.{Phase, Waiting, Told, phase_of}
 
 -- a message is a ready for an operand
 abbrev pub is_ready_for : Message → OpName → Bool
@@ -19,3 +20,7 @@ tells (m ∷ ms) q = is_ready_for m q || tells ms q
 abbrev pub phase_told : Bool → Phase → Phase
 phase_told true p = Told
 phase_told false p = p
+
+-- an operand that messages tell is waiting
+abbrev pub WaitsIfTold : State → List Message → OpName → Type 0
+WaitsIfTold S ms q = tells ms q ≡ true → phase_of S q ≡ Waiting
