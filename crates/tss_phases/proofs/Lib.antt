@@ -6,3 +6,6 @@ pub mod DecodeEvent
 pub mod SettlingLemmas
 pub mod ToldPhases
 pub mod OpenEvent
+pub mod UseEvent
+pub mod ReleaseEvent
+pub mod NackEvent

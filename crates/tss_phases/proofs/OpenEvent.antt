@@ -56,9 +56,9 @@ module _ (vs : Named Version) (o : OpName) (opening : OpenContents) where
       inr (f, to, settle_tells (suc (len (followed vs o opening f))) (followed vs o opening f) f.version q e)
   how_tells f Beside q to e = elim
       (either_tells (ready_with o o opening.storage) (settled (followed vs o opening f) f.version).sent q e) [
-    | inl h ↦ inl (ready_with_tells o o opening.storage q h)
-    | inr h ↦ inr (f, to, settle_tells (suc (len (followed vs o opening f))) (followed vs o opening f) f.version q h)
-  ]
+        | inl h ↦ inl (ready_with_tells o o opening.storage q h)
+        | inr h ↦ inr (f, to, settle_tells (suc (len (followed vs o opening f))) (followed vs o opening f) f.version q h)
+      ]
 
   by_tells : (f : Option Follow) (q : OpName) → opening.follows ≡ f → tells (opened_by vs o opening f).sent q ≡ true
       → OpenTells vs o opening q
@@ -110,8 +110,8 @@ module _ (m : Machine) (S : State) (o : OpName) (opening : OpenContents)
       let d = after_open S.versions o opening in
       let l : LookUps = record (look_ups S o) { opening = None } in
       let waits : phase_at l ≡ Waiting =
-        phase_silent l (silent_but_opening (look_ups S o) opening alone there)
-        ∙ station_told (look_ups S o) None fresh in
+      phase_silent l (silent_but_opening (look_ups S o) opening alone there)
+      ∙ station_told (look_ups S o) None fresh in
       ap phase_at (look_ups-open o)
       ∙ (λ i. phase_at (received_all d.sent o (record (look_ups S o) {
         opening = cond (own_name o i) None (get S.mail.opens o);

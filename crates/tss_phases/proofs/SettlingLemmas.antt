@@ -136,7 +136,7 @@ settle_tells (suc n) vs v s e =
 -- what a settle keeps while it goes on, and what then holds of whom it tells
 pub settle_tells_by : (P : Named Version → OpName → Type 0) (Q : OpName → Type 0)
     → ((us : Named Version) (w : OpName) (x : Version) (f : Follow) → P us w → GivesWay us w x f Beside
-      → P (unlinked us w x f.version) f.version)
+    → P (unlinked us w x f.version) f.version)
     → ((us : Named Version) (w s : OpName) → P us w → TakesOver us w s → Q s)
     → (n : ℕ) (vs : Named Version) (v s : OpName) → P vs v → SettleTells n vs v s → Q s
 settle_tells_by P Q on over zero vs v s p h = absurd h
