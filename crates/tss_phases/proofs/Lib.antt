@@ -9,3 +9,4 @@ pub mod OpenEvent
 pub mod UseEvent
 pub mod ReleaseEvent
 pub mod NackEvent
+pub mod Records

@@ -134,9 +134,10 @@ module _ (m : Machine) (S : State) (o : OpName) (r : ReleaseContents) (x : Versi
       let p = bye_promised o x r.producer in
       let s = silent_but_releasing (look_ups S o) r alone there in
       let l : LookUps = record (look_ups S o) { releasing = None } in
-      let silent = not_told (sent_by_release S.versions o r.version x r.producer) o (look_ups S o) Releasing (releasing_before alone) (λ e. cc) waits in
+      let ms = sent_by_release S.versions o r.version x r.producer in
+      let silent = not_told ms o (look_ups S o) Releasing (releasing_before alone) (λ e. cc) waits in
       ap phase_at (look_ups-release o)
-      ∙ (λ i. phase_at (received_all (sent_by_release S.versions o r.version x r.producer) o (record (look_ups S o) {
+      ∙ (λ i. phase_at (received_all ms o (record (look_ups S o) {
         releasing = cond (own_name o i) None (get S.mail.releases o);
       })))
       ∙ ap phase_at (own_bye hs (settled us r.version).sent o p l (news_heads S.versions o r.version x r.producer)
@@ -144,8 +145,10 @@ module _ (m : Machine) (S : State) (o : OpName) (r : ReleaseContents) (x : Versi
       ∙ phase_leaving (record l { leaving = Some p }) p s.decoding s.opening s.using s.telling refl refl
 
   -- another operand is told, or stays as it was
-  pub phase_of-release-other : (q : OpName) → q ≢ o → WaitsIfTold S (sent_by_release S.versions o r.version x r.producer) q
-      → phase_of (after_event m S (event.Release o)) q ≡ phase_told (tells (sent_by_release S.versions o r.version x r.producer) q) (phase_of S q)
+  pub phase_of-release-other : (q : OpName) → q ≢ o
+      → WaitsIfTold S (sent_by_release S.versions o r.version x r.producer) q
+      → phase_of (after_event m S (event.Release o)) q
+      ≡ phase_told (tells (sent_by_release S.versions o r.version x r.producer) q) (phase_of S q)
   phase_of-release-other q apart waits =
       let us = versions_released S.versions o r.version x r.producer in
       let hs = heads_told r.version x r.producer in
@@ -153,10 +156,11 @@ module _ (m : Machine) (S : State) (o : OpName) (r : ReleaseContents) (x : Versi
       let p = bye_promised o x r.producer in
       let same = bye_tells hs ns o p q in
       ap phase_at (look_ups-release q)
-      ∙ ap (λ l. phase_at (received_all (sent_by_release S.versions o r.version x r.producer) q l))
+      ∙ ap (λ l. phase_at (received_all ((hs ++ Bye o p ∷ []) ++ ns) q l))
       (missing_other (event.Release o) q (look_ups S q) (other_name q o apart))
       ∙ ap phase_at (beside_bye hs ns o p q (look_ups S q) apart)
       ∙ phase_news (hs ++ ns) q (look_ups S q)
-      (news_both hs ns (news_heads S.versions o r.version x r.producer) (news_released S.versions o r.version x r.producer))
+      (news_both hs ns (news_heads S.versions o r.version x r.producer)
+      (news_released S.versions o r.version x r.producer))
       (λ t. waits (same ∙ t))
       ∙ ap (λ b. phase_told b (phase_of S q)) (sym same)
