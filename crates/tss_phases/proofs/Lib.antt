@@ -10,3 +10,4 @@ pub mod UseEvent
 pub mod ReleaseEvent
 pub mod NackEvent
 pub mod Records
+pub mod LeavingTasks

@@ -1,5 +1,5 @@
 -- What a phase shows of the look-ups, and the other way round.
-use Rattle.std.proofs.Common.{◌≡◌, ◌≢◌, ◌≤◌, Bool, true, false, Option, Some, None, refl, sym, ap, ◌∙◌, arith}
+use Rattle.std.proofs.Common.{◌≡◌, ◌≢◌, ◌≤◌, Bool, true, false, Option, Some, None, refl, sym, ap, ◌∙◌, arith, inl, inr, ◌⊎◌}
 use Rattle.std.specs.Prelude.{is_some}
 use Rattle.tss_base.specs.declared.operand.Operand.{Operand}
 use Rattle.tss_base.specs.declared.operand.OpName.{OpName}
@@ -198,6 +198,74 @@ promised_shows l e =
         → (k : OperandState) × (l.station ≡ Some k) × (k.farewell ≡ farewell.Promised)
     by None es e = absurd (absent l.ahead e)
     by (Some k) es e = (k, es, at k k.farewell k.source refl e)
+
+-- an operand that has left has a record that says so, or none, and then its task has been taken
+pub left_shows : (l : LookUps) → phase_at l ≡ Left
+    → IsSilent l × (((l.station ≡ None) × (l.ahead ≡ false))
+    ⊎ ((k : OperandState) × (l.station ≡ Some k) × (k.farewell ≡ farewell.Left)))
+left_shows l e =
+    let s = still_shows l Left refl e in
+    (s.0, by l.station refl s.1)
+  where
+    at : (k : OperandState) (f : Farewell) (o : Option Source) → k.farewell ≡ f → record_phase f o ≡ Left
+        → k.farewell ≡ farewell.Left
+    at k farewell.Nothing None ef e = absurd (cc)
+    at k farewell.Nothing (Some x) ef e = absurd (cc)
+    at k farewell.Promised o ef e = absurd (cc)
+    at k farewell.Left o ef e = ef
+
+    absent : (b : Bool) → absent_phase b ≡ Left → b ≡ false
+    absent true e = absurd (cc)
+    absent false e = refl
+
+    by : (x : Option OperandState) → l.station ≡ x → station_phase x l.ahead ≡ Left
+        → ((l.station ≡ None) × (l.ahead ≡ false))
+        ⊎ ((k : OperandState) × (l.station ≡ Some k) × (k.farewell ≡ farewell.Left))
+    by None es e = inl (es, absent l.ahead e)
+    by (Some k) es e = inr (k, es, at k k.farewell k.source refl e)
+
+-- an operand that is ahead has no record, and its task hasn't been taken
+pub ahead_shows : (l : LookUps) → phase_at l ≡ Ahead → IsSilent l × ((l.station ≡ None) × (l.ahead ≡ true))
+ahead_shows l e =
+    let s = still_shows l Ahead refl e in
+    (s.0, by l.station refl s.1)
+  where
+    at : (f : Farewell) (o : Option Source) → record_phase f o ≡ Ahead → ⊥
+    at farewell.Nothing None e = cc
+    at farewell.Nothing (Some x) e = cc
+    at farewell.Promised o e = cc
+    at farewell.Left o e = cc
+
+    absent : (b : Bool) → absent_phase b ≡ Ahead → b ≡ true
+    absent true e = refl
+    absent false e = absurd (cc)
+
+    by : (x : Option OperandState) → l.station ≡ x → station_phase x l.ahead ≡ Ahead
+        → (l.station ≡ None) × (l.ahead ≡ true)
+    by None es e = (es, absent l.ahead e)
+    by (Some k) es e = absurd (at k.farewell k.source e)
+
+-- ---- another record
+
+-- a record that gives the same phase leaves the operand's
+pub same_station : (l : LookUps) (x : Option OperandState)
+    → station_phase x l.ahead ≡ station_phase l.station l.ahead → phase_at (record l { station = x }) ≡ phase_at l
+same_station l x e = λ i.
+    where_there l.decoding Decoding
+    (where_there l.opening Sent
+    (where_there l.using Sent
+    (where_there l.telling Told (where_there l.releasing Releasing (where_there l.leaving Leaving (e i))))))
+
+-- messages say nothing of the record
+pub silent_station : (l : LookUps) (x : Option OperandState) → IsSilent l → IsSilent (record l { station = x })
+silent_station l x s = record {
+  decoding = s.decoding;
+  opening = s.opening;
+  using = s.using;
+  telling = s.telling;
+  releasing = s.releasing;
+  leaving = s.leaving;
+}
 
 -- ---- at most one message
 

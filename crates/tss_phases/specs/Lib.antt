@@ -2,3 +2,4 @@ pub mod Phase
 pub mod Alone
 pub mod Told
 pub mod Settling
+pub mod Leaving
