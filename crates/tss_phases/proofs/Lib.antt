@@ -11,3 +11,6 @@ pub mod ReleaseEvent
 pub mod NackEvent
 pub mod Records
 pub mod LeavingTasks
+pub mod ReadyEvent
+pub mod LinkEvent
+pub mod ByeEvent
