@@ -14,3 +14,5 @@ pub mod LeavingTasks
 pub mod ReadyEvent
 pub mod LinkEvent
 pub mod ByeEvent
+pub mod StartEvent
+pub mod FinishEvent
