@@ -27,11 +27,13 @@ use Rattle.tss_phases.proofs.LeavingTasks.{remaining_beside}
 abbrev pub IsBefore : OpName → ℕ → ℕ → Type 0
 IsBefore q task place = (q.task ≢ task) ⊎ (q.place < place)
 
-before_next : (q : OpName) (task place : ℕ) → IsBefore q task place → IsBefore q task (suc place)
+-- that is so from the next place on
+pub before_next : (q : OpName) (task place : ℕ) → IsBefore q task place → IsBefore q task (suc place)
 before_next q task place (inl other) = inl other
 before_next q task place (inr less) = inr (omega (arith, less))
 
-apart_before : (q : OpName) (task place : ℕ) → IsBefore q task place → q ≢ operand_name task place
+-- and then it isn't the operand at the place
+pub apart_before : (q : OpName) (task place : ℕ) → IsBefore q task place → q ≢ operand_name task place
 apart_before q task place (inl other) e = other (λ i. (e i).task)
 apart_before q task place (inr less) e = absurd (irreflexive q.place place less (λ i. (e i).place))
   where

@@ -16,3 +16,4 @@ pub mod LinkEvent
 pub mod ByeEvent
 pub mod StartEvent
 pub mod FinishEvent
+pub mod TakeEvent
