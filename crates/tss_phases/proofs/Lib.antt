@@ -17,3 +17,4 @@ pub mod ByeEvent
 pub mod StartEvent
 pub mod FinishEvent
 pub mod TakeEvent
+pub mod MainEvent
