@@ -49,6 +49,27 @@ module _ (m : Machine) (S : State) (o : OpName) (promised : Bool) (r : OperandSt
       ap (λ x. look_ups (bye_message_taken T o x) q) there
       ∙ (λ i. record (look_ups-without S (event.Bye o) q i) { station = operand_at (parted i) q })
 
+  -- of its operand: the bye is gone
+  pub look_ups-bye-own : look_ups (after_event m S (event.Bye o)) o ≡ record (look_ups S o) {
+    leaving = None;
+    station = operand_at (remaining_tasks S.flight o.task parted_task) o;
+  }
+  look_ups-bye-own =
+      look_ups-bye o
+      ∙ (λ i. record (look_ups S o) {
+        leaving = cond (own_name o i) None (get S.mail.byes o);
+        station = operand_at (remaining_tasks S.flight o.task parted_task) o;
+      })
+
+  -- of another operand: its record is gone where its task leaves
+  pub look_ups-bye-other : (q : OpName) → q ≢ o → look_ups (after_event m S (event.Bye o)) q
+      ≡ record (look_ups S q) { station = operand_at (remaining_tasks S.flight o.task parted_task) q }
+  look_ups-bye-other q apart =
+      look_ups-bye q
+      ∙ (λ i. record (missing_other (event.Bye o) q (look_ups S q) (other_name q o apart) i) {
+        station = operand_at (remaining_tasks S.flight o.task parted_task) q;
+      })
+
   -- before it, its operand is leaving
   pub leaving_before : IsAlone S o → phase_of S o ≡ Leaving
   leaving_before alone =
@@ -63,8 +84,7 @@ module _ (m : Machine) (S : State) (o : OpName) (promised : Bool) (r : OperandSt
       let k = operand_at (remaining_tasks S.flight o.task parted_task) o in
       let l : LookUps = record (look_ups S o) { leaving = None } in
       let silent = silent_but_leaving (look_ups S o) promised alone there in
-      ap phase_at (look_ups-bye o)
-      ∙ (λ i. phase_at (record (look_ups S o) { leaving = cond (own_name o i) None (get S.mail.byes o); station = k }))
+      ap phase_at look_ups-bye-own
       ∙ phase_silent (record l { station = k }) (silent_station l k silent)
       ∙ ap (station_phase k) taken
       ∙ remaining_phase S.flight o.task parted_task o refl
@@ -93,6 +113,5 @@ module _ (m : Machine) (S : State) (o : OpName) (promised : Bool) (r : OperandSt
       → phase_of (after_event m S (event.Bye o)) q ≡ phase_of S q
   phase_of-bye-other taken q apart =
       let k = operand_at (remaining_tasks S.flight o.task parted_task) q in
-      ap phase_at (look_ups-bye q)
-      ∙ (λ i. phase_at (record (missing_other (event.Bye o) q (look_ups S q) (other_name q o apart) i) { station = k }))
+      ap phase_at (look_ups-bye-other q apart)
       ∙ same_station (look_ups S q) k (other_station taken q apart)

@@ -103,6 +103,23 @@ module _ (m : Machine) (S : State) (o : OpName) (opening : OpenContents)
       ∙ look_ups-sent (record T { versions = d.part }) d.sent q
       ∙ ap (received_all d.sent q) (look_ups-without S (event.Open o) q)
 
+  -- of its operand: the open is gone, and it may be told
+  pub look_ups-open-own : look_ups (after_event m S (event.Open o)) o
+      ≡ received_all (after_open S.versions o opening).sent o (record (look_ups S o) { opening = None })
+  look_ups-open-own =
+      look_ups-open o
+      ∙ (λ i. received_all (after_open S.versions o opening).sent o (record (look_ups S o) {
+        opening = cond (own_name o i) None (get S.mail.opens o);
+      }))
+
+  -- of another operand: it may be told
+  pub look_ups-open-other : (q : OpName) → q ≢ o → look_ups (after_event m S (event.Open o)) q
+      ≡ received_all (after_open S.versions o opening).sent q (look_ups S q)
+  look_ups-open-other q apart =
+      look_ups-open q
+      ∙ ap (received_all (after_open S.versions o opening).sent q)
+      (missing_other (event.Open o) q (look_ups S q) (other_name q o apart))
+
   -- its operand is told, or waits
   pub phase_of-open : IsAlone S o → IsFresh S o
       → phase_of (after_event m S (event.Open o)) o ≡ phase_told (tells (after_open S.versions o opening).sent o) Waiting
@@ -112,10 +129,7 @@ module _ (m : Machine) (S : State) (o : OpName) (opening : OpenContents)
       let waits : phase_at l ≡ Waiting =
       phase_silent l (silent_but_opening (look_ups S o) opening alone there)
       ∙ station_told (look_ups S o) None fresh in
-      ap phase_at (look_ups-open o)
-      ∙ (λ i. phase_at (received_all d.sent o (record (look_ups S o) {
-        opening = cond (own_name o i) None (get S.mail.opens o);
-      })))
+      ap phase_at look_ups-open-own
       ∙ phase_news d.sent o l (news_open S.versions o opening) (λ t. waits)
       ∙ ap (phase_told (tells d.sent o)) waits
 
@@ -125,6 +139,5 @@ module _ (m : Machine) (S : State) (o : OpName) (opening : OpenContents)
       ≡ phase_told (tells (after_open S.versions o opening).sent q) (phase_of S q)
   phase_of-open-other q apart waits =
       let d = after_open S.versions o opening in
-      ap phase_at (look_ups-open q)
-      ∙ ap (λ l. phase_at (received_all d.sent q l)) (missing_other (event.Open o) q (look_ups S q) (other_name q o apart))
+      ap phase_at (look_ups-open-other q apart)
       ∙ phase_news d.sent q (look_ups S q) (news_open S.versions o opening) waits

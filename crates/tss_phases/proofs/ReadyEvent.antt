@@ -108,6 +108,29 @@ module _ (m : Machine) (S : State) (o : OpName) (source : Source) (r : OperandSt
         | inr other ↦ record_beside_put S.flight o.task (awaited y) q other
       ]
 
+  -- of its operand: the ready is gone, the record has what it was told, and it may be told again
+  pub look_ups-ready-own : look_ups (after_event m S (event.Ready o)) o
+      ≡ received_all (sent_by_ready r.link source) o (record (look_ups S o) {
+        telling = None;
+        station = Some (operand_after_ready r source);
+      })
+  look_ups-ready-own =
+      look_ups-ready o
+      ∙ (λ i. received_all (sent_by_ready r.link source) o (record (look_ups S o) {
+        telling = cond (own_name o i) None (get S.mail.readies o);
+        station = ready_record i;
+      }))
+
+  -- of another operand: it may be told
+  pub look_ups-ready-other : (q : OpName) → q ≢ o → look_ups (after_event m S (event.Ready o)) q
+      ≡ received_all (sent_by_ready r.link source) q (look_ups S q)
+  look_ups-ready-other q apart =
+      look_ups-ready q
+      ∙ (λ i. received_all (sent_by_ready r.link source) q
+      (record (missing_other (event.Ready o) q (look_ups S q) (other_name q o apart) i) {
+        station = ready_record_other q apart i;
+      }))
+
   -- before it, its operand is told
   pub told_before : IsAlone S o → phase_of S o ≡ Told
   told_before alone =
@@ -122,11 +145,7 @@ module _ (m : Machine) (S : State) (o : OpName) (source : Source) (r : OperandSt
       let k = operand_after_ready r source in
       let l : LookUps = record (look_ups S o) { telling = None } in
       let silent = silent_but_telling (look_ups S o) source alone there in
-      ap phase_at (look_ups-ready o)
-      ∙ (λ i. phase_at (received_all ms o (record (look_ups S o) {
-        telling = cond (own_name o i) None (get S.mail.readies o);
-        station = ready_record i;
-      })))
+      ap phase_at look_ups-ready-own
       ∙ ap phase_at (untold ms o (record l { station = Some k }) (news_ready r.link source)
       (not_told ms o (look_ups S o) Told (told_before alone) (λ e. cc) waits))
       ∙ phase_silent (record l { station = Some k }) (silent_station l (Some k) silent)
@@ -138,8 +157,5 @@ module _ (m : Machine) (S : State) (o : OpName) (source : Source) (r : OperandSt
       ≡ phase_told (tells (sent_by_ready r.link source) q) (phase_of S q)
   phase_of-ready-other q apart waits =
       let ms = sent_by_ready r.link source in
-      ap phase_at (look_ups-ready q)
-      ∙ (λ i. phase_at (received_all ms q (record (missing_other (event.Ready o) q (look_ups S q) (other_name q o apart) i) {
-        station = ready_record_other q apart i;
-      })))
+      ap phase_at (look_ups-ready-other q apart)
       ∙ phase_news ms q (look_ups S q) (news_ready r.link source) waits

@@ -119,6 +119,34 @@ module _ (m : Machine) (S : State) (o : OpName) (r : ReleaseContents) (x : Versi
       ∙ ap (received_all d.sent q) (look_ups-without S (event.Release o) q)
       ∙ ap (λ ms. received_all ms q (missing (event.Release o) q (look_ups S q))) sends_here
 
+  -- of its operand, where it isn't told: the release is gone, and it has a bye
+  pub look_ups-release-own : tells (sent_by_release S.versions o r.version x r.producer) o ≡ false
+      → look_ups (after_event m S (event.Release o)) o ≡ record (look_ups S o) {
+        releasing = None;
+        leaving = Some (bye_promised o x r.producer);
+      }
+  look_ups-release-own silent =
+      let us = versions_released S.versions o r.version x r.producer in
+      look_ups-release o
+      ∙ (λ i. received_all (sent_by_release S.versions o r.version x r.producer) o (record (look_ups S o) {
+        releasing = cond (own_name o i) None (get S.mail.releases o);
+      }))
+      ∙ own_bye (heads_told r.version x r.producer) (settled us r.version).sent o (bye_promised o x r.producer)
+      (record (look_ups S o) { releasing = None }) (news_heads S.versions o r.version x r.producer)
+      (news_released S.versions o r.version x r.producer) silent
+
+  -- of another operand: it may be told
+  pub look_ups-release-other : (q : OpName) → q ≢ o → look_ups (after_event m S (event.Release o)) q
+      ≡ received_all (heads_told r.version x r.producer
+      ++ (settled (versions_released S.versions o r.version x r.producer) r.version).sent) q (look_ups S q)
+  look_ups-release-other q apart =
+      let us = versions_released S.versions o r.version x r.producer in
+      look_ups-release q
+      ∙ ap (received_all (sent_by_release S.versions o r.version x r.producer) q)
+      (missing_other (event.Release o) q (look_ups S q) (other_name q o apart))
+      ∙ beside_bye (heads_told r.version x r.producer) (settled us r.version).sent o (bye_promised o x r.producer) q
+      (look_ups S q) apart
+
   -- before it, its operand is releasing
   pub releasing_before : IsAlone S o → phase_of S o ≡ Releasing
   releasing_before alone =
@@ -129,20 +157,13 @@ module _ (m : Machine) (S : State) (o : OpName) (r : ReleaseContents) (x : Versi
   pub phase_of-release : IsAlone S o → WaitsIfTold S (sent_by_release S.versions o r.version x r.producer) o
       → phase_of (after_event m S (event.Release o)) o ≡ Leaving
   phase_of-release alone waits =
-      let us = versions_released S.versions o r.version x r.producer in
-      let hs = heads_told r.version x r.producer in
+      let ms = sent_by_release S.versions o r.version x r.producer in
       let p = bye_promised o x r.producer in
       let s = silent_but_releasing (look_ups S o) r alone there in
-      let l : LookUps = record (look_ups S o) { releasing = None } in
-      let ms = sent_by_release S.versions o r.version x r.producer in
+      let l : LookUps = record (look_ups S o) { releasing = None; leaving = Some p } in
       let silent = not_told ms o (look_ups S o) Releasing (releasing_before alone) (λ e. cc) waits in
-      ap phase_at (look_ups-release o)
-      ∙ (λ i. phase_at (received_all ms o (record (look_ups S o) {
-        releasing = cond (own_name o i) None (get S.mail.releases o);
-      })))
-      ∙ ap phase_at (own_bye hs (settled us r.version).sent o p l (news_heads S.versions o r.version x r.producer)
-      (news_released S.versions o r.version x r.producer) silent)
-      ∙ phase_leaving (record l { leaving = Some p }) p s.decoding s.opening s.using s.telling refl refl
+      ap phase_at (look_ups-release-own silent)
+      ∙ phase_leaving l p s.decoding s.opening s.using s.telling refl refl
 
   -- another operand is told, or stays as it was
   pub phase_of-release-other : (q : OpName) → q ≢ o
@@ -153,12 +174,8 @@ module _ (m : Machine) (S : State) (o : OpName) (r : ReleaseContents) (x : Versi
       let us = versions_released S.versions o r.version x r.producer in
       let hs = heads_told r.version x r.producer in
       let ns = (settled us r.version).sent in
-      let p = bye_promised o x r.producer in
-      let same = bye_tells hs ns o p q in
-      ap phase_at (look_ups-release q)
-      ∙ ap (λ l. phase_at (received_all ((hs ++ Bye o p ∷ []) ++ ns) q l))
-      (missing_other (event.Release o) q (look_ups S q) (other_name q o apart))
-      ∙ ap phase_at (beside_bye hs ns o p q (look_ups S q) apart)
+      let same = bye_tells hs ns o (bye_promised o x r.producer) q in
+      ap phase_at (look_ups-release-other q apart)
       ∙ phase_news (hs ++ ns) q (look_ups S q)
       (news_both hs ns (news_heads S.versions o r.version x r.producer)
       (news_released S.versions o r.version x r.producer))

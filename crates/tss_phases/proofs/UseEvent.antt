@@ -110,6 +110,15 @@ module _ (m : Machine) (S : State) (o v : OpName) (there : get S.mail.uses o ≡
       ∙ look_ups-sent (record T { versions = d.part }) d.sent q
       ∙ ap (received_all d.sent q) (look_ups-without S (event.Use o) q)
 
+  -- of its operand: the use is gone, and it may be told
+  pub look_ups-use-own : look_ups (after_event m S (event.Use o)) o
+      ≡ received_all (after_use S.versions o v).sent o (record (look_ups S o) { using = None })
+  look_ups-use-own =
+      look_ups-use o
+      ∙ (λ i. received_all (after_use S.versions o v).sent o (record (look_ups S o) {
+        using = cond (own_name o i) None (get S.mail.uses o);
+      }))
+
   -- its operand is told, or waits
   pub phase_of-use : IsAlone S o → IsFresh S o
       → phase_of (after_event m S (event.Use o)) o ≡ phase_told (tells (after_use S.versions o v).sent o) Waiting
@@ -119,10 +128,7 @@ module _ (m : Machine) (S : State) (o v : OpName) (there : get S.mail.uses o ≡
       let waits : phase_at l ≡ Waiting =
       phase_silent l (silent_but_using (look_ups S o) v alone there)
       ∙ station_told (look_ups S o) None fresh in
-      ap phase_at (look_ups-use o)
-      ∙ (λ i. phase_at (received_all d.sent o (record (look_ups S o) {
-        using = cond (own_name o i) None (get S.mail.uses o);
-      })))
+      ap phase_at look_ups-use-own
       ∙ phase_news d.sent o l (news_use S.versions o v) (λ t. waits)
       ∙ ap (phase_told (tells d.sent o)) waits
 

@@ -3,3 +3,4 @@ pub mod Alone
 pub mod Told
 pub mod Settling
 pub mod Leaving
+pub mod Openers

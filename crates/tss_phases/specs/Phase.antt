@@ -102,3 +102,16 @@ phase_at l =
 -- the phase of an operand
 abbrev pub phase_of : State → OpName → Phase
 phase_of S o = phase_at (look_ups S o)
+
+-- it has been decoded
+abbrev pub is_decoded : Phase → Bool
+is_decoded Ahead = false
+is_decoded Decoding = false
+is_decoded p = true
+
+-- it has released its version
+abbrev pub has_released : Phase → Bool
+has_released Leaving = true
+has_released Promised = true
+has_released Left = true
+has_released p = false
