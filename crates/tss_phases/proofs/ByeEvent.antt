@@ -16,7 +16,8 @@ use Rattle.tss_phases.specs.Phase.{Leaving, LookUps, look_ups, record_phase, sta
 use Rattle.tss_phases.specs.Alone.{IsAlone}
 use Rattle.tss_phases.specs.Leaving.{phase_parted}
 use Rattle.tss_phases.proofs.Received.{own_name, other_name, missing, missing_other, look_ups-without}
-use Rattle.tss_phases.proofs.Shown.{phase_silent, phase_leaving, same_station, silent_station, silent_but_leaving}
+use Rattle.tss_phases.proofs.PhaseLemmas.{phase_silent, phase_leaving, same_station, silent_station}
+use Rattle.tss_phases.proofs.AloneLemmas.{silent_but_leaving}
 use Rattle.tss_phases.proofs.Records.{operand_in, task_of_record, own_record, other_record}
 use Rattle.tss_phases.proofs.LeavingTasks.{remaining_beside, remaining_phase}
 

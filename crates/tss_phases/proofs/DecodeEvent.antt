@@ -14,7 +14,7 @@ use Rattle.tss_protocol.specs.Renaming.{after_decode, decode_message, live_messa
 use Rattle.tss_protocol.specs.UnitMachine.{after_event, without, tables_of, with_tables, decode_message_taken}
 use Rattle.tss_phases.specs.Phase.{Decoding, Sent, LookUps, look_ups, phase_at, phase_of}
 use Rattle.tss_phases.proofs.Received.{own_name, other_name, received, receiver, received_all, received_other, look_ups-sent, missing, missing_other, look_ups-without}
-use Rattle.tss_phases.proofs.Shown.{phase_decoding, phase_opening, phase_using}
+use Rattle.tss_phases.proofs.PhaseLemmas.{phase_decoding, phase_opening, phase_using}
 
 for_itself : (o : OpName) (operand : Operand) (e : Entry) (mode : Mode)
     → receiver (live_message o operand e mode) ≡ o

@@ -17,7 +17,8 @@ use Rattle.tss_protocol.specs.Workers.{trap_after_finish}
 use Rattle.tss_protocol.specs.UnitMachine.{after_event, after_finish}
 use Rattle.tss_phases.specs.Phase.{Ready, Releasing, LookUps, look_ups, phase_at, phase_of}
 use Rattle.tss_phases.proofs.Received.{own_name, received_all, received_other, look_ups-sent}
-use Rattle.tss_phases.proofs.Shown.{ready_shows, phase_releasing}
+use Rattle.tss_phases.proofs.Shown.{ready_shows}
+use Rattle.tss_phases.proofs.PhaseLemmas.{phase_releasing}
 use Rattle.tss_phases.proofs.Records.{operand_in}
 use Rattle.tss_phases.proofs.LeavingTasks.{remaining_beside}
 

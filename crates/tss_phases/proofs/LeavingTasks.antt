@@ -1,7 +1,7 @@
 -- A task leaves exactly where it has finished and the farewells of all its operands are done, and the phases of its
 -- operands are then all left.
 use Rattle.std.proofs.Common.{◌≡◌, ◌≢◌, ℕ, zero, suc, Bool, true, false, List, [], ◌∷◌, Option, Some, None, refl, sym, ap, ◌∙◌}
-use Rattle.std.specs.Prelude.{◌&&◌, slice_get, if◌then◌else◌, option_and_then}
+use Rattle.std.specs.Prelude.{◌&&◌, slice_get, if◌then◌else◌}
 use Rattle.std.specs.List.{list_all}
 use Rattle.std.specs.FinMap.{get, insert, remove}
 use Rattle.std.proofs.lemmas.Option.{none-some, same_Some}
@@ -16,12 +16,9 @@ use Rattle.tss_protocol.specs.Stations.{operand_at, has_left, has_finished, is_g
 use Rattle.tss_phases.specs.Phase.{Left, look_ups, record_phase, station_phase, is_ahead, phase_of}
 use Rattle.tss_phases.specs.Alone.{IsSilent}
 use Rattle.tss_phases.specs.Leaving.{HaveLeft, IsDone}
-use Rattle.tss_phases.proofs.Records.{record_beside_put, record_beside_removal, record_put, record_removed, operand_in}
-use Rattle.tss_phases.proofs.Shown.{phase_silent}
-
-both : (a b : Bool) → a && b ≡ true → (a ≡ true) × (b ≡ true)
-both true b e = (refl, e)
-both false b e = absurd (cc)
+use Rattle.tss_phases.proofs.Records.{record_in, record_beside_put, record_beside_removal, record_put, record_removed, operand_in}
+use Rattle.tss_phases.proofs.PhaseLemmas.{phase_silent}
+use Rattle.tss_phases.proofs.Tests.{both}
 
 left_from_test : (f : Farewell) → has_left f ≡ true → f ≡ farewell.Left
 left_from_test farewell.Nothing e = absurd (cc)
@@ -66,7 +63,8 @@ module _ (flight : Numbered Flying) (task : ℕ) (x : Flying) where
   pub leaves_done : get (remaining_tasks flight task x) task ≡ None → IsDone x
   leaves_done e = by (is_gone x) refl e
     where
-      by : (b : Bool) → is_gone x ≡ b → get (if b then remove flight task else insert flight task x) task ≡ None → IsDone x
+      by : (b : Bool) → is_gone x ≡ b → get (if b then remove flight task else insert flight task x) task ≡ None
+          → IsDone x
       by true g e = done_from_test x g
       by false g e = absurd (none-some x (sym e ∙ at_inserted nat_order flight task x))
 
@@ -77,7 +75,8 @@ module _ (flight : Numbered Flying) (task : ℕ) (x : Flying) where
       ∙ at_inserted nat_order flight task x
 
   -- the records of other tasks stay as they were
-  pub remaining_beside : (q : OpName) → q.task ≢ task → operand_at (remaining_tasks flight task x) q ≡ operand_at flight q
+  pub remaining_beside : (q : OpName) → q.task ≢ task
+      → operand_at (remaining_tasks flight task x) q ≡ operand_at flight q
   remaining_beside q apart = by (is_gone x)
     where
       by : (b : Bool) → operand_at (if b then remove flight task else insert flight task x) q ≡ operand_at flight q
@@ -111,7 +110,7 @@ phase_gone S q silent none taken =
     ∙ (λ i. station_phase (no_record i) (taken i))
   where
     no_record : operand_at S.flight q ≡ None
-    no_record = ap (option_and_then (λ (x : Flying). slice_get x.operands q.place)) none
+    no_record = ap (record_in q.place) none
 
 -- and so it is in a task that is done
 pub phase_done : (S : State) (q : OpName) (x : Flying) (r : OperandState) → IsSilent (look_ups S q)

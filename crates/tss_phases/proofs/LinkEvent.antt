@@ -21,11 +21,13 @@ use Rattle.tss_phases.specs.Told.{tells, phase_told, WaitsIfTold}
 use Rattle.tss_phases.specs.Leaving.{phase_linked}
 use Rattle.tss_phases.proofs.Received.{own_name, received_all, look_ups-sent}
 use Rattle.tss_phases.proofs.News.{AreNews, untold}
-use Rattle.tss_phases.proofs.Shown.{waiting_shows, same_station}
+use Rattle.tss_phases.proofs.Shown.{waiting_shows}
+use Rattle.tss_phases.proofs.PhaseLemmas.{same_station}
 use Rattle.tss_phases.proofs.SettlingLemmas.{name_from_test}
 use Rattle.tss_phases.proofs.ToldPhases.{phase_news}
 use Rattle.tss_phases.proofs.Records.{operand_in, task_of_record, own_record, other_record}
 use Rattle.tss_phases.proofs.LeavingTasks.{remaining_beside, remaining_phase}
+use Rattle.tss_phases.proofs.Tests.{or_false}
 
 -- ---- what a link sends
 
@@ -33,10 +35,6 @@ use Rattle.tss_phases.proofs.LeavingTasks.{remaining_beside, remaining_phase}
 pub news_link : (source : Option Source) (next : OpName) → AreNews (sent_by_link source next)
 news_link None next = tt
 news_link (Some source) next = (tt, tt)
-
-or_false : (b : Bool) → b || false ≡ true → b ≡ true
-or_false true e = refl
-or_false false e = e
 
 -- whom it tells: the next operand, where its own is ready
 pub link_tells : (source : Option Source) (next q : OpName) → tells (sent_by_link source next) q ≡ true

@@ -22,6 +22,7 @@ use Rattle.tss_protocol.specs.State.{State}
 use Rattle.tss_protocol.specs.MainEvent.{flat_of, call_next, may_call, after_call, main_by}
 use Rattle.tss_protocol.specs.UnitMachine.{is_enabled, IsEnabled, after_event}
 use Rattle.tss_phases.specs.Phase.{look_ups, phase_at, inbox_has, phase_of}
+use Rattle.tss_phases.proofs.Tests.{both}
 
 -- ---- a stretch spawns no task
 
@@ -92,7 +93,8 @@ checked_number : (limits : Limits) (call : SpawnCall) (named : List Range) (spaw
     (r : Result (List Operand) ℕ) (t : Task) → task_checked limits call named spawned r ≡ Ok t → t.number ≡ suc spawned
 checked_number limits call named spawned (Err n) t e = absurd (not_refused n t e)
 checked_number limits call named spawned (Ok listed) t e =
-    by (nat_lt limits.epoch_objects (length (name_objects named (objects_of listed)))) (nat_le limits.max_tasks spawned) e
+    by (nat_lt limits.epoch_objects (length (name_objects named (objects_of listed))))
+    (nat_le limits.max_tasks spawned) e
   where
     by : (a b : Bool)
         → (if a then Err epoch_full else if b then Err too_many_tasks
@@ -128,10 +130,6 @@ spawn_number call m named limits spawned t e =
 next_ahead : (n k : ℕ) → (nat_lt (suc n) k || (suc n == k)) ≡ (nat_lt n k || false)
 next_ahead n k = grind (arith, nat_tests)
 
-second_passes : (a b : Bool) → a && b ≡ true → b ≡ true
-second_passes true b e = e
-second_passes false b e = absurd (cc)
-
 none_from_test : {X : Type 0} (x : Option X) → is_none x ≡ true → x ≡ None
 none_from_test None e = refl
 none_from_test (Some x) e = absurd (cc)
@@ -149,7 +147,9 @@ module _ (m : Machine) (S : State) (q : OpName) where
 
   by_call : (c : Option Call) → may_call S c ≡ true → look_ups (main_by m S c) q ≡ look_ups S q
   by_call None may = λ i. record (look_ups S q) {
-    ahead = nat_lt (spawned-main_stretch S.code m.limits m.sizes.quantum (flat_of S) i) q.task || inbox_has S.inbox q.task;
+    ahead =
+        nat_lt (spawned-main_stretch S.code m.limits m.sizes.quantum (flat_of S) i) q.task
+        || inbox_has S.inbox q.task;
   }
   by_call (Some ExitCall) may = refl
   by_call (Some Spawn) may =
@@ -168,7 +168,8 @@ module _ (m : Machine) (S : State) (q : OpName) where
   pub look_ups-main : IsEnabled m S event.Main → look_ups (after_event m S event.Main) q ≡ look_ups S q
   unfolding after_event is_enabled
   look_ups-main enabled =
-      by_call (call_next m S) (second_passes (is_none S.main.ending && is_none S.trap) (may_call S (call_next m S)) enabled)
+      by_call (call_next m S)
+      (both (is_none S.main.ending && is_none S.trap) (may_call S (call_next m S)) enabled).1
 
   -- no phase is changed by main
   pub phase_of-main : IsEnabled m S event.Main → phase_of (after_event m S event.Main) q ≡ phase_of S q

@@ -1,5 +1,5 @@
--- Messages that change nothing that is looked up but whether an operand is being told: those that a version, a link or a
--- ready sends.
+-- Messages that change nothing that is looked up but whether an operand is being told, as those that a settle, a link
+-- or a ready sends.
 use Rattle.std.proofs.Common.{◌≡◌, Bool, true, false, cond, List, [], ◌∷◌, ◌++◌, Some, refl, ap, ◌∙◌}
 use Rattle.std.specs.Prelude.{◌||◌}
 use Rattle.tss_base.specs.declared.operand.OpName.{OpName}
@@ -7,6 +7,7 @@ use Rattle.tss_protocol.specs.Mail.{Source, Message, Decode, Ack, Open, Use, Rea
 use Rattle.tss_phases.specs.Phase.{LookUps}
 use Rattle.tss_phases.specs.Told.{is_ready_for, tells}
 use Rattle.tss_phases.proofs.Received.{received, received_all}
+use Rattle.tss_phases.proofs.Tests.{neither}
 
 -- a message is no decode, open, use, release or bye
 abbrev pub IsNews : Message → Type 0
@@ -65,10 +66,6 @@ told_one (Idle v asking) q l e = absurd (cc)
 told_one (Nack v) q l e = absurd (cc)
 told_one (Retire v) q l e = absurd (cc)
 told_one (Gone v going) q l e = absurd (cc)
-
-neither : (a b : Bool) → a || b ≡ false → (a ≡ false) × (b ≡ false)
-neither true b e = absurd (cc)
-neither false b e = (refl, e)
 
 -- who isn't told has everything as before
 pub untold : (ms : List Message) (q : OpName) (l : LookUps) → AreNews ms → tells ms q ≡ false → received_all ms q l ≡ l

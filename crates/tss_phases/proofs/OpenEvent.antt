@@ -20,7 +20,8 @@ use Rattle.tss_phases.specs.Told.{tells, phase_told, WaitsIfTold}
 use Rattle.tss_phases.specs.Settling.{SettleTells}
 use Rattle.tss_phases.proofs.Received.{own_name, other_name, received_all, look_ups-sent, missing, missing_other, look_ups-without}
 use Rattle.tss_phases.proofs.News.{AreNews, news_both}
-use Rattle.tss_phases.proofs.Shown.{phase_silent, station_told, silent_but_opening}
+use Rattle.tss_phases.proofs.PhaseLemmas.{phase_silent, station_told}
+use Rattle.tss_phases.proofs.AloneLemmas.{silent_but_opening}
 use Rattle.tss_phases.proofs.SettlingLemmas.{news_ready_with, ready_with_tells, news_settle, settle_tells}
 use Rattle.tss_phases.proofs.ToldPhases.{phase_news, either_tells, first_tells}
 
@@ -54,10 +55,12 @@ module _ (vs : Named Version) (o : OpName) (opening : OpenContents) where
       → tells (opened_how vs o opening f h).sent q ≡ true → OpenTells vs o opening q
   how_tells f Over q to e =
       inr (f, to, settle_tells (suc (len (followed vs o opening f))) (followed vs o opening f) f.version q e)
-  how_tells f Beside q to e = elim
+  how_tells f Beside q to e =
+      let us = followed vs o opening f in
+      elim
       (either_tells (ready_with o o opening.storage) (settled (followed vs o opening f) f.version).sent q e) [
         | inl h ↦ inl (ready_with_tells o o opening.storage q h)
-        | inr h ↦ inr (f, to, settle_tells (suc (len (followed vs o opening f))) (followed vs o opening f) f.version q h)
+        | inr h ↦ inr (f, to, settle_tells (suc (len us)) us f.version q h)
       ]
 
   by_tells : (f : Option Follow) (q : OpName) → opening.follows ≡ f → tells (opened_by vs o opening f).sent q ≡ true
@@ -122,7 +125,8 @@ module _ (m : Machine) (S : State) (o : OpName) (opening : OpenContents)
 
   -- its operand is told, or waits
   pub phase_of-open : IsAlone S o → IsFresh S o
-      → phase_of (after_event m S (event.Open o)) o ≡ phase_told (tells (after_open S.versions o opening).sent o) Waiting
+      → phase_of (after_event m S (event.Open o)) o
+      ≡ phase_told (tells (after_open S.versions o opening).sent o) Waiting
   phase_of-open alone fresh =
       let d = after_open S.versions o opening in
       let l : LookUps = record (look_ups S o) { opening = None } in

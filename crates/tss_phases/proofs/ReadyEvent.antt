@@ -1,5 +1,5 @@
 -- What a ready does to phases: its operand goes from told to ready, and with a held link the next one is told.
-use Rattle.std.proofs.Common.{◌≡◌, ◌≢◌, Bool, true, false, cond, Some, None, refl, sym, ap, ◌∙◌, inl, inr}
+use Rattle.std.proofs.Common.{◌≡◌, ◌≢◌, true, false, cond, Some, None, refl, sym, ap, ◌∙◌, inl, inr}
 use Rattle.std.specs.Prelude.{◌||◌, slice_get}
 use Rattle.std.specs.FinMap.{get, insert}
 use Rattle.tss_base.specs.declared.operand.OpName.{OpName}
@@ -19,10 +19,12 @@ use Rattle.tss_phases.specs.Alone.{IsAlone}
 use Rattle.tss_phases.specs.Told.{tells, phase_told, WaitsIfTold}
 use Rattle.tss_phases.proofs.Received.{own_name, other_name, received_all, look_ups-sent, missing, missing_other, look_ups-without}
 use Rattle.tss_phases.proofs.News.{AreNews, untold}
-use Rattle.tss_phases.proofs.Shown.{phase_silent, phase_telling, silent_station, silent_but_telling}
+use Rattle.tss_phases.proofs.PhaseLemmas.{phase_silent, phase_telling, silent_station}
+use Rattle.tss_phases.proofs.AloneLemmas.{silent_but_telling}
 use Rattle.tss_phases.proofs.SettlingLemmas.{name_from_test}
 use Rattle.tss_phases.proofs.ToldPhases.{phase_news, not_told}
 use Rattle.tss_phases.proofs.Records.{operand_in, task_of_record, record_put, record_beside_put, awaited_operands, own_record, other_record}
+use Rattle.tss_phases.proofs.Tests.{or_false}
 
 -- ---- what a ready sends
 
@@ -31,10 +33,6 @@ pub news_ready : (l : LinkState) (source : Source) → AreNews (sent_by_ready l 
 news_ready link.Nothing source = tt
 news_ready (link.Held next) source = (tt, tt)
 news_ready link.Passed source = tt
-
-or_false : (b : Bool) → b || false ≡ true → b ≡ true
-or_false true e = refl
-or_false false e = e
 
 -- whom it tells: the next operand of a held link
 pub ready_tells : (l : LinkState) (source : Source) (q : OpName) → tells (sent_by_ready l source) q ≡ true

@@ -13,13 +13,15 @@ use Rattle.tss_protocol.specs.Stations.{operand_at, with_operand, is_complete, a
 -- ---- lists
 
 -- what is set at a place of a list stands there
-pub at_set : {X : Type 0} (xs : List X) (k : ℕ) (x y : X) → slice_get xs k ≡ Some x → slice_get (slice_set xs k y) k ≡ Some y
+pub at_set : {X : Type 0} (xs : List X) (k : ℕ) (x y : X) → slice_get xs k ≡ Some x
+    → slice_get (slice_set xs k y) k ≡ Some y
 at_set [] k x y e = absurd (cc)
 at_set (z ∷ xs) zero x y e = refl
 at_set (z ∷ xs) (suc k) x y e = at_set xs k x y e
 
 -- at another place stands what stood there
-pub beside_set : {X : Type 0} (xs : List X) (k j : ℕ) (y : X) → j ≢ k → slice_get (slice_set xs k y) j ≡ slice_get xs j
+pub beside_set : {X : Type 0} (xs : List X) (k j : ℕ) (y : X) → j ≢ k
+    → slice_get (slice_set xs k y) j ≡ slice_get xs j
 beside_set [] k j y apart = refl
 beside_set (z ∷ xs) zero zero y apart = absurd (apart refl)
 beside_set (z ∷ xs) zero (suc j) y apart = refl
@@ -34,11 +36,15 @@ other_place q o apart same place = apart (λ i. record { task = same i; place = 
 
 -- ---- records
 
+-- the record at a place of a task that may be in flight
+abbrev pub record_in : ℕ → Option Flying → Option OperandState
+record_in place x = option_and_then (λ x. slice_get x.operands place) x
+
 module _ (flight : Numbered Flying) where
   -- the record of an operand, by its task
   pub operand_in : (q : OpName) (x : Flying) → get flight q.task ≡ Some x
       → operand_at flight q ≡ slice_get x.operands q.place
-  operand_in q x e = ap (option_and_then (λ (x : Flying). slice_get x.operands q.place)) e
+  operand_in q x e = ap (record_in q.place) e
 
   -- a record is that of a task in flight
   pub task_of_record : (q : OpName) (r : OperandState) → operand_at flight q ≡ Some r
@@ -46,7 +52,7 @@ module _ (flight : Numbered Flying) where
   task_of_record q r e = by (get flight q.task) refl e
     where
       by : (x : Option Flying) → get flight q.task ≡ x
-          → option_and_then (λ (x : Flying). slice_get x.operands q.place) x ≡ Some r
+          → record_in q.place x ≡ Some r
           → (x : Flying) × (get flight q.task ≡ Some x) × (slice_get x.operands q.place ≡ Some r)
       by None at e = absurd (cc)
       by (Some x) at e = (x, at, e)
@@ -55,26 +61,26 @@ module _ (flight : Numbered Flying) where
   pub record_beside_put : (task : ℕ) (x : Flying) (q : OpName) → q.task ≢ task
       → operand_at (insert flight task x) q ≡ operand_at flight q
   record_beside_put task x q apart =
-      ap (option_and_then (λ (x : Flying). slice_get x.operands q.place)) (beside_inserted nat_order flight task x q.task apart)
+      ap (record_in q.place) (beside_inserted nat_order flight task x q.task apart)
 
   -- nor where one is removed
   pub record_beside_removal : (task : ℕ) (q : OpName) → q.task ≢ task
       → operand_at (remove flight task) q ≡ operand_at flight q
   record_beside_removal task q apart =
-      ap (option_and_then (λ (x : Flying). slice_get x.operands q.place)) (beside_removed nat_order flight task q.task apart)
+      ap (record_in q.place) (beside_removed nat_order flight task q.task apart)
 
   -- the records of a task that is put
   pub record_put : (task : ℕ) (x : Flying) (q : OpName) → q.task ≡ task
       → operand_at (insert flight task x) q ≡ slice_get x.operands q.place
   record_put task x q same =
-      ap (λ t. option_and_then (λ (x : Flying). slice_get x.operands q.place) (get (insert flight task x) t)) same
-      ∙ ap (option_and_then (λ (x : Flying). slice_get x.operands q.place)) (at_inserted nat_order flight task x)
+      ap (λ t. record_in q.place (get (insert flight task x) t)) same
+      ∙ ap (record_in q.place) (at_inserted nat_order flight task x)
 
   -- a task that is removed has none
   pub record_removed : (task : ℕ) (q : OpName) → q.task ≡ task → operand_at (remove flight task) q ≡ None
   record_removed task q same =
-      ap (λ t. option_and_then (λ (x : Flying). slice_get x.operands q.place) (get (remove flight task) t)) same
-      ∙ ap (option_and_then (λ (x : Flying). slice_get x.operands q.place)) (at_removed nat_order flight task)
+      ap (λ t. record_in q.place (get (remove flight task) t)) same
+      ∙ ap (record_in q.place) (at_removed nat_order flight task)
 
 -- a task that is queued has the same records
 pub awaited_operands : (x : Flying) → (awaited x).operands ≡ x.operands

@@ -17,7 +17,8 @@ use Rattle.tss_phases.specs.Told.{tells, phase_told, WaitsIfTold}
 use Rattle.tss_phases.specs.Settling.{SettleTells}
 use Rattle.tss_phases.proofs.Received.{own_name, other_name, received_all, look_ups-sent, missing, missing_other, look_ups-without}
 use Rattle.tss_phases.proofs.News.{AreNews, news_both}
-use Rattle.tss_phases.proofs.Shown.{phase_releasing, phase_leaving, silent_but_releasing}
+use Rattle.tss_phases.proofs.PhaseLemmas.{phase_releasing, phase_leaving}
+use Rattle.tss_phases.proofs.AloneLemmas.{silent_but_releasing}
 use Rattle.tss_phases.proofs.SettlingLemmas.{news_ready_with, ready_with_tells, news_settle, settle_tells}
 use Rattle.tss_phases.proofs.ToldPhases.{phase_news, not_told, either_tells, beside_bye, bye_tells, own_bye}
 
@@ -109,7 +110,8 @@ module _ (m : Machine) (S : State) (o : OpName) (r : ReleaseContents) (x : Versi
 
   -- what is looked up after a release
   pub look_ups-release : (q : OpName) → look_ups (after_event m S (event.Release o)) q
-      ≡ received_all (sent_by_release S.versions o r.version x r.producer) q (missing (event.Release o) q (look_ups S q))
+      ≡ received_all (sent_by_release S.versions o r.version x r.producer) q
+      (missing (event.Release o) q (look_ups S q))
   unfolding after_event
   look_ups-release q =
       let T = without S (event.Release o) in

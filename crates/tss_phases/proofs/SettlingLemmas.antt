@@ -1,6 +1,6 @@
 -- What a settle sends: news alone, with a ready only for the successor of a version that is followed over.
 use Rattle.std.proofs.Common.{◌≡◌, ℕ, zero, suc, Bool, true, false, Option, Some, None, refl, sym, inl, inr}
-use Rattle.std.specs.Prelude.{◌||◌, if◌then◌else◌}
+use Rattle.std.specs.Prelude.{if◌then◌else◌}
 use Rattle.std.specs.FinMap.{get}
 use Rattle.tss_base.specs.declared.operand.OpName.{OpName}
 use Rattle.tss_base.specs.declared.event.How.{How}
@@ -16,6 +16,7 @@ use Rattle.tss_phases.specs.Told.{tells}
 use Rattle.tss_phases.specs.Settling.{GivesWay, TakesOver, SettleTells}
 use Rattle.tss_phases.proofs.Received.{other_name}
 use Rattle.tss_phases.proofs.News.{AreNews}
+use Rattle.tss_phases.proofs.Tests.{or_false}
 
 -- ---- names
 
@@ -35,10 +36,6 @@ name_from_test q o e = elim (decide_key name_order q o) [
 pub news_ready_with : (o v : OpName) (s : Option StorageName) → AreNews (ready_with o v s)
 news_ready_with o v None = tt
 news_ready_with o v (Some s) = (tt, tt)
-
-or_false : (b : Bool) → b || false ≡ true → b ≡ true
-or_false true e = refl
-or_false false e = e
 
 -- whom it tells is its operand, and the version has a storage
 pub ready_with_tells : (o v : OpName) (s : Option StorageName) (q : OpName) → tells (ready_with o v s) q ≡ true

@@ -1,101 +1,11 @@
--- What a phase shows of the look-ups, and the other way round.
-use Rattle.std.proofs.Common.{◌≡◌, ◌≢◌, ◌≤◌, Bool, true, false, Option, Some, None, refl, sym, ap, ◌∙◌, arith, inl, inr, ◌⊎◌}
-use Rattle.std.specs.Prelude.{is_some}
-use Rattle.tss_base.specs.declared.operand.Operand.{Operand}
-use Rattle.tss_base.specs.declared.operand.OpName.{OpName}
+-- What a phase shows of the look-ups.
+use Rattle.std.proofs.Common.{◌≡◌, ◌≢◌, Bool, true, false, Option, Some, None, refl, sym, ap, ◌∙◌, inl, inr, ◌⊎◌}
 use Rattle.tss_base.specs.declared.event.Farewell.{Farewell}
 use Rattle.tss_base.specs.declared.event.Farewell.TheVariants as farewell
-use Rattle.tss_maps.specs.Sums.{one_if}
-use Rattle.tss_protocol.specs.Mail.{Source, OpenContents, ReleaseContents}
+use Rattle.tss_protocol.specs.Mail.{Source}
 use Rattle.tss_protocol.specs.State.{OperandState}
-use Rattle.tss_phases.specs.Phase.{Phase, Ahead, Decoding, Sent, Waiting, Told, Ready, Releasing, Leaving, Promised, Left, LookUps, where_there, absent_phase, told_phase, record_phase, station_phase, phase_at}
-use Rattle.tss_phases.specs.Alone.{under_way, IsSilent, HasRecord}
-
--- ---- from the look-ups to the phase
-
--- with no message under way the record tells the phase
-pub phase_silent : (l : LookUps) → IsSilent l → phase_at l ≡ station_phase l.station l.ahead
-phase_silent l s = λ i.
-    where_there (s.decoding i) Decoding
-    (where_there (s.opening i) Sent
-    (where_there (s.using i) Sent
-    (where_there (s.telling i) Told
-    (where_there (s.releasing i) Releasing
-    (where_there (s.leaving i) Leaving (station_phase l.station l.ahead))))))
-
--- a decode under way
-pub phase_decoding : (l : LookUps) (x : Operand) → l.decoding ≡ Some x → phase_at l ≡ Decoding
-phase_decoding l x e = λ i.
-    where_there (e i) Decoding
-    (where_there l.opening Sent
-    (where_there l.using Sent
-    (where_there l.telling Told
-    (where_there l.releasing Releasing
-    (where_there l.leaving Leaving (station_phase l.station l.ahead))))))
-
--- an open under way
-pub phase_opening : (l : LookUps) (x : OpenContents) → l.decoding ≡ None → l.opening ≡ Some x → phase_at l ≡ Sent
-phase_opening l x d e = λ i.
-    where_there (d i) Decoding
-    (where_there (e i) Sent
-    (where_there l.using Sent
-    (where_there l.telling Told
-    (where_there l.releasing Releasing
-    (where_there l.leaving Leaving (station_phase l.station l.ahead))))))
-
-both_sent : (x : Option OpenContents) → where_there x Sent Sent ≡ Sent
-both_sent None = refl
-both_sent (Some x) = refl
-
--- a use under way
-pub phase_using : (l : LookUps) (x : OpName) → l.decoding ≡ None → l.using ≡ Some x → phase_at l ≡ Sent
-phase_using l x d e =
-    (λ i. where_there (d i) Decoding
-    (where_there l.opening Sent
-    (where_there (e i) Sent
-    (where_there l.telling Told
-    (where_there l.releasing Releasing
-    (where_there l.leaving Leaving (station_phase l.station l.ahead)))))))
-    ∙ both_sent l.opening
-
--- a ready under way
-pub phase_telling : (l : LookUps) (x : Source) → l.decoding ≡ None → l.opening ≡ None → l.using ≡ None
-    → l.telling ≡ Some x → phase_at l ≡ Told
-phase_telling l x d o u e = λ i.
-    where_there (d i) Decoding
-    (where_there (o i) Sent
-    (where_there (u i) Sent
-    (where_there (e i) Told
-    (where_there l.releasing Releasing
-    (where_there l.leaving Leaving (station_phase l.station l.ahead))))))
-
--- a release under way
-pub phase_releasing : (l : LookUps) (x : ReleaseContents) → l.decoding ≡ None → l.opening ≡ None → l.using ≡ None
-    → l.telling ≡ None → l.releasing ≡ Some x → phase_at l ≡ Releasing
-phase_releasing l x d o u t e = λ i.
-    where_there (d i) Decoding
-    (where_there (o i) Sent
-    (where_there (u i) Sent
-    (where_there (t i) Told
-    (where_there (e i) Releasing (where_there l.leaving Leaving (station_phase l.station l.ahead))))))
-
--- a bye under way
-pub phase_leaving : (l : LookUps) (x : Bool) → l.decoding ≡ None → l.opening ≡ None → l.using ≡ None
-    → l.telling ≡ None → l.releasing ≡ None → l.leaving ≡ Some x → phase_at l ≡ Leaving
-phase_leaving l x d o u t r e = λ i.
-    where_there (d i) Decoding
-    (where_there (o i) Sent
-    (where_there (u i) Sent
-    (where_there (t i) Told
-    (where_there (r i) Releasing (where_there (e i) Leaving (station_phase l.station l.ahead))))))
-
--- a record tells a phase by what the operand was told, where it has not said farewell
-pub station_told : (l : LookUps) (source : Option Source) → HasRecord l source
-    → station_phase l.station l.ahead ≡ told_phase source
-station_told l source h =
-    ap (λ x. station_phase x l.ahead) h.there ∙ (λ i. record_phase (h.stays i) (h.told i))
-
--- ---- from the phase to the look-ups
+use Rattle.tss_phases.specs.Phase.{Phase, Ahead, Decoding, Sent, Waiting, Told, Ready, Releasing, Leaving, Promised, Left, LookUps, where_there, absent_phase, record_phase, station_phase, phase_at}
+use Rattle.tss_phases.specs.Alone.{IsSilent, HasRecord}
 
 -- the phases in which no message is under way
 abbrev pub is_still : Phase → Bool
@@ -172,7 +82,8 @@ ready_shows l e =
     absent true e = cc
     absent false e = cc
 
-    by : (x : Option OperandState) → l.station ≡ x → station_phase x l.ahead ≡ Ready → (s : Source) × HasRecord l (Some s)
+    by : (x : Option OperandState) → l.station ≡ x → station_phase x l.ahead ≡ Ready
+        → (s : Source) × HasRecord l (Some s)
     by None es e = absurd (absent l.ahead e)
     by (Some k) es e = at k k.farewell k.source refl refl e es
 
@@ -244,115 +155,3 @@ ahead_shows l e =
         → (l.station ≡ None) × (l.ahead ≡ true)
     by None es e = (es, absent l.ahead e)
     by (Some k) es e = absurd (at k.farewell k.source e)
-
--- ---- another record
-
--- a record that gives the same phase leaves the operand's
-pub same_station : (l : LookUps) (x : Option OperandState)
-    → station_phase x l.ahead ≡ station_phase l.station l.ahead → phase_at (record l { station = x }) ≡ phase_at l
-same_station l x e = λ i.
-    where_there l.decoding Decoding
-    (where_there l.opening Sent
-    (where_there l.using Sent
-    (where_there l.telling Told (where_there l.releasing Releasing (where_there l.leaving Leaving (e i))))))
-
--- messages say nothing of the record
-pub silent_station : (l : LookUps) (x : Option OperandState) → IsSilent l → IsSilent (record l { station = x })
-silent_station l x s = record {
-  decoding = s.decoding;
-  opening = s.opening;
-  using = s.using;
-  telling = s.telling;
-  releasing = s.releasing;
-  leaving = s.leaving;
-}
-
--- ---- at most one message
-
-none_by : {X : Type 0} (x : Option X) → one_if (is_some x) ≡ 0 → x ≡ None
-none_by None e = refl
-none_by (Some x) e = absurd (omega (arith, e))
-
--- where the one message is a decode, no other is under way
-pub silent_but_decoding : (l : LookUps) (x : Operand) → under_way l ≤ 1 → l.decoding ≡ Some x
-    → IsSilent (record l { decoding = None })
-silent_but_decoding l x h e =
-    let one = ap (λ o. one_if (is_some o)) e in
-    record {
-      decoding = refl;
-      opening = none_by l.opening (omega (arith, h, one));
-      using = none_by l.using (omega (arith, h, one));
-      telling = none_by l.telling (omega (arith, h, one));
-      releasing = none_by l.releasing (omega (arith, h, one));
-      leaving = none_by l.leaving (omega (arith, h, one));
-    }
-
--- the same of an open
-pub silent_but_opening : (l : LookUps) (x : OpenContents) → under_way l ≤ 1 → l.opening ≡ Some x
-    → IsSilent (record l { opening = None })
-silent_but_opening l x h e =
-    let one = ap (λ o. one_if (is_some o)) e in
-    record {
-      decoding = none_by l.decoding (omega (arith, h, one));
-      opening = refl;
-      using = none_by l.using (omega (arith, h, one));
-      telling = none_by l.telling (omega (arith, h, one));
-      releasing = none_by l.releasing (omega (arith, h, one));
-      leaving = none_by l.leaving (omega (arith, h, one));
-    }
-
--- of a use
-pub silent_but_using : (l : LookUps) (x : OpName) → under_way l ≤ 1 → l.using ≡ Some x
-    → IsSilent (record l { using = None })
-silent_but_using l x h e =
-    let one = ap (λ o. one_if (is_some o)) e in
-    record {
-      decoding = none_by l.decoding (omega (arith, h, one));
-      opening = none_by l.opening (omega (arith, h, one));
-      using = refl;
-      telling = none_by l.telling (omega (arith, h, one));
-      releasing = none_by l.releasing (omega (arith, h, one));
-      leaving = none_by l.leaving (omega (arith, h, one));
-    }
-
--- of a ready
-pub silent_but_telling : (l : LookUps) (x : Source) → under_way l ≤ 1 → l.telling ≡ Some x
-    → IsSilent (record l { telling = None })
-silent_but_telling l x h e =
-    let one = ap (λ o. one_if (is_some o)) e in
-    record {
-      decoding = none_by l.decoding (omega (arith, h, one));
-      opening = none_by l.opening (omega (arith, h, one));
-      using = none_by l.using (omega (arith, h, one));
-      telling = refl;
-      releasing = none_by l.releasing (omega (arith, h, one));
-      leaving = none_by l.leaving (omega (arith, h, one));
-    }
-
--- of a release
-pub silent_but_releasing : (l : LookUps) (x : ReleaseContents) → under_way l ≤ 1 → l.releasing ≡ Some x
-    → IsSilent (record l { releasing = None })
-silent_but_releasing l x h e =
-    let one = ap (λ o. one_if (is_some o)) e in
-    record {
-      decoding = none_by l.decoding (omega (arith, h, one));
-      opening = none_by l.opening (omega (arith, h, one));
-      using = none_by l.using (omega (arith, h, one));
-      telling = none_by l.telling (omega (arith, h, one));
-      releasing = refl;
-      leaving = none_by l.leaving (omega (arith, h, one));
-    }
-
--- of a bye
-pub silent_but_leaving : (l : LookUps) (x : Bool) → under_way l ≤ 1 → l.leaving ≡ Some x
-    → IsSilent (record l { leaving = None })
-silent_but_leaving l x h e =
-    let one = ap (λ o. one_if (is_some o)) e in
-    record {
-      decoding = none_by l.decoding (omega (arith, h, one));
-      opening = none_by l.opening (omega (arith, h, one));
-      using = none_by l.using (omega (arith, h, one));
-      telling = none_by l.telling (omega (arith, h, one));
-      releasing = none_by l.releasing (omega (arith, h, one));
-      leaving = refl;
-    }

@@ -18,7 +18,7 @@ use Rattle.tss_protocol.specs.UnitMachine.{after_event, queue_with, is_queued, a
 use Rattle.tss_phases.specs.Phase.{Ahead, Decoding, LookUps, look_ups, absent_phase, station_phase, phase_at, inbox_has, is_ahead, phase_of}
 use Rattle.tss_phases.specs.Alone.{IsSilent}
 use Rattle.tss_phases.proofs.Received.{own_name, received_all, received_other, look_ups-sent}
-use Rattle.tss_phases.proofs.Shown.{phase_silent, phase_decoding}
+use Rattle.tss_phases.proofs.PhaseLemmas.{phase_silent, phase_decoding}
 use Rattle.tss_phases.proofs.Records.{record_beside_put}
 use Rattle.tss_phases.proofs.FinishEvent.{IsBefore, before_next, apart_before}
 

@@ -7,10 +7,9 @@ use Rattle.tss_phases.specs.Phase.{Phase, Waiting, LookUps, phase_at}
 use Rattle.tss_phases.specs.Told.{is_ready_for, tells, phase_told}
 use Rattle.tss_phases.proofs.Received.{own_name, received_all, received_other}
 use Rattle.tss_phases.proofs.News.{AreNews, untold_one, untold, told}
-use Rattle.tss_phases.proofs.Shown.{waiting_shows, phase_telling}
-
-false_true : (b : Bool) → b ≡ true → b ≡ false → ⊥
-false_true b t f = cc
+use Rattle.tss_phases.proofs.Shown.{waiting_shows}
+use Rattle.tss_phases.proofs.PhaseLemmas.{phase_telling}
+use Rattle.tss_phases.proofs.Tests.{neither}
 
 -- where news is sent
 pub phase_news : (ms : List Message) (q : OpName) (l : LookUps) → AreNews ms
@@ -70,10 +69,6 @@ pub bye_tells : (hs ns : List Message) (o : OpName) (p : Bool) (q : OpName)
     → tells ((hs ++ Bye o p ∷ []) ++ ns) q ≡ tells (hs ++ ns) q
 bye_tells [] ns o p q = refl
 bye_tells (h ∷ hs) ns o p q = ap (λ b. is_ready_for h q || b) (bye_tells hs ns o p q)
-
-neither : (a b : Bool) → a || b ≡ false → (a ≡ false) × (b ≡ false)
-neither true b e = absurd (cc)
-neither false b e = (refl, e)
 
 -- its operand, where it isn't told, has the bye and all else as before
 pub own_bye : (hs ns : List Message) (o : OpName) (p : Bool) (l : LookUps) → AreNews hs → AreNews ns

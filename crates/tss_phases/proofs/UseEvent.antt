@@ -16,7 +16,8 @@ use Rattle.tss_phases.specs.Alone.{IsAlone, IsFresh}
 use Rattle.tss_phases.specs.Told.{tells, phase_told}
 use Rattle.tss_phases.proofs.Received.{own_name, other_name, received_all, look_ups-sent, missing, missing_other, look_ups-without}
 use Rattle.tss_phases.proofs.News.{AreNews, untold}
-use Rattle.tss_phases.proofs.Shown.{phase_silent, station_told, silent_but_using}
+use Rattle.tss_phases.proofs.PhaseLemmas.{phase_silent, station_told}
+use Rattle.tss_phases.proofs.AloneLemmas.{silent_but_using}
 use Rattle.tss_phases.proofs.SettlingLemmas.{news_ready_with, ready_with_tells}
 use Rattle.tss_phases.proofs.ToldPhases.{phase_news}
 

@@ -1,0 +1,18 @@
+-- Tests joined by and, or by or.
+use Rattle.std.proofs.Common.{◌≡◌, Bool, true, false, refl}
+use Rattle.std.specs.Prelude.{◌&&◌, ◌||◌}
+
+-- a test that passes, where the other one fails
+pub or_false : (b : Bool) → b || false ≡ true → b ≡ true
+or_false true e = refl
+or_false false e = e
+
+-- both fail where neither passes
+pub neither : (a b : Bool) → a || b ≡ false → (a ≡ false) × (b ≡ false)
+neither true b e = absurd (cc)
+neither false b e = (refl, e)
+
+-- both pass
+pub both : (a b : Bool) → a && b ≡ true → (a ≡ true) × (b ≡ true)
+both true b e = (refl, e)
+both false b e = absurd (cc)
