@@ -95,3 +95,88 @@ silent_but_leaving l x h e =
       releasing = none_by l.releasing (omega (arith, h, one));
       leaving = refl;
     }
+
+one_at_most : {X : Type 0} (x : Option X) → one_if (is_some x) ≤ 1
+one_at_most None = omega arith
+one_at_most (Some x) = omega arith
+
+no_one : {X : Type 0} (x : Option X) → x ≡ None → one_if (is_some x) ≡ 0
+no_one x e = ap (λ x. one_if (is_some x)) e
+
+-- and the other way round: where no other message is beside a decode, at most one is under way
+pub alone_decoding : (l : LookUps) → IsSilent (record l { decoding = None }) → under_way l ≤ 1
+alone_decoding l s =
+    omega (
+      arith,
+      one_at_most l.decoding,
+      no_one l.opening s.opening,
+      no_one l.using s.using,
+      no_one l.telling s.telling,
+      no_one l.releasing s.releasing,
+      no_one l.leaving s.leaving,
+    )
+
+-- the same of an open
+pub alone_opening : (l : LookUps) → IsSilent (record l { opening = None }) → under_way l ≤ 1
+alone_opening l s =
+    omega (
+      arith,
+      one_at_most l.opening,
+      no_one l.decoding s.decoding,
+      no_one l.using s.using,
+      no_one l.telling s.telling,
+      no_one l.releasing s.releasing,
+      no_one l.leaving s.leaving,
+    )
+
+-- of a use
+pub alone_using : (l : LookUps) → IsSilent (record l { using = None }) → under_way l ≤ 1
+alone_using l s =
+    omega (
+      arith,
+      one_at_most l.using,
+      no_one l.decoding s.decoding,
+      no_one l.opening s.opening,
+      no_one l.telling s.telling,
+      no_one l.releasing s.releasing,
+      no_one l.leaving s.leaving,
+    )
+
+-- of a ready
+pub alone_telling : (l : LookUps) → IsSilent (record l { telling = None }) → under_way l ≤ 1
+alone_telling l s =
+    omega (
+      arith,
+      one_at_most l.telling,
+      no_one l.decoding s.decoding,
+      no_one l.opening s.opening,
+      no_one l.using s.using,
+      no_one l.releasing s.releasing,
+      no_one l.leaving s.leaving,
+    )
+
+-- of a release
+pub alone_releasing : (l : LookUps) → IsSilent (record l { releasing = None }) → under_way l ≤ 1
+alone_releasing l s =
+    omega (
+      arith,
+      one_at_most l.releasing,
+      no_one l.decoding s.decoding,
+      no_one l.opening s.opening,
+      no_one l.using s.using,
+      no_one l.telling s.telling,
+      no_one l.leaving s.leaving,
+    )
+
+-- of a bye
+pub alone_leaving : (l : LookUps) → IsSilent (record l { leaving = None }) → under_way l ≤ 1
+alone_leaving l s =
+    omega (
+      arith,
+      one_at_most l.leaving,
+      no_one l.decoding s.decoding,
+      no_one l.opening s.opening,
+      no_one l.using s.using,
+      no_one l.telling s.telling,
+      no_one l.releasing s.releasing,
+    )

@@ -21,3 +21,4 @@ pub mod FinishEvent
 pub mod ReleaseEvent
 pub mod ByeEvent
 pub mod NackEvent
+pub mod OrderlyLemmas

@@ -4,3 +4,4 @@ pub mod Told
 pub mod Settling
 pub mod Leaving
 pub mod Openers
+pub mod Orderly
