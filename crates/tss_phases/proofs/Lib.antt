@@ -22,3 +22,4 @@ pub mod ReleaseEvent
 pub mod ByeEvent
 pub mod NackEvent
 pub mod OrderlyLemmas
+pub mod OrderlyRecords
