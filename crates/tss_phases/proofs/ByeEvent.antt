@@ -1,7 +1,7 @@
 -- What a bye does to phases: its operand goes from leaving to promised where a promised link is still to come, and else
 -- to left.
 use Rattle.std.proofs.Common.{◌≡◌, ◌≢◌, Bool, true, false, cond, Option, Some, None, refl, sym, ap, ◌∙◌, inl, inr}
-use Rattle.std.specs.Prelude.{◌&&◌, not, if◌then◌else◌}
+use Rattle.std.specs.Prelude.{◌&&◌, not, if◌then◌else◌, slice_get}
 use Rattle.std.specs.FinMap.{get}
 use Rattle.tss_base.specs.declared.operand.OpName.{OpName}
 use Rattle.tss_base.specs.declared.machine.Machine.{Machine}
@@ -71,6 +71,20 @@ module _ (m : Machine) (S : State) (o : OpName) (promised : Bool) (r : OperandSt
         station = operand_at (remaining_tasks S.flight o.task parted_task) q;
       })
 
+  -- the record of its operand in its task
+  pub parted_record : slice_get parted_task.operands o.place ≡ Some (operand_after_bye r promised)
+  parted_record =
+      let t = task_of_record S.flight o r kept in
+      own_record t.0 o (operand_after_bye r promised) r t.2
+
+  -- those of the other operands of the task
+  pub parted_record_other : (q : OpName) → q ≢ o → q.task ≡ o.task
+      → slice_get parted_task.operands q.place ≡ operand_at S.flight q
+  parted_record_other q apart same =
+      let t = task_of_record S.flight o r kept in
+      other_record t.0 o (operand_after_bye r promised) q apart same
+      ∙ sym (operand_in S.flight q t.0 (ap (get S.flight) same ∙ t.1))
+
   -- before it, its operand is leaving
   pub leaving_before : IsAlone S o → phase_of S o ≡ Leaving
   leaving_before alone =
@@ -81,7 +95,6 @@ module _ (m : Machine) (S : State) (o : OpName) (promised : Bool) (r : OperandSt
   pub phase_of-bye : IsAlone S o → is_ahead S o.task ≡ false
       → phase_of (after_event m S (event.Bye o)) o ≡ phase_parted (promised && not (has_passed r.link))
   phase_of-bye alone taken =
-      let t = task_of_record S.flight o r kept in
       let k = operand_at (remaining_tasks S.flight o.task parted_task) o in
       let l : LookUps = record (look_ups S o) { leaving = None } in
       let silent = silent_but_leaving (look_ups S o) promised alone there in
@@ -89,7 +102,7 @@ module _ (m : Machine) (S : State) (o : OpName) (promised : Bool) (r : OperandSt
       ∙ phase_silent (record l { station = k }) (silent_station l k silent)
       ∙ ap (station_phase k) taken
       ∙ remaining_phase S.flight o.task parted_task o refl
-      ∙ ap (λ r. station_phase r false) (own_record t.0 o (operand_after_bye r promised) r t.2)
+      ∙ ap (λ r. station_phase r false) parted_record
       ∙ record_parted (promised && not (has_passed r.link)) r.source
 
   -- the record of another operand gives the phase that it gave before
@@ -97,13 +110,11 @@ module _ (m : Machine) (S : State) (o : OpName) (promised : Bool) (r : OperandSt
       → station_phase (operand_at (remaining_tasks S.flight o.task parted_task) q) (is_ahead S q.task)
       ≡ station_phase (operand_at S.flight q) (is_ahead S q.task)
   other_station taken q apart =
-      let t = task_of_record S.flight o r kept in
       elim (decide_key nat_order q.task o.task) [
         | inl same ↦ ap (station_phase (operand_at (remaining_tasks S.flight o.task parted_task) q))
             (ap (is_ahead S) same ∙ taken)
             ∙ remaining_phase S.flight o.task parted_task q same
-            ∙ ap (λ r. station_phase r false) (other_record t.0 o (operand_after_bye r promised) q apart same
-            ∙ sym (operand_in S.flight q t.0 (ap (get S.flight) same ∙ t.1)))
+            ∙ ap (λ r. station_phase r false) (parted_record_other q apart same)
             ∙ ap (station_phase (operand_at S.flight q)) (sym (ap (is_ahead S) same ∙ taken))
         | inr other ↦ ap (λ r. station_phase r (is_ahead S q.task))
             (remaining_beside S.flight o.task parted_task q other)

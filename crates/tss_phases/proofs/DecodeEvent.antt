@@ -60,6 +60,16 @@ module _ (m : Machine) (S : State) (o : OpName) (operand : Operand) (there : get
       ∙ look_ups-sent (with_tables T d.part) d.sent q
       ∙ ap (received_all d.sent q) (look_ups-without S (event.Decode o) q)
 
+  -- of its operand: the decode is gone, and there is an open or a use
+  pub look_ups-decode-own : look_ups (after_event m S (event.Decode o)) o
+      ≡ received (decode_message o operand (get S.entries operand.object.base)) o
+      (record (look_ups S o) { decoding = None })
+  look_ups-decode-own =
+      look_ups-decode o
+      ∙ (λ i. received (decode_message o operand (get S.entries operand.object.base)) o (record (look_ups S o) {
+        decoding = cond (own_name o i) None (get S.mail.decodes o);
+      }))
+
   -- before it, its operand is decoding
   pub decoding_before : phase_of S o ≡ Decoding
   decoding_before = phase_decoding (look_ups S o) operand there
@@ -67,9 +77,8 @@ module _ (m : Machine) (S : State) (o : OpName) (operand : Operand) (there : get
   -- after it, it is sent
   pub phase_of-decode : phase_of (after_event m S (event.Decode o)) o ≡ Sent
   phase_of-decode =
-      ap phase_at (look_ups-decode o)
-      ∙ sent_then o operand (get S.entries operand.object.base) (missing (event.Decode o) o (look_ups S o))
-      (λ i. cond (own_name o i) None (get S.mail.decodes o))
+      ap phase_at look_ups-decode-own
+      ∙ sent_then o operand (get S.entries operand.object.base) (record (look_ups S o) { decoding = None }) refl
 
   -- nothing is changed of another operand
   pub look_ups-decode-other : (q : OpName) → q ≢ o

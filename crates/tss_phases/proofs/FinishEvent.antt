@@ -41,6 +41,13 @@ apart_before q task place (inr less) e = absurd (irreflexive q.place place less 
     irreflexive : (a b : ℕ) → a < b → a ≡ b → ⊥
     irreflexive a b less same = omega (arith, less, same)
 
+further : (a b c : ℕ) → a ≡ b + suc c → a ≡ b → ⊥
+further a b c e f = omega (arith, e, f)
+
+-- nor is an operand at a place further on
+pub apart_further : (task : ℕ) (q : OpName) (place j : ℕ) → q.place ≡ place + suc j → q ≢ operand_name task place
+apart_further task q place j e f = further q.place place j e (λ i. (f i).place)
+
 one_other : (task place : ℕ) (r : OperandState) (s : Option Source) (ms : List Message) (q : OpName) (l : LookUps)
     → q ≢ operand_name task place
     → received_all (release_of (operand_name task place) r s ++ ms) q l ≡ received_all ms q l
@@ -90,14 +97,18 @@ releases_own task place (x ∷ rs) zero r source q l at told same here =
 releases_own task place (x ∷ rs) (suc j) r source q l at told same here =
     let rest = releases_own task (suc place) rs j r source q l at told same (omega (arith, here)) in (
       rest.0,
-      one_other task place x x.source (releases_from task (suc place) rs) q l (apart here) ∙ rest.1,
+      one_other task place x x.source (releases_from task (suc place) rs) q l (apart_further task q place j here) ∙ rest.1,
     )
-  where
-    apart : q.place ≡ place + suc j → q ≢ operand_name task place
-    apart e f = further q.place place j e (λ i. (f i).place)
-      where
-        further : (a b c : ℕ) → a ≡ b + suc c → a ≡ b → ⊥
-        further a b c e f = omega (arith, e, f)
+
+-- past the operands there is none
+pub releases_beyond : (task place : ℕ) (rs : List OperandState) (j : ℕ) (q : OpName) (l : LookUps)
+    → slice_get rs j ≡ None → q.task ≡ task → q.place ≡ place + j
+    → received_all (releases_from task place rs) q l ≡ l
+releases_beyond task place [] j q l at same here = refl
+releases_beyond task place (x ∷ rs) zero q l at same here = absurd (none-some x (sym at))
+releases_beyond task place (x ∷ rs) (suc j) q l at same here =
+    one_other task place x x.source (releases_from task (suc place) rs) q l (apart_further task q place j here)
+    ∙ releases_beyond task (suc place) rs j q l at same (omega (arith, here))
 
 -- ---- what a finish does to phases
 

@@ -1,7 +1,7 @@
 -- What a link does to phases: where its operand is ready the next one is told, and where its operand awaited a promised
 -- link it has left.
 use Rattle.std.proofs.Common.{◌≡◌, ◌≢◌, Bool, true, false, Option, Some, None, refl, sym, ap, ◌∙◌, inl, inr}
-use Rattle.std.specs.Prelude.{◌||◌}
+use Rattle.std.specs.Prelude.{◌||◌, slice_get}
 use Rattle.std.specs.FinMap.{get}
 use Rattle.std.proofs.lemmas.Option.{none-some, same_Some}
 use Rattle.tss_base.specs.declared.operand.OpName.{OpName}
@@ -121,9 +121,9 @@ module _ (m : Machine) (S : State) (o next : OpName) (r : OperandState)
       ∙ ap (λ (d : Outcome (Numbered Flying)).
       received_all d.sent q (record (look_ups S q) { station = operand_at d.part q })) linked
 
-  -- where its operand is waiting, the next one isn't told
-  own_untold : WaitsIfTold S (sent_by_link r.source next) o → tells (sent_by_link r.source next) o ≡ false
-  own_untold waits = by (tells (sent_by_link r.source next) o) refl
+  -- its operand isn't told by it, if it is waiting where it is
+  pub link_untold : WaitsIfTold S (sent_by_link r.source next) o → tells (sent_by_link r.source next) o ≡ false
+  link_untold waits = by (tells (sent_by_link r.source next) o) refl
     where
       clash : tells (sent_by_link r.source next) o ≡ true → ⊥
       clash t =
@@ -136,14 +136,27 @@ module _ (m : Machine) (S : State) (o next : OpName) (r : OperandState)
       by false e = e
       by true e = absurd (clash e)
 
+  -- the record of its operand in its task
+  pub linked_record : slice_get linked_task.operands o.place ≡ Some (operand_after_link r next)
+  linked_record =
+      let t = task_of_record S.flight o r kept in
+      own_record t.0 o (operand_after_link r next) r t.2
+
+  -- those of the other operands of the task
+  pub linked_record_other : (q : OpName) → q ≢ o → q.task ≡ o.task
+      → slice_get linked_task.operands q.place ≡ operand_at S.flight q
+  linked_record_other q apart same =
+      let t = task_of_record S.flight o r kept in
+      other_record t.0 o (operand_after_link r next) q apart same
+      ∙ sym (operand_in S.flight q t.0 (ap (get S.flight) same ∙ t.1))
+
   own_station : is_ahead S o.task ≡ false
       → station_phase (operand_at (remaining_tasks S.flight o.task linked_task) o) (is_ahead S o.task)
       ≡ phase_linked (station_phase (operand_at S.flight o) (is_ahead S o.task))
   own_station taken =
-      let t = task_of_record S.flight o r kept in
       ap (station_phase (operand_at (remaining_tasks S.flight o.task linked_task) o)) taken
       ∙ remaining_phase S.flight o.task linked_task o refl
-      ∙ ap (λ r. station_phase r false) (own_record t.0 o (operand_after_link r next) r t.2)
+      ∙ ap (λ r. station_phase r false) linked_record
       ∙ record_linked r.farewell r.source
       ∙ ap (λ k. phase_linked (station_phase k (is_ahead S o.task))) (sym kept)
 
@@ -154,21 +167,19 @@ module _ (m : Machine) (S : State) (o next : OpName) (r : OperandState)
       let k = operand_at (remaining_tasks S.flight o.task linked_task) o in
       ap phase_at (look_ups-link o)
       ∙ ap phase_at (untold (sent_by_link r.source next) o (record (look_ups S o) { station = k })
-      (news_link r.source next) (own_untold waits))
+      (news_link r.source next) (link_untold waits))
       ∙ linked_station (look_ups S o) k (own_station taken)
 
   -- the record of another operand gives the phase that it gave before
-  other_station : is_ahead S o.task ≡ false → (q : OpName) → q ≢ o
+  pub link_station_other : is_ahead S o.task ≡ false → (q : OpName) → q ≢ o
       → station_phase (operand_at (remaining_tasks S.flight o.task linked_task) q) (is_ahead S q.task)
       ≡ station_phase (operand_at S.flight q) (is_ahead S q.task)
-  other_station taken q apart =
-      let t = task_of_record S.flight o r kept in
+  link_station_other taken q apart =
       elim (decide_key nat_order q.task o.task) [
         | inl same ↦ ap (station_phase (operand_at (remaining_tasks S.flight o.task linked_task) q))
             (ap (is_ahead S) same ∙ taken)
             ∙ remaining_phase S.flight o.task linked_task q same
-            ∙ ap (λ r. station_phase r false) (other_record t.0 o (operand_after_link r next) q apart same
-            ∙ sym (operand_in S.flight q t.0 (ap (get S.flight) same ∙ t.1)))
+            ∙ ap (λ r. station_phase r false) (linked_record_other q apart same)
             ∙ ap (station_phase (operand_at S.flight q)) (sym (ap (is_ahead S) same ∙ taken))
         | inr other ↦ ap (λ r. station_phase r (is_ahead S q.task))
             (remaining_beside S.flight o.task linked_task q other)
@@ -182,7 +193,7 @@ module _ (m : Machine) (S : State) (o next : OpName) (r : OperandState)
   phase_of-link-other taken q apart waits =
       let ms = sent_by_link r.source next in
       let k = operand_at (remaining_tasks S.flight o.task linked_task) q in
-      let same = same_station (look_ups S q) k (other_station taken q apart) in
+      let same = same_station (look_ups S q) k (link_station_other taken q apart) in
       ap phase_at (look_ups-link q)
       ∙ phase_news ms q (record (look_ups S q) { station = k }) (news_link r.source next) (λ t. same ∙ waits t)
       ∙ ap (phase_told (tells ms q)) same

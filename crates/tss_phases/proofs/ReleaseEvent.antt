@@ -103,8 +103,9 @@ module _ (vs : Named Version) (o v : OpName) (x : Version) where
 
 module _ (m : Machine) (S : State) (o : OpName) (r : ReleaseContents) (x : Version)
     (there : get S.mail.releases o ≡ Some r) (version : get S.versions r.version ≡ Some x) where
-  sends_here : (after_release S.versions o r).sent ≡ sent_by_release S.versions o r.version x r.producer
-  sends_here =
+  -- what it sends, by its version
+  pub release_sends_here : (after_release S.versions o r).sent ≡ sent_by_release S.versions o r.version x r.producer
+  release_sends_here =
       ap (λ x. (released_at S.versions o r.version r.producer x).sent) version
       ∙ release_sends S.versions o r.version x r.producer
 
@@ -119,7 +120,7 @@ module _ (m : Machine) (S : State) (o : OpName) (r : ReleaseContents) (x : Versi
       ap (λ x. look_ups (release_message_taken T o x) q) there
       ∙ look_ups-sent (record T { versions = d.part }) d.sent q
       ∙ ap (received_all d.sent q) (look_ups-without S (event.Release o) q)
-      ∙ ap (λ ms. received_all ms q (missing (event.Release o) q (look_ups S q))) sends_here
+      ∙ ap (λ ms. received_all ms q (missing (event.Release o) q (look_ups S q))) release_sends_here
 
   -- of its operand, where it isn't told: the release is gone, and it has a bye
   pub look_ups-release-own : tells (sent_by_release S.versions o r.version x r.producer) o ≡ false

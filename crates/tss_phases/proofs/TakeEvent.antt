@@ -20,7 +20,7 @@ use Rattle.tss_phases.specs.Alone.{IsSilent}
 use Rattle.tss_phases.proofs.Received.{own_name, received_all, received_other, look_ups-sent}
 use Rattle.tss_phases.proofs.PhaseLemmas.{phase_silent, phase_decoding}
 use Rattle.tss_phases.proofs.Records.{record_beside_put}
-use Rattle.tss_phases.proofs.FinishEvent.{IsBefore, before_next, apart_before}
+use Rattle.tss_phases.proofs.FinishEvent.{IsBefore, before_next, apart_before, apart_further}
 
 -- ---- the decodes of a task's operands
 
@@ -54,14 +54,18 @@ decodes_own task place (x ∷ os) zero o q l at same here =
     own = ap (λ p. same_name p (operand_name task place)) name ∙ own_name (operand_name task place)
 decodes_own task place (x ∷ os) (suc j) o q l at same here =
     ap (received_all (decodes_from task (suc place) os) q)
-    (received_other (Decode (operand_name task place) x) q l (apart here))
+    (received_other (Decode (operand_name task place) x) q l (apart_further task q place j here))
     ∙ decodes_own task (suc place) os j o q l at same (omega (arith, here))
-  where
-    apart : q.place ≡ place + suc j → q ≢ operand_name task place
-    apart e f = further q.place place j e (λ i. (f i).place)
-      where
-        further : (a b c : ℕ) → a ≡ b + suc c → a ≡ b → ⊥
-        further a b c e f = omega (arith, e, f)
+
+-- past the operands there is none
+pub decodes_beyond : (task place : ℕ) (os : List Operand) (j : ℕ) (q : OpName) (l : LookUps)
+    → slice_get os j ≡ None → q.task ≡ task → q.place ≡ place + j → received_all (decodes_from task place os) q l ≡ l
+decodes_beyond task place [] j q l at same here = refl
+decodes_beyond task place (x ∷ os) zero q l at same here = absurd (none-some x (sym at))
+decodes_beyond task place (x ∷ os) (suc j) q l at same here =
+    ap (received_all (decodes_from task (suc place) os) q)
+    (received_other (Decode (operand_name task place) x) q l (apart_further task q place j here))
+    ∙ decodes_beyond task (suc place) os j q l at same (omega (arith, here))
 
 -- ---- what a take does to phases
 
@@ -92,15 +96,12 @@ module _ (m : Machine) (S : State) (t : Task) (inbox : S.inbox ≡ Some t) where
         queue = queue_with S.queue t.number (is_queued (entered t).stage);
       }) (sent_by_take t) q
 
-  -- before it, an operand of its task for which there is no message and no record is ahead
-  pub ahead_before : (q : OpName) → q.task ≡ t.number → IsSilent (look_ups S q) → operand_at S.flight q ≡ None
-      → phase_of S q ≡ Ahead
-  ahead_before q same silent none =
-      phase_silent (look_ups S q) silent
-      ∙ ap (λ k. station_phase k (is_ahead S q.task)) none
-      ∙ ap absent_phase (ap (λ x. nat_lt S.main.spawned q.task || inbox_has x q.task) inbox
+  -- a task in the inbox hasn't been taken
+  pub inbox_is_ahead : (q : OpName) → q.task ≡ t.number → is_ahead S q.task ≡ true
+  inbox_is_ahead q same =
+      ap (λ x. nat_lt S.main.spawned q.task || inbox_has x q.task) inbox
       ∙ ap (λ b. nat_lt S.main.spawned q.task || b) (same_number t.number q.task (sym same))
-      ∙ or_true (nat_lt S.main.spawned q.task))
+      ∙ or_true (nat_lt S.main.spawned q.task)
     where
       same_number : (a b : ℕ) → a ≡ b → (a == b) ≡ true
       same_number a b e = grind (arith, nat_tests)
@@ -108,6 +109,14 @@ module _ (m : Machine) (S : State) (t : Task) (inbox : S.inbox ≡ Some t) where
       or_true : (b : Bool) → b || true ≡ true
       or_true true = refl
       or_true false = refl
+
+  -- before it, an operand of its task for which there is no message and no record is ahead
+  pub ahead_before : (q : OpName) → q.task ≡ t.number → IsSilent (look_ups S q) → operand_at S.flight q ≡ None
+      → phase_of S q ≡ Ahead
+  ahead_before q same silent none =
+      phase_silent (look_ups S q) silent
+      ∙ ap (λ k. station_phase k (is_ahead S q.task)) none
+      ∙ ap absent_phase (inbox_is_ahead q same)
 
   -- after it, each operand of its task is decoding
   pub phase_of-take : (q : OpName) (o : Operand) → q.task ≡ t.number → slice_get (operands_of t) q.place ≡ Some o

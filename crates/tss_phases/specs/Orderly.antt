@@ -1,10 +1,17 @@
 -- Operands in order: at most one message is under way for each, and its record says what its phase has it say.
-use Rattle.std.specs.Prelude.{◌≡◌, ◌≤◌, true, false, Some, None, ◌⊎◌}
+use Rattle.std.specs.Prelude.{◌≡◌, ◌≢◌, ℕ, ◌≤◌, true, false, List, Some, None, ◌⊎◌}
+use Rattle.std.specs.FinMap.{get}
+use Rattle.tss_base.specs.declared.operand.Task.{Task}
+use Rattle.tss_base.specs.declared.event.Event.{Event}
+use Rattle.tss_base.specs.declared.event.Event.TheVariants as event
 use Rattle.tss_base.specs.declared.operand.OpName.{OpName}
-use Rattle.tss_protocol.specs.Mail.{Source}
-use Rattle.tss_protocol.specs.State.{OperandState, State}
-use Rattle.tss_phases.specs.Phase.{Phase, Ahead, Decoding, Sent, Waiting, Told, Ready, Releasing, Leaving, Promised, Left, LookUps, look_ups, phase_at}
+use Rattle.tss_protocol.specs.Mail.{Source, OpenContents, ReleaseContents, Message}
+use Rattle.tss_protocol.specs.State.{OperandState, Flying, Busy, Version, State}
+use Rattle.tss_protocol.specs.Stations.{operand_at, sent_by_ready, sent_by_link}
+use Rattle.tss_protocol.specs.Versions.{after_open, after_release, after_nack}
+use Rattle.tss_phases.specs.Phase.{Phase, Ahead, Decoding, Sent, Waiting, Told, Ready, Releasing, Leaving, Promised, Left, LookUps, look_ups, phase_at, phase_of}
 use Rattle.tss_phases.specs.Alone.{under_way, HasRecord}
+use Rattle.tss_phases.specs.Told.{WaitsIfTold}
 
 -- its record says nothing yet
 abbrev pub IsUntold : LookUps → Type 0
@@ -39,3 +46,61 @@ pub record IsOrderly (l : LookUps) : Type 0 where
 -- all operands are in order
 abbrev pub AreOrderly : State → Type 0
 AreOrderly S = (q : OpName) → IsOrderly (look_ups S q)
+
+-- ---- what an event needs, so that operands stay in order
+
+-- those that messages tell are waiting
+abbrev pub TellWaiting : State → List Message → Type 0
+TellWaiting S ms = (q : OpName) → WaitsIfTold S ms q
+
+-- those of them that aren't a given operand
+abbrev pub TellOthersWaiting : State → OpName → List Message → Type 0
+TellOthersWaiting S o ms = (q : OpName) → q ≢ o → WaitsIfTold S ms q
+
+-- the operands of a task are ready
+abbrev pub AreReady : State → ℕ → Type 0
+AreReady S task = (q : OpName) (r : OperandState) → q.task ≡ task → operand_at S.flight q ≡ Some r → phase_of S q ≡ Ready
+
+-- a task that is taken has been spawned
+abbrev pub TakesSpawned : State → Type 0
+TakesSpawned S = (t : Task) → S.inbox ≡ Some t → t.number ≤ S.main.spawned
+
+-- an open tells those that wait, beside its own operand
+abbrev pub OpensForWaiting : State → OpName → Type 0
+OpensForWaiting S o =
+    (c : OpenContents) → get S.mail.opens o ≡ Some c → TellOthersWaiting S o (after_open S.versions o c).sent
+
+-- a ready tells those that wait
+abbrev pub ReadiesWaiting : State → OpName → Type 0
+ReadiesWaiting S o =
+    (s : Source) (r : OperandState) → get S.mail.readies o ≡ Some s → operand_at S.flight o ≡ Some r
+    → TellWaiting S (sent_by_ready r.link s)
+
+-- a link is for an operand that has a record, and tells those that wait
+abbrev pub LinksWaiting : State → OpName → Type 0
+LinksWaiting S o =
+    (next : OpName) → get S.mail.links o ≡ Some next
+    → (r : OperandState) × (operand_at S.flight o ≡ Some r) × TellWaiting S (sent_by_link r.source next)
+
+-- a worker that finishes has a task in flight, whose operands are ready
+abbrev pub FinishesReady : State → ℕ → Type 0
+FinishesReady S w =
+    (b : Busy) → get S.workers w ≡ Some b
+    → ((x : Flying) × (get S.flight b.task.number ≡ Some x)) × AreReady S b.task.number
+
+-- a release is of a version that is registered, and tells those that wait
+abbrev pub ReleasesRegistered : State → OpName → Type 0
+ReleasesRegistered S o =
+    (r : ReleaseContents) → get S.mail.releases o ≡ Some r
+    → ((x : Version) × (get S.versions r.version ≡ Some x)) × TellWaiting S (after_release S.versions o r).sent
+
+-- by the event: the others need nothing
+abbrev pub KeepsOrder : State → Event → Type 0
+KeepsOrder S event.Take = TakesSpawned S
+KeepsOrder S (event.Open o) = OpensForWaiting S o
+KeepsOrder S (event.Ready o) = ReadiesWaiting S o
+KeepsOrder S (event.Link o) = LinksWaiting S o
+KeepsOrder S (event.Finish w) = FinishesReady S w
+KeepsOrder S (event.Release o) = ReleasesRegistered S o
+KeepsOrder S (event.Nack v) = TellWaiting S (after_nack S.versions v).sent
+KeepsOrder S e = Unit {0}
