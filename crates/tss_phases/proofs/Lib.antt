@@ -23,3 +23,4 @@ pub mod ByeEvent
 pub mod NackEvent
 pub mod OrderlyLemmas
 pub mod OrderlyRecords
+pub mod OrderlyDecode

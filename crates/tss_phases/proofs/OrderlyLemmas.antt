@@ -1,8 +1,10 @@
 -- Look-ups that are in order, as messages, a record and the phase give them.
-use Rattle.std.proofs.Common.{◌≡◌, ◌≤◌, Bool, true, false, List, Option, Some, None, refl, sym, ap, ◌∙◌, subst, inl, inr}
+use Rattle.std.proofs.Common.{◌≡◌, ◌≢◌, ◌≤◌, Bool, true, false, List, Option, Some, None, refl, sym, ap, ◌∙◌, subst, inl, inr}
 use Rattle.tss_base.specs.declared.operand.OpName.{OpName}
 use Rattle.tss_base.specs.declared.operand.Operand.{Operand}
 use Rattle.tss_base.specs.declared.event.Farewell.TheVariants as farewell
+use Rattle.std.proofs.lemmas.Option.{none-some}
+use Rattle.tss_maps.proofs.Keys.{name_order, decide_key}
 use Rattle.tss_protocol.specs.Mail.{Source, OpenContents, ReleaseContents, Message}
 use Rattle.tss_protocol.specs.State.{OperandState}
 use Rattle.tss_phases.specs.Phase.{Phase, Ahead, Decoding, Sent, Waiting, Told, Ready, Releasing, Leaving, Promised, Left, LookUps, station_phase, record_phase, phase_at}
@@ -178,3 +180,57 @@ pub leaving_stands : (l : LookUps) (x : Bool) → IsOrderly l → l.leaving ≡ 
 leaving_stands l x o e =
     let s = silent_but_leaving l x o.alone e in
     (s, fits_at l Leaving o (phase_leaving l x s.decoding s.opening s.using s.telling s.releasing e))
+
+-- ---- the record and the task
+
+-- look-ups with the same record say nothing yet where the others don't
+pub same_untold : (l k : LookUps) → k.station ≡ l.station → k.ahead ≡ l.ahead → IsUntold l → IsUntold k
+same_untold l k e a h = (same_record l k None e h.0, a ∙ h.1)
+
+-- and have what the operand was told where the others have it
+pub same_informed : (l k : LookUps) → k.station ≡ l.station → k.ahead ≡ l.ahead → IsInformed l → IsInformed k
+same_informed l k e a h = ((h.0.0, same_record l k (Some h.0.0) e h.0.1), a ∙ h.1)
+
+-- an operand in order whose task hasn't been taken is ahead
+pub ahead_by_test : (l : LookUps) → IsOrderly l → l.ahead ≡ true → phase_at l ≡ Ahead
+ahead_by_test l o a = by (phase_at l) refl o.fits
+  where
+    clash : (b : Bool) → b ≡ true → b ≡ false → ⊥
+    clash b t f = cc
+
+    by : (p : Phase) → phase_at l ≡ p → FitsPhase p l → phase_at l ≡ Ahead
+    by Ahead e h = e
+    by Decoding e h = absurd (clash l.ahead a h.1)
+    by Sent e h = absurd (clash l.ahead a h.1)
+    by Waiting e h = absurd (clash l.ahead a h.1)
+    by Told e h = absurd (clash l.ahead a h.1)
+    by Ready e h = absurd (clash l.ahead a h.1)
+    by Releasing e h = absurd (clash l.ahead a h.1)
+    by Leaving e h = absurd (clash l.ahead a h.1)
+    by Promised e h = absurd (clash l.ahead a h.1)
+    by Left e h = absurd (clash l.ahead a h.1)
+
+-- the task of an operand in order that has a record has been taken
+pub taken_by_record : (l : LookUps) (r : OperandState) → IsOrderly l → l.station ≡ Some r → l.ahead ≡ false
+taken_by_record l r o kept = by (phase_at l) o.fits
+  where
+    by : (p : Phase) → FitsPhase p l → l.ahead ≡ false
+    by Ahead h = absurd (none-some r (sym h.0 ∙ kept))
+    by Decoding h = h.1
+    by Sent h = h.1
+    by Waiting h = h.1
+    by Told h = h.1
+    by Ready h = h.1
+    by Releasing h = h.1
+    by Leaving h = h.1
+    by Promised h = h.1
+    by Left h = h.1
+
+-- ---- one operand and all others
+
+-- what holds of an operand, and of each other one
+pub at_and_beside : (P : OpName → Type 0) (o : OpName) → P o → ((q : OpName) → q ≢ o → P q) → (q : OpName) → P q
+at_and_beside P o own other q = elim (decide_key name_order q o) [
+  | inl same ↦ subst P (sym same) own
+  | inr apart ↦ other q apart
+]
