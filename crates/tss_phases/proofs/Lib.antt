@@ -24,3 +24,5 @@ pub mod NackEvent
 pub mod OrderlyLemmas
 pub mod OrderlyRecords
 pub mod OrderlyDecode
+pub mod OrderlyVersions
+pub mod OrderlyStations
