@@ -26,3 +26,5 @@ pub mod OrderlyRecords
 pub mod OrderlyDecode
 pub mod OrderlyVersions
 pub mod OrderlyStations
+pub mod OrderlyFinish
+pub mod OrderlyEvents
