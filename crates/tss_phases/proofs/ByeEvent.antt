@@ -50,6 +50,11 @@ module _ (m : Machine) (S : State) (o : OpName) (promised : Bool) (r : OperandSt
       ap (λ x. look_ups (bye_message_taken T o x) q) there
       ∙ (λ i. record (look_ups-without S (event.Bye o) q i) { station = operand_at (parted i) q })
 
+  -- the tasks in flight after it
+  pub flight-bye : (after_event m S (event.Bye o)).flight ≡ remaining_tasks S.flight o.task parted_task
+  unfolding after_event
+  flight-bye = ap (λ x. (bye_message_taken (without S (event.Bye o)) o x).flight) there ∙ parted
+
   -- of its operand: the bye is gone
   pub look_ups-bye-own : look_ups (after_event m S (event.Bye o)) o ≡ record (look_ups S o) {
     leaving = None;

@@ -97,7 +97,8 @@ releases_own task place (x ∷ rs) zero r source q l at told same here =
 releases_own task place (x ∷ rs) (suc j) r source q l at told same here =
     let rest = releases_own task (suc place) rs j r source q l at told same (omega (arith, here)) in (
       rest.0,
-      one_other task place x x.source (releases_from task (suc place) rs) q l (apart_further task q place j here) ∙ rest.1,
+      one_other task place x x.source (releases_from task (suc place) rs) q l (apart_further task q place j here)
+          ∙ rest.1,
     )
 
 -- past the operands there is none
@@ -141,6 +142,13 @@ module _ (m : Machine) (S : State) (w : ℕ) (b : Busy) (x : Flying) (busy : get
       }) d.sent q
       ∙ ap (λ (d : Outcome (Numbered Flying)).
       received_all d.sent q (record (look_ups S q) { station = operand_at d.part q })) finished
+
+  -- the tasks in flight after it
+  pub flight-finish : (after_event m S (event.Finish w)).flight
+      ≡ remaining_tasks S.flight b.task.number finished_task
+  unfolding after_event
+  flight-finish =
+      ap (λ y. (after_finish S w y).flight) busy ∙ ap (λ (d : Outcome (Numbered Flying)). d.part) finished
 
   -- an operand of the task that is ready is releasing after it
   pub phase_of-finish : (q : OpName) → q.task ≡ b.task.number → phase_of S q ≡ Ready

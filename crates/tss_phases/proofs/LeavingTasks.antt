@@ -1,6 +1,6 @@
 -- A task leaves exactly where it has finished and the farewells of all its operands are done, and the phases of its
 -- operands are then all left.
-use Rattle.std.proofs.Common.{◌≡◌, ◌≢◌, ℕ, zero, suc, Bool, true, false, List, [], ◌∷◌, Option, Some, None, refl, sym, ap, ◌∙◌}
+use Rattle.std.proofs.Common.{◌≡◌, ◌≢◌, ℕ, zero, suc, Bool, true, false, List, [], ◌∷◌, Option, Some, None, refl, sym, ap, ◌∙◌, inl, inr}
 use Rattle.std.specs.Prelude.{◌&&◌, slice_get, if◌then◌else◌}
 use Rattle.std.specs.List.{list_all}
 use Rattle.std.specs.FinMap.{get, insert, remove}
@@ -18,6 +18,8 @@ use Rattle.tss_phases.specs.Alone.{IsSilent}
 use Rattle.tss_phases.specs.Leaving.{HaveLeft, IsDone}
 use Rattle.tss_phases.proofs.Records.{record_in, record_beside_put, record_beside_removal, record_put, record_removed, operand_in}
 use Rattle.tss_phases.proofs.PhaseLemmas.{phase_silent}
+use Rattle.tss_phases.proofs.Shown.{left_shows}
+use Rattle.tss_protocol.specs.Names.{operand_name}
 use Rattle.tss_phases.proofs.Tests.{both}
 
 left_from_test : (f : Farewell) → has_left f ≡ true → f ≡ farewell.Left
@@ -119,3 +121,17 @@ phase_done S q x r silent there left at =
     phase_silent (look_ups S q) silent
     ∙ ap (λ k. station_phase k (is_ahead S q.task)) (operand_in S.flight q x there ∙ at)
     ∙ ap (λ f. record_phase f r.source) (left q.place r at)
+
+-- where the phases of all operands of a task in flight are left, their farewells are done
+pub left_by_phases : (S : State) (task : ℕ) (x : Flying) → get S.flight task ≡ Some x
+    → ((place : ℕ) (r : OperandState) → slice_get x.operands place ≡ Some r
+    → phase_of S (operand_name task place) ≡ Left)
+    → HaveLeft x
+left_by_phases S task x there phases place r at =
+    elim (left_shows (look_ups S (operand_name task place)) (phases place r at)).1 [
+      | inl none ↦ absurd (none-some r (sym none.0 ∙ kept))
+      | inr k ↦ ap (λ (r : OperandState). r.farewell) (same_Some r k.0 (sym kept ∙ k.1)) ∙ k.2
+    ]
+  where
+    kept : operand_at S.flight (operand_name task place) ≡ Some r
+    kept = operand_in S.flight (operand_name task place) x there ∙ at

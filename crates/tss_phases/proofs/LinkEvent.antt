@@ -121,6 +121,13 @@ module _ (m : Machine) (S : State) (o next : OpName) (r : OperandState)
       ∙ ap (λ (d : Outcome (Numbered Flying)).
       received_all d.sent q (record (look_ups S q) { station = operand_at d.part q })) linked
 
+  -- the tasks in flight after it
+  pub flight-link : (after_event m S (event.Link o)).flight ≡ remaining_tasks S.flight o.task linked_task
+  unfolding after_event
+  flight-link =
+      ap (λ x. (link_message_taken (without S (event.Link o)) o x).flight) there
+      ∙ ap (λ (d : Outcome (Numbered Flying)). d.part) linked
+
   -- its operand isn't told by it, if it is waiting where it is
   pub link_untold : WaitsIfTold S (sent_by_link r.source next) o → tells (sent_by_link r.source next) o ≡ false
   link_untold waits = by (tells (sent_by_link r.source next) o) refl

@@ -226,6 +226,28 @@ taken_by_record l r o kept = by (phase_at l) o.fits
     by Promised h = h.1
     by Left h = h.1
 
+-- an operand in order that has no record, whose task has been taken, has left
+pub left_by_absence : (l : LookUps) → IsOrderly l → l.station ≡ None → l.ahead ≡ false → phase_at l ≡ Left
+left_by_absence l o none taken = by (phase_at l) refl o.fits
+  where
+    clash : (b : Bool) → b ≡ true → b ≡ false → ⊥
+    clash b t f = cc
+
+    no_record : (s : Option Source) → HasRecord l s → ⊥
+    no_record s h = none-some h.kept (sym none ∙ h.there)
+
+    by : (p : Phase) → phase_at l ≡ p → FitsPhase p l → phase_at l ≡ Left
+    by Ahead e h = absurd (clash l.ahead h.1 taken)
+    by Decoding e h = absurd (no_record None h.0)
+    by Sent e h = absurd (no_record None h.0)
+    by Waiting e h = absurd (no_record None h.0)
+    by Told e h = absurd (no_record None h.0)
+    by Ready e h = absurd (no_record (Some h.0.0) h.0.1)
+    by Releasing e h = absurd (no_record (Some h.0.0) h.0.1)
+    by Leaving e h = absurd (no_record (Some h.0.0) h.0.1)
+    by Promised e h = absurd (none-some h.0.0 (sym none ∙ h.0.1))
+    by Left e h = e
+
 -- ---- one operand and all others
 
 -- what holds of an operand, and of each other one

@@ -59,7 +59,8 @@ TellOthersWaiting S o ms = (q : OpName) → q ≢ o → WaitsIfTold S ms q
 
 -- the operands of a task are ready
 abbrev pub AreReady : State → ℕ → Type 0
-AreReady S task = (q : OpName) (r : OperandState) → q.task ≡ task → operand_at S.flight q ≡ Some r → phase_of S q ≡ Ready
+AreReady S task =
+    (q : OpName) (r : OperandState) → q.task ≡ task → operand_at S.flight q ≡ Some r → phase_of S q ≡ Ready
 
 -- a task that is taken has been spawned
 abbrev pub TakesSpawned : State → Type 0
