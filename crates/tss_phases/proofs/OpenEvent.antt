@@ -1,7 +1,6 @@
 -- What an open does to phases: its operand goes from sent to told where its version follows none, or another one beside
 -- it, and else to waiting. The version that is followed is settled, which may tell its successor.
-use Rattle.std.proofs.Common.{◌≡◌, ◌≢◌, true, false, cond, Option, Some, None, refl, ap, ◌∙◌, inl, inr, ◌⊎◌, suc}
-use Rattle.std.specs.Prelude.{◌||◌}
+use Rattle.std.proofs.Common.{◌≡◌, ◌≢◌, true, cond, Option, Some, None, refl, ap, ◌∙◌, inl, inr, ◌⊎◌, suc}
 use Rattle.std.specs.FinMap.{get, len}
 use Rattle.tss_base.specs.declared.operand.OpName.{OpName}
 use Rattle.tss_base.specs.declared.machine.Machine.{Machine}
@@ -22,8 +21,8 @@ use Rattle.tss_phases.proofs.Received.{own_name, other_name, received_all, look_
 use Rattle.tss_phases.proofs.News.{AreNews, news_both}
 use Rattle.tss_phases.proofs.PhaseLemmas.{phase_silent, station_told}
 use Rattle.tss_phases.proofs.AloneLemmas.{silent_but_opening}
-use Rattle.tss_phases.proofs.SettlingLemmas.{news_ready_with, ready_with_tells, news_settle, settle_tells}
-use Rattle.tss_phases.proofs.ToldPhases.{phase_news, either_tells, first_tells}
+use Rattle.tss_phases.proofs.SettlingLemmas.{news_ready_with, ready_with_tells, news_settle, settle_tells, settle_tells_successor, ready_with_told}
+use Rattle.tss_phases.proofs.ToldPhases.{phase_news, either_tells, first_tells, second_tells}
 
 -- ---- what an open sends
 
@@ -72,15 +71,11 @@ module _ (vs : Named Version) (o : OpName) (opening : OpenContents) where
   pub open_tells : (q : OpName) → tells (after_open vs o opening).sent q ≡ true → OpenTells vs o opening q
   open_tells q e = by_tells opening.follows q refl e
 
-  with_storage : (s : Option StorageName) (t : StorageName) → s ≡ Some t → tells (ready_with o o s) o ≡ true
-  with_storage s t e =
-      ap (λ s. tells (ready_with o o s) o) e ∙ (λ i. own_name o i || false)
-
   -- where its version follows none, its operand is told
   pub first_open_tells : (t : StorageName) → opening.follows ≡ None → opening.storage ≡ Some t
       → tells (after_open vs o opening).sent o ≡ true
   first_open_tells t none e =
-      ap (λ f. tells (opened_by vs o opening f).sent o) none ∙ with_storage opening.storage t e
+      ap (λ f. tells (opened_by vs o opening f).sent o) none ∙ ready_with_told o o opening.storage t e
 
   -- where it follows another one beside it, too
   pub beside_open_tells : (f : Follow) (t : StorageName) → opening.follows ≡ Some f → f.how ≡ Beside
@@ -89,7 +84,23 @@ module _ (vs : Named Version) (o : OpName) (opening : OpenContents) where
       ap (λ f. tells (opened_by vs o opening f).sent o) to
       ∙ ap (λ h. tells (opened_how vs o opening f h).sent o) way
       ∙ first_tells (ready_with o o opening.storage) (settled (followed vs o opening f) f.version).sent o
-      (with_storage opening.storage t e)
+      (ready_with_told o o opening.storage t e)
+
+  -- whom the settle of the followed version tells, it tells
+  pub open_tells_settled : (f : Follow) (q : OpName) → opening.follows ≡ Some f
+      → SettleTells (suc (len (followed vs o opening f))) (followed vs o opening f) f.version q
+      → tells (after_open vs o opening).sent q ≡ true
+  open_tells_settled f q to h =
+      ap (λ f. tells (opened_by vs o opening f).sent q) to ∙ by f.how
+    where
+      us : Named Version
+      us = followed vs o opening f
+
+      by : (h : How) → tells (opened_how vs o opening f h).sent q ≡ true
+      by Over = settle_tells_successor (suc (len us)) us f.version q h
+      by Beside =
+          second_tells (ready_with o o opening.storage) (settled us f.version).sent q
+          (settle_tells_successor (suc (len us)) us f.version q h)
 
 -- ---- what it does to phases
 

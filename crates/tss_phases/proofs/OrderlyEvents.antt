@@ -24,6 +24,7 @@ use Rattle.tss_phases.proofs.OrderlyDecode.{orderly-take, orderly-decode}
 use Rattle.tss_phases.proofs.OrderlyVersions.{orderly-open, orderly-use, orderly-release, orderly-nack}
 use Rattle.tss_phases.proofs.OrderlyStations.{orderly-ready, orderly-link, orderly-bye}
 use Rattle.tss_phases.proofs.OrderlyFinish.{orderly-finish}
+use Rattle.tss_phases.proofs.Tests.{not_both}
 
 -- ---- at first
 
@@ -56,10 +57,7 @@ orderly_at_first i q = by (nat_lt 0 q.task || false) refl
 
 something : {X : Type 0} (t : Option X → Bool) (x : Option X) → t None ≡ false → t x ≡ true
     → (y : X) × (x ≡ Some y)
-something t None none e = absurd (clash (t None) e none)
-  where
-    clash : (b : Bool) → b ≡ true → b ≡ false → ⊥
-    clash b t f = cc
+something t None none e = absurd (not_both (t None) e none)
 something t (Some y) none e = (y, refl)
 
 -- ---- the events

@@ -16,6 +16,7 @@ use Rattle.tss_phases.proofs.News.{AreNews, untold, told}
 use Rattle.tss_phases.proofs.PhaseLemmas.{phase_silent, phase_decoding, phase_opening, phase_using, phase_telling, phase_releasing, phase_leaving, station_told}
 use Rattle.tss_phases.proofs.Shown.{waiting_shows}
 use Rattle.tss_phases.proofs.AloneLemmas.{silent_but_decoding, silent_but_opening, silent_but_using, silent_but_telling, silent_but_releasing, silent_but_leaving, alone_decoding, alone_opening, alone_using, alone_telling, alone_releasing, alone_leaving}
+use Rattle.tss_phases.proofs.Tests.{not_both}
 
 -- ---- by the phase
 
@@ -195,20 +196,17 @@ same_informed l k e a h = ((h.0.0, same_record l k (Some h.0.0) e h.0.1), a ∙ 
 pub ahead_by_test : (l : LookUps) → IsOrderly l → l.ahead ≡ true → phase_at l ≡ Ahead
 ahead_by_test l o a = by (phase_at l) refl o.fits
   where
-    clash : (b : Bool) → b ≡ true → b ≡ false → ⊥
-    clash b t f = cc
-
     by : (p : Phase) → phase_at l ≡ p → FitsPhase p l → phase_at l ≡ Ahead
     by Ahead e h = e
-    by Decoding e h = absurd (clash l.ahead a h.1)
-    by Sent e h = absurd (clash l.ahead a h.1)
-    by Waiting e h = absurd (clash l.ahead a h.1)
-    by Told e h = absurd (clash l.ahead a h.1)
-    by Ready e h = absurd (clash l.ahead a h.1)
-    by Releasing e h = absurd (clash l.ahead a h.1)
-    by Leaving e h = absurd (clash l.ahead a h.1)
-    by Promised e h = absurd (clash l.ahead a h.1)
-    by Left e h = absurd (clash l.ahead a h.1)
+    by Decoding e h = absurd (not_both l.ahead a h.1)
+    by Sent e h = absurd (not_both l.ahead a h.1)
+    by Waiting e h = absurd (not_both l.ahead a h.1)
+    by Told e h = absurd (not_both l.ahead a h.1)
+    by Ready e h = absurd (not_both l.ahead a h.1)
+    by Releasing e h = absurd (not_both l.ahead a h.1)
+    by Leaving e h = absurd (not_both l.ahead a h.1)
+    by Promised e h = absurd (not_both l.ahead a h.1)
+    by Left e h = absurd (not_both l.ahead a h.1)
 
 -- the task of an operand in order that has a record has been taken
 pub taken_by_record : (l : LookUps) (r : OperandState) → IsOrderly l → l.station ≡ Some r → l.ahead ≡ false
@@ -230,14 +228,11 @@ taken_by_record l r o kept = by (phase_at l) o.fits
 pub left_by_absence : (l : LookUps) → IsOrderly l → l.station ≡ None → l.ahead ≡ false → phase_at l ≡ Left
 left_by_absence l o none taken = by (phase_at l) refl o.fits
   where
-    clash : (b : Bool) → b ≡ true → b ≡ false → ⊥
-    clash b t f = cc
-
     no_record : (s : Option Source) → HasRecord l s → ⊥
     no_record s h = none-some h.kept (sym none ∙ h.there)
 
     by : (p : Phase) → phase_at l ≡ p → FitsPhase p l → phase_at l ≡ Left
-    by Ahead e h = absurd (clash l.ahead h.1 taken)
+    by Ahead e h = absurd (not_both l.ahead h.1 taken)
     by Decoding e h = absurd (no_record None h.0)
     by Sent e h = absurd (no_record None h.0)
     by Waiting e h = absurd (no_record None h.0)

@@ -19,8 +19,8 @@ use Rattle.tss_phases.proofs.Received.{own_name, other_name, received_all, look_
 use Rattle.tss_phases.proofs.News.{AreNews, news_both}
 use Rattle.tss_phases.proofs.PhaseLemmas.{phase_releasing, phase_leaving}
 use Rattle.tss_phases.proofs.AloneLemmas.{silent_but_releasing}
-use Rattle.tss_phases.proofs.SettlingLemmas.{news_ready_with, ready_with_tells, news_settle, settle_tells}
-use Rattle.tss_phases.proofs.ToldPhases.{phase_news, not_told, either_tells, beside_bye, bye_tells, own_bye}
+use Rattle.tss_phases.proofs.SettlingLemmas.{news_ready_with, ready_with_tells, news_settle, settle_tells, settle_tells_successor, ready_with_told}
+use Rattle.tss_phases.proofs.ToldPhases.{phase_news, not_told, either_tells, first_tells, second_tells, beside_bye, bye_tells, own_bye}
 
 -- ---- what a release sends
 
@@ -98,6 +98,24 @@ module _ (vs : Named Version) (o v : OpName) (x : Version) where
         | inl h ↦ inl (heads_tell producer q h)
         | inr h ↦ inr (settle_tells (suc (len us)) us v q h)
       ]
+
+  -- a producer's release tells the head
+  pub release_tells_head : (q : OpName) (t : StorageName) → x.head ≡ Some q → x.storage ≡ Some t
+      → tells (sent_by_release vs o v x true) q ≡ true
+  release_tells_head q t head kept =
+      bye_tells (head_ready v x x.head) (settled (versions_released vs o v x true) v).sent o false q
+      ∙ first_tells (head_ready v x x.head) (settled (versions_released vs o v x true) v).sent q
+      (ap (λ h. tells (head_ready v x h) q) head ∙ ready_with_told q v x.storage t kept)
+
+  -- whom the settle tells, it tells
+  pub release_tells_settled : (producer : Bool) (q : OpName)
+      → SettleTells (suc (len (versions_released vs o v x producer))) (versions_released vs o v x producer) v q
+      → tells (sent_by_release vs o v x producer) q ≡ true
+  release_tells_settled producer q h =
+      let us = versions_released vs o v x producer in
+      let hs = heads_told v x producer in
+      bye_tells hs (settled us v).sent o (bye_promised o x producer) q
+      ∙ second_tells hs (settled us v).sent q (settle_tells_successor (suc (len us)) us v q h)
 
 -- ---- what it does to phases
 

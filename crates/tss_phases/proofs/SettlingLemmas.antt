@@ -1,6 +1,6 @@
 -- What a settle sends: news alone, with a ready only for the successor of a version that is followed over.
-use Rattle.std.proofs.Common.{◌≡◌, ℕ, zero, suc, Bool, true, false, Option, Some, None, refl, sym, inl, inr}
-use Rattle.std.specs.Prelude.{if◌then◌else◌}
+use Rattle.std.proofs.Common.{◌≡◌, ℕ, zero, suc, Bool, true, false, Option, Some, None, refl, sym, ap, ◌∙◌, inl, inr}
+use Rattle.std.specs.Prelude.{◌||◌, if◌then◌else◌}
 use Rattle.std.specs.FinMap.{get}
 use Rattle.tss_base.specs.declared.operand.OpName.{OpName}
 use Rattle.tss_base.specs.declared.event.How.{How}
@@ -11,12 +11,12 @@ use Rattle.tss_maps.proofs.Keys.{name_order, decide_key}
 use Rattle.tss_protocol.specs.Names.{same_name}
 use Rattle.tss_protocol.specs.Mail.{StorageName}
 use Rattle.tss_protocol.specs.State.{Version}
-use Rattle.tss_protocol.specs.Versions.{Settling, ready_with, may_die, may_ask, unlinked, settle_asking, settle_how, settle_by, settle_at, settle, unchanged}
+use Rattle.tss_protocol.specs.Versions.{Settling, Versioned, ready_with, may_die, may_ask, unlinked, settle_asking, settle_how, settle_by, settle_at, settle, unchanged}
 use Rattle.tss_phases.specs.Told.{tells}
 use Rattle.tss_phases.specs.Settling.{GivesWay, TakesOver, SettleTells}
-use Rattle.tss_phases.proofs.Received.{other_name}
+use Rattle.tss_phases.proofs.Received.{own_name, other_name}
 use Rattle.tss_phases.proofs.News.{AreNews}
-use Rattle.tss_phases.proofs.Tests.{or_false}
+use Rattle.tss_phases.proofs.Tests.{not_both, or_false}
 
 -- ---- names
 
@@ -24,11 +24,8 @@ use Rattle.tss_phases.proofs.Tests.{or_false}
 pub name_from_test : (q o : OpName) → same_name q o ≡ true → q ≡ o
 name_from_test q o e = elim (decide_key name_order q o) [
   | inl same ↦ same
-  | inr apart ↦ absurd (clash (same_name q o) e (other_name q o apart))
+  | inr apart ↦ absurd (not_both (same_name q o) e (other_name q o apart))
 ]
-  where
-    clash : (b : Bool) → b ≡ true → b ≡ false → ⊥
-    clash b t f = cc
 
 -- ---- a ready of a version with a storage
 
@@ -42,6 +39,11 @@ pub ready_with_tells : (o v : OpName) (s : Option StorageName) (q : OpName) → 
     → (q ≡ o) × ((t : StorageName) × (s ≡ Some t))
 ready_with_tells o v None q e = absurd (cc)
 ready_with_tells o v (Some s) q e = (name_from_test q o (or_false (same_name q o) e), (s, refl))
+
+-- and it does tell it then
+pub ready_with_told : (o v : OpName) (s : Option StorageName) (t : StorageName) → s ≡ Some t
+    → tells (ready_with o v s) o ≡ true
+ready_with_told o v s t e = ap (λ s. tells (ready_with o v s) o) e ∙ (λ i. own_name o i || false)
 
 -- ---- settle
 
@@ -129,6 +131,29 @@ unfolding settle
 settle_tells zero vs v s e = absurd (cc)
 settle_tells (suc n) vs v s e =
     at_tells n vs v s (settle n) (λ us w d. settle_tells n us w s d) (get vs v) refl e
+
+gives_way : (vs : Named Version) (v : OpName) (x : Version) (f : Follow) (h : How) (next : Settling)
+    → GivesWay vs v x f h → settle_at vs v next (get vs v) ≡ settle_how vs v x f next h
+gives_way vs v x f h next g =
+    ap (settle_at vs v next) g.there
+    ∙ ap (settle_by vs v x next) g.next
+    ∙ ap (λ b. if b then settle_how vs v x f next f.how else unchanged vs) g.done
+    ∙ ap (settle_how vs v x f next) g.way
+
+-- and that one it tells
+pub settle_tells_successor : (n : ℕ) (vs : Named Version) (v s : OpName) → SettleTells n vs v s
+    → tells (settle n vs v).sent s ≡ true
+unfolding settle
+settle_tells_successor zero vs v s h = absurd h
+settle_tells_successor (suc n) vs v s (inl t) =
+    let x = t.version in
+    let f = t.follow in
+    ap (λ (d : Versioned). tells d.sent s) (gives_way vs v x f Over (settle n) t.gives)
+    ∙ ap (tells (ready_with f.version f.version x.storage)) (sym t.successor)
+    ∙ ready_with_told f.version f.version x.storage t.storage t.kept
+settle_tells_successor (suc n) vs v s (inr g) =
+    ap (λ (d : Versioned). tells d.sent s) (gives_way vs v g.version g.follow Beside (settle n) g.gives)
+    ∙ settle_tells_successor n (unlinked vs v g.version g.follow.version) g.follow.version s g.on
 
 -- what a settle keeps while it goes on, and what then holds of whom it tells
 pub settle_tells_by : (P : Named Version → OpName → Type 0) (Q : OpName → Type 0)

@@ -2,6 +2,10 @@
 use Rattle.std.proofs.Common.{◌≡◌, Bool, true, false, refl}
 use Rattle.std.specs.Prelude.{◌&&◌, ◌||◌}
 
+-- a test doesn't pass and fail
+pub not_both : (b : Bool) → b ≡ true → b ≡ false → ⊥
+not_both b t f = cc
+
 -- a test that passes, where the other one fails
 pub or_false : (b : Bool) → b || false ≡ true → b ≡ true
 or_false true e = refl

@@ -56,6 +56,15 @@ first_tells (m ∷ ms) ns q e = by (is_ready_for m q) e (first_tells ms ns q)
     by true e again = refl
     by false e again = again e
 
+-- and whom the second tells
+pub second_tells : (ms ns : List Message) (q : OpName) → tells ns q ≡ true → tells (ms ++ ns) q ≡ true
+second_tells [] ns q e = e
+second_tells (m ∷ ms) ns q e = by (is_ready_for m q) (second_tells ms ns q e)
+  where
+    by : (b : Bool) → tells (ms ++ ns) q ≡ true → b || tells (ms ++ ns) q ≡ true
+    by true again = refl
+    by false again = again
+
 -- ---- news with a bye among it
 
 -- of another operand the bye says nothing

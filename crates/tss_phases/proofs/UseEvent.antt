@@ -1,7 +1,6 @@
 -- What a use does to phases: its operand goes from sent to told where its version is produced and has no reader that
 -- waits, and else to waiting.
 use Rattle.std.proofs.Common.{◌≡◌, ◌≢◌, Bool, true, false, cond, Option, Some, None, refl, ap, ◌∙◌}
-use Rattle.std.specs.Prelude.{◌||◌}
 use Rattle.std.specs.FinMap.{get}
 use Rattle.tss_base.specs.declared.operand.OpName.{OpName}
 use Rattle.tss_base.specs.declared.machine.Machine.{Machine}
@@ -9,7 +8,7 @@ use Rattle.tss_base.specs.declared.event.Event.TheVariants as event
 use Rattle.tss_base.specs.Names.{Named}
 use Rattle.tss_protocol.specs.Mail.{StorageName}
 use Rattle.tss_protocol.specs.State.{State, Version}
-use Rattle.tss_protocol.specs.Versions.{ready_with, used_alone, used_behind, used_at, after_use}
+use Rattle.tss_protocol.specs.Versions.{used_alone, used_behind, used_at, after_use}
 use Rattle.tss_protocol.specs.UnitMachine.{after_event, without, use_message_taken}
 use Rattle.tss_phases.specs.Phase.{Waiting, LookUps, look_ups, phase_at, phase_of}
 use Rattle.tss_phases.specs.Alone.{IsAlone, IsFresh}
@@ -18,7 +17,7 @@ use Rattle.tss_phases.proofs.Received.{own_name, other_name, received_all, look_
 use Rattle.tss_phases.proofs.News.{AreNews, untold}
 use Rattle.tss_phases.proofs.PhaseLemmas.{phase_silent, station_told}
 use Rattle.tss_phases.proofs.AloneLemmas.{silent_but_using}
-use Rattle.tss_phases.proofs.SettlingLemmas.{news_ready_with, ready_with_tells}
+use Rattle.tss_phases.proofs.SettlingLemmas.{news_ready_with, ready_with_tells, ready_with_told}
 use Rattle.tss_phases.proofs.ToldPhases.{phase_news}
 
 -- ---- what a use sends
@@ -86,8 +85,7 @@ module _ (vs : Named Version) (o v : OpName) where
       ap (λ x. tells (used_at vs o v x).sent o) r.there
       ∙ ap (λ t. tells (used_behind vs o v x t).sent o) r.first
       ∙ ap (λ b. tells (used_alone vs o v x b).sent o) r.produced
-      ∙ ap (λ s. tells (ready_with o v s) o) r.kept
-      ∙ (λ i. own_name o i || false)
+      ∙ ready_with_told o v x.storage r.storage r.kept
 
   -- it tells no other operand
   pub use_tells_no_other : (q : OpName) → q ≢ o → tells (after_use vs o v).sent q ≡ false
