@@ -20,7 +20,7 @@ use Rattle.tss_phases.proofs.Received.{own_name, received_all, received_other, l
 use Rattle.tss_phases.proofs.Shown.{ready_shows}
 use Rattle.tss_phases.proofs.PhaseLemmas.{phase_releasing}
 use Rattle.tss_phases.proofs.Records.{operand_in}
-use Rattle.tss_phases.proofs.LeavingTasks.{remaining_beside}
+use Rattle.tss_phases.proofs.LeavingTasks.{remaining_beside, remaining_absent}
 
 -- ---- the releases of a task's operands
 
@@ -164,6 +164,19 @@ module _ (m : Machine) (S : State) (w : ℕ) (b : Busy) (x : Flying) (busy : get
       ap phase_at (look_ups-finish q)
       ∙ ap phase_at has.1
       ∙ phase_releasing (record l { releasing = Some has.0 }) has.0 s.decoding s.opening s.using s.telling refl
+
+  -- nothing is changed of a name that no operand of the task has
+  pub look_ups-finish-beyond : (q : OpName) → q.task ≡ b.task.number → slice_get x.operands q.place ≡ None
+      → look_ups (after_event m S (event.Finish w)) q ≡ look_ups S q
+  look_ups-finish-beyond q same none =
+      let l : LookUps = record (look_ups S q) {
+        station = operand_at (remaining_tasks S.flight b.task.number finished_task) q;
+      } in
+      let before = operand_in S.flight q x (ap (get S.flight) same ∙ flying) ∙ none in
+      let station = remaining_absent S.flight b.task.number finished_task q same none ∙ sym before in
+      look_ups-finish q
+      ∙ releases_beyond b.task.number 0 x.operands q.place q l none same (omega arith)
+      ∙ (λ i. record (look_ups S q) { station = station i })
 
   -- nothing is changed of an operand of another task
   pub look_ups-finish-other : (q : OpName) → q.task ≢ b.task.number

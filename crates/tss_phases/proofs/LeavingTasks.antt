@@ -104,6 +104,15 @@ module _ (flight : Numbered Flying) (task : ℕ) (x : Flying) where
           ∙ left_place (slice_get x.operands q.place) refl (done_from_test x g).left
       by false g = ap (λ r. station_phase r false) (record_put flight task x q same)
 
+  -- a name that no operand of the task has is without a record, whether the task leaves or not
+  pub remaining_absent : (q : OpName) → q.task ≡ task → slice_get x.operands q.place ≡ None
+      → operand_at (remaining_tasks flight task x) q ≡ None
+  remaining_absent q same none = by (is_gone x)
+    where
+      by : (b : Bool) → operand_at (if b then remove flight task else insert flight task x) q ≡ None
+      by true = record_removed flight task q same
+      by false = record_put flight task x q same ∙ none
+
 -- the phase of an operand for which nothing is under way, whose task was taken and isn't in flight, is left
 pub phase_gone : (S : State) (q : OpName) → IsSilent (look_ups S q) → get S.flight q.task ≡ None
     → is_ahead S q.task ≡ false → phase_of S q ≡ Left

@@ -28,3 +28,5 @@ pub mod OrderlyVersions
 pub mod OrderlyStations
 pub mod OrderlyFinish
 pub mod OrderlyEvents
+pub mod ForwardPhases
+pub mod ForwardEvents

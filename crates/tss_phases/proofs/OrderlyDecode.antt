@@ -48,12 +48,14 @@ module _ (m : Machine) (S : State) (orderly : AreOrderly S) (t : Task) (inbox : 
       (ahead_shows (look_ups S q)
       (ahead_by_test (look_ups S q) (orderly q) (inbox_is_ahead m S t inbox q same))).0
 
-  new_record : (q : OpName) → q.task ≡ t.number
+  -- the record of an operand of the task after a take
+  pub new_record : (q : OpName) → q.task ≡ t.number
       → operand_at (flight_after_take S.flight t) q ≡ option_map new_operand (slice_get (operands_of t) q.place)
   new_record q same =
       record_put S.flight t.number (entered t) q same ∙ slice_get-map new_operand (operands_of t) q.place
 
-  not_ahead : (q : OpName) → q.task ≡ t.number → (nat_lt S.main.spawned q.task || false) ≡ false
+  -- its task has been taken
+  pub not_ahead : (q : OpName) → q.task ≡ t.number → (nat_lt S.main.spawned q.task || false) ≡ false
   not_ahead q same = not_beyond S.main.spawned q.task (omega (arith, same, spawned))
 
   taken_own : (q : OpName) → q.task ≡ t.number → (x : Option Operand) → slice_get (operands_of t) q.place ≡ x

@@ -1,5 +1,5 @@
 -- At first all operands are in order, and each event keeps them so that finds what it needs.
-use Rattle.std.proofs.Common.{◌≡◌, ℕ, Bool, true, false, Option, Some, None, refl, sym, ap, subst, nat_lt}
+use Rattle.std.proofs.Common.{◌≡◌, ℕ, Bool, true, false, None, refl, sym, ap, subst, nat_lt}
 use Rattle.std.specs.Prelude.{is_some, ◌||◌}
 use Rattle.std.specs.Ordering.{nat_cmp}
 use Rattle.std.specs.FinMap.{get, get-empty}
@@ -24,7 +24,7 @@ use Rattle.tss_phases.proofs.OrderlyDecode.{orderly-take, orderly-decode}
 use Rattle.tss_phases.proofs.OrderlyVersions.{orderly-open, orderly-use, orderly-release, orderly-nack}
 use Rattle.tss_phases.proofs.OrderlyStations.{orderly-ready, orderly-link, orderly-bye}
 use Rattle.tss_phases.proofs.OrderlyFinish.{orderly-finish}
-use Rattle.tss_phases.proofs.Tests.{not_both}
+use Rattle.tss_phases.proofs.Tests.{something}
 
 -- ---- at first
 
@@ -52,13 +52,6 @@ orderly_at_first i q = by (nat_lt 0 q.task || false) refl
     by : (b : Bool) → l.ahead ≡ b → IsOrderly l
     by true e = orderly_ahead l (silent_at_first i q) absent e
     by false e = orderly_absent l (silent_at_first i q) absent e
-
--- ---- the message of an enabled event is there
-
-something : {X : Type 0} (t : Option X → Bool) (x : Option X) → t None ≡ false → t x ≡ true
-    → (y : X) × (x ≡ Some y)
-something t None none e = absurd (not_both (t None) e none)
-something t (Some y) none e = (y, refl)
 
 -- ---- the events
 

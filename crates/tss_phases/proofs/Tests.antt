@@ -1,5 +1,5 @@
--- Tests joined by and, or by or.
-use Rattle.std.proofs.Common.{◌≡◌, Bool, true, false, refl}
+-- Tests that pass, or fail, and what then is there.
+use Rattle.std.proofs.Common.{◌≡◌, Bool, true, false, Option, Some, None, refl}
 use Rattle.std.specs.Prelude.{◌&&◌, ◌||◌}
 
 -- a test doesn't pass and fail
@@ -20,3 +20,9 @@ neither false b e = (refl, e)
 pub both : (a b : Bool) → a && b ≡ true → (a ≡ true) × (b ≡ true)
 both true b e = (refl, e)
 both false b e = absurd (cc)
+
+-- where a test passes that nothing passes, something is there
+pub something : {X : Type 0} (t : Option X → Bool) (x : Option X) → t None ≡ false → t x ≡ true
+    → (y : X) × (x ≡ Some y)
+something t None none e = absurd (not_both (t None) e none)
+something t (Some y) none e = (y, refl)

@@ -5,3 +5,4 @@ pub mod Settling
 pub mod Leaving
 pub mod Openers
 pub mod Orderly
+pub mod Forward
