@@ -2,3 +2,13 @@
 //! order, with what holds of every reachable state, progress, the bound on events, and no false wait. A law is claimed
 //! only where a function here has it as its contract.
 #![tactic(auto)]
+
+ghost use Rattle.tss_laws.specs.Tasks.{TaskNumbersLaw, GatewayLaw, SlotsLaw, DecodeOrderLaw};
+
+/// Spawned tasks are numbered from 1 in their order, at most as many as there may be, and each with at most as many
+/// operands as it may have. The inbox has none but the last of them. A task in flight stands under its number and was
+/// taken, so its number is at most that of the last task spawned, and less while the inbox is full. It has a record for
+/// each of its operands, in order.
+pub fn task_numbers()
+    ensures { TaskNumbersLaw }
+{}

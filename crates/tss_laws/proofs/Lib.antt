@@ -1,0 +1,6 @@
+pub mod SentLemmas
+pub mod FrontLemmas
+pub mod SpawnLemmas
+pub mod TakeLemmas
+pub mod RunLemmas
+pub mod NumberLemmas
