@@ -14,10 +14,9 @@ use Rattle.tss_maps.proofs.Keys.{nat_order}
 use Rattle.tss_maps.proofs.Changes.{from_inserted, from_removed}
 use Rattle.tss_protocol.specs.Mail.{Source, OpenContents, ReleaseContents, IdleContents, GoneContents, Message}
 use Rattle.tss_protocol.specs.State.{State, OperandState, Flying, Busy, Version, CopyState}
-use Rattle.tss_protocol.specs.Stations.{is_complete, awaited, with_operand, is_gone, remaining_tasks, after_ready, woken_in, woken_by, task_after_ready, after_link, linked_in, linked_by, operand_after_link, flight_after_finish, finished_in, after_bye, parted_in, parted_by, operand_after_bye}
+use Rattle.tss_protocol.specs.Stations.{is_complete, awaited, with_operand, is_gone, remaining_tasks, woken_in, woken_by, task_after_ready, linked_in, linked_by, operand_after_link, finished_in, parted_in, parted_by, operand_after_bye}
 use Rattle.tss_protocol.specs.Buffers.{is_last_piece}
-use Rattle.tss_protocol.specs.Names.{bank_of}
-use Rattle.tss_protocol.specs.UnitMachine.{after_event, with_sent, without, open_message_taken, use_message_taken, ready_message_taken, link_message_taken, after_start, start_task, after_exec, after_finish, release_message_taken, bye_message_taken, idle_message_taken, nack_message_taken, retire_version, retire_message_taken, after_copy, gone_message_taken}
+use Rattle.tss_protocol.specs.UnitMachine.{after_event, with_sent, without, open_message_taken, use_message_taken, ready_message_taken, link_message_taken, after_start, start_task, after_exec, after_finish, release_message_taken, bye_message_taken, idle_message_taken, nack_message_taken, retire_version, after_copy, gone_message_taken}
 use Rattle.tss_laws.proofs.SentLemmas.{AllSent, IsLater, posted_all-later, after_open-later, after_use-later, after_release-later, after_nack-later, after_ready-later, after_link-later, flight_after_finish-later, after_idle-later, sent_by_retire-later, sent_by_copy-later}
 
 -- ---- tasks in flight
@@ -40,10 +39,14 @@ pub come_changed : (m : Numbered Flying) (t : ℕ) (x y : Flying) → get m t �
     → ComeFrom m (insert m t y)
 come_changed m t x y there same k z e =
     elim (from_inserted nat_order m t y k z e) [
-      | inl here ↦ (x, ap (get m) here.0 ∙ there, record {
-        task = ap (λ (w : Flying). w.task) here.1 ∙ same.task;
-        operands = ap (λ (w : Flying). map (λ r. r.operand) w.operands) here.1 ∙ same.operands;
-      })
+      | inl here ↦ (
+        x,
+        ap (get m) here.0 ∙ there,
+        record {
+          task = ap (λ (w : Flying). w.task) here.1 ∙ same.task;
+          operands = ap (λ (w : Flying). map (λ r. r.operand) w.operands) here.1 ∙ same.operands;
+        },
+      )
       | inr before ↦ all_come m k z before.1
     ]
 

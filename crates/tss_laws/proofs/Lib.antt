@@ -4,3 +4,5 @@ pub mod SpawnLemmas
 pub mod TakeLemmas
 pub mod RunLemmas
 pub mod NumberLemmas
+pub mod GatewayLemmas
+pub mod SlotLemmas

@@ -1,27 +1,24 @@
 -- Tasks have the numbers of their spawns.
-use Rattle.std.proofs.Common.{◌≡◌, ◌≢◌, ℕ, zero, suc, ◌+◌, ◌-◌, ◌<◌, ◌≤◌, ◌⊎◌, inl, inr, Bool, true, false, cond, List, [], ◌∷◌, map, length, Option, Some, None, refl, sym, ap, ◌∙◌, subst, arith}
+use Rattle.std.proofs.Common.{◌≡◌, ℕ, suc, ◌+◌, ◌≤◌, ◌⊎◌, inl, inr, Bool, true, false, List, [], ◌∷◌, map, length, Some, refl, sym, ap, ◌∙◌, subst, arith}
 use Rattle.std.specs.Prelude.{◌==◌, if◌then◌else◌}
 use Rattle.std.specs.Ordering.{nat_cmp}
-use Rattle.std.specs.FinMap.{get, insert, get-empty}
+use Rattle.std.specs.FinMap.{get, get-empty}
 use Rattle.std.proofs.lemmas.Bool.Decides.{nat_tests}
 use Rattle.std.proofs.lemmas.Option.{none-some, same_Some}
 use Rattle.tss_base.specs.declared.operand.OpName.{OpName}
 use Rattle.tss_base.specs.declared.operand.Operand.{Operand}
 use Rattle.tss_base.specs.declared.operand.Task.{Task}
 use Rattle.tss_base.specs.declared.machine.Machine.{Machine}
-use Rattle.tss_base.specs.declared.event.Event.{Event}
-use Rattle.tss_base.specs.declared.event.Event.TheVariants as event
 use Rattle.tss_base.specs.Image.{ImageState}
 use Rattle.tss_maps.proofs.Keys.{nat_order}
 use Rattle.tss_maps.proofs.Changes.{from_inserted}
 use Rattle.tss_model.specs.Access.{operands_of}
-use Rattle.tss_protocol.specs.State.{State, Flying, OperandState, initial_state}
+use Rattle.tss_protocol.specs.State.{State, Flying, initial_state}
 use Rattle.tss_protocol.specs.Stations.{new_operand, entered}
-use Rattle.tss_protocol.specs.UnitMachine.{IsEnabled, after_event}
-use Rattle.tss_laws.specs.Tasks.{spawned_after_event, task_at, taken_by, IsTaken, IsSpawned, IsNewest, IsInFlight, HasTaskNumbers, TaskNumbersLaw}
-use Rattle.tss_laws.proofs.FrontLemmas.{front_of, ComeFrom, all_come, IsSameTask, KeepsFront}
-use Rattle.tss_laws.proofs.SpawnLemmas.{SpawnsNothing, SpawnsOne, SpawnsAtMostOne, spawns_main}
-use Rattle.tss_laws.proofs.TakeLemmas.{TakesTask, takes_take, decodes_decode, acknowledges_ack}
+use Rattle.tss_laws.specs.Tasks.{task_at, taken_by, IsTaken, IsSpawned, IsNewest, IsInFlight, HasTaskNumbers, TaskNumbersLaw}
+use Rattle.tss_laws.proofs.FrontLemmas.{IsSameTask, KeepsFront}
+use Rattle.tss_laws.proofs.SpawnLemmas.{SpawnsOne}
+use Rattle.tss_laws.proofs.TakeLemmas.{TakesTask, DecodesOperand, AcknowledgesOperand}
 use Rattle.tss_laws.proofs.RunLemmas.{law_from, IsKept, kept_by_front}
 
 -- ---- the task of a number
@@ -91,32 +88,32 @@ numbers_kept m ts S T h k = record {
 
 -- ---- main's event
 
-numbers_spawned : (m : Machine) (ts us : List Task) (S T : State) → HasTaskNumbers m ts S
+pub numbers_spawned : (m : Machine) (ts us : List Task) (S T : State) → HasTaskNumbers m ts S
     → (p : SpawnsOne m ts us S T) → HasTaskNumbers m (p.task ∷ ts) T
 numbers_spawned m ts us S T h p = record {
-    spawned = ap (λ f. f.spawned) p.front ∙ ap suc h.spawned;
-    few = let s = ap (λ f. f.spawned) p.front in let room = p.next.room in omega (arith, s, room);
-    each = λ n t e. elim (from_task_at p.task ts n t e) [
-      | inl new ↦ subst (IsSpawned m n) new.1 (record {
-        number = let a = p.next.number in let b = new.0 in let c = h.spawned in omega (arith, a, b, c);
-        operands = p.next.operands;
-      })
-      | inr old ↦ h.each n t old
-    ];
-    inbox = λ t e.
-        let is : p.task ≡ t = same_Some p.task t (sym (ap (λ f. f.inbox) p.front) ∙ e) in
-        let number = ap (λ (x : Task). x.number) (sym is) ∙ p.next.number in
-        record {
-          number = number ∙ sym (ap (λ f. f.spawned) p.front);
-          task = at_newest p.task ts t.number (number ∙ ap suc h.spawned) ∙ ap Some is;
-        };
-    flight = λ n x e.
-        in_flight_still ts (p.task ∷ ts) S T n x x (record { task = refl; operands = refl })
-            (λ taken. subst (λ f. (1 ≤ n) × (n ≤ taken_by f.inbox f.spawned)) (sym p.front)
-            (taken.0, let a = ap (λ o. taken_by o S.main.spawned) p.empty in let b = taken.1 in omega (arith, a, b)))
-            (still_at p.task ts n x.task)
-            (h.flight n x (ap (λ f. get f n) (sym p.flight) ∙ e));
-  }
+  spawned = ap (λ f. f.spawned) p.front ∙ ap suc h.spawned;
+  few = let s = ap (λ f. f.spawned) p.front in let room = p.next.room in omega (arith, s, room);
+  each = λ n t e. elim (from_task_at p.task ts n t e) [
+    | inl new ↦ subst (IsSpawned m n) new.1 (record {
+      number = let a = p.next.number in let b = new.0 in let c = h.spawned in omega (arith, a, b, c);
+      operands = p.next.operands;
+    })
+    | inr old ↦ h.each n t old
+  ];
+  inbox = λ t e.
+      let is : p.task ≡ t = same_Some p.task t (sym (ap (λ f. f.inbox) p.front) ∙ e) in
+      let number = ap (λ (x : Task). x.number) (sym is) ∙ p.next.number in
+      record {
+        number = number ∙ sym (ap (λ f. f.spawned) p.front);
+        task = at_newest p.task ts t.number (number ∙ ap suc h.spawned) ∙ ap Some is;
+      };
+  flight = λ n x e.
+      in_flight_still ts (p.task ∷ ts) S T n x x (record { task = refl; operands = refl })
+      (λ taken. subst (λ f. (1 ≤ n) × (n ≤ taken_by f.inbox f.spawned)) (sym p.front)
+      (taken.0, let a = ap (λ o. taken_by o S.main.spawned) p.empty in let b = taken.1 in omega (arith, a, b)))
+      (still_at p.task ts n x.task)
+      (h.flight n x (ap (λ f. get f n) (sym p.flight) ∙ e));
+}
 
 -- ---- take
 
@@ -156,7 +153,7 @@ module _ (m : Machine) (ts : List Task) (S T : State) (h : HasTaskNumbers m ts S
     let a = last_taken_now in let b = taken_newest.number in omega (arith, a, b),
   )
 
-  numbers_take : HasTaskNumbers m ts T
+  pub numbers_take : HasTaskNumbers m ts T
   numbers_take = record {
     spawned = ap (λ f. f.spawned) p.front ∙ h.spawned;
     few = subst (λ f. f.spawned ≤ m.limits.max_tasks) (sym p.front) h.few;
@@ -193,22 +190,28 @@ numbers_same m ts S T h spawned inbox flight = record {
       record { number = newest.number ∙ sym spawned; task = newest.task };
   flight = λ n x e.
       in_flight_still ts ts S T n x x (record { task = refl; operands = refl })
-      (λ taken. (taken.0, let a : taken_by T.inbox T.main.spawned ≡ taken_by S.inbox S.main.spawned =
-      λ i. taken_by (inbox i) (spawned i) in let b = taken.1 in omega (arith, a, b)))
+      (λ taken. (
+        taken.0,
+        let a : taken_by T.inbox T.main.spawned ≡ taken_by S.inbox S.main.spawned =
+            λ i. taken_by (inbox i) (spawned i) in let b = taken.1 in omega (arith, a, b),
+      ))
       (λ at. at) (h.flight n x (ap (λ f. get f n) (sym flight) ∙ e));
 }
+
+pub numbers_decode : (m : Machine) (ts : List Task) (S T : State) (o : OpName) → HasTaskNumbers m ts S
+    → DecodesOperand S T o → HasTaskNumbers m ts T
+numbers_decode m ts S T o h d =
+    numbers_same m ts S T h (ap (λ f. f.spawned) d.front) (ap (λ f. f.inbox) d.front) d.flight
+
+pub numbers_ack : (m : Machine) (ts : List Task) (S T : State) (o : OpName) → HasTaskNumbers m ts S
+    → AcknowledgesOperand S T o → HasTaskNumbers m ts T
+numbers_ack m ts S T o h a =
+    numbers_same m ts S T h (ap (λ f. f.spawned) a.front) (ap (λ f. f.inbox) a.front) a.flight
 
 -- every event keeps it
 pub HasTaskNumbers-after_event : IsKept HasTaskNumbers
 HasTaskNumbers-after_event =
-    kept_by_front HasTaskNumbers
-    numbers_spawned
-    numbers_take
-    (λ m ts S T o h d.
-    numbers_same m ts S T h (ap (λ f. f.spawned) d.front) (ap (λ f. f.inbox) d.front) d.flight)
-    (λ m ts S T o h a.
-    numbers_same m ts S T h (ap (λ f. f.spawned) a.front) (ap (λ f. f.inbox) a.front) a.flight)
-    numbers_kept
+    kept_by_front HasTaskNumbers numbers_spawned numbers_take numbers_decode numbers_ack numbers_kept
 
 -- the first state has it
 pub HasTaskNumbers-initial_state : (m : Machine) (i : ImageState) → HasTaskNumbers m [] (initial_state i)

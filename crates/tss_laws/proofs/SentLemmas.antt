@@ -1,6 +1,5 @@
 -- What is sent: facts of each message of a list, and what they leave alone in the mail.
-use Rattle.std.proofs.Common.{◌≡◌, ℕ, zero, suc, Bool, true, false, if◌then◌else◌, List, [], ◌∷◌, ◌++◌, Option, Some, None, refl, ap, ◌∙◌}
-use Rattle.std.specs.Prelude.{not}
+use Rattle.std.proofs.Common.{◌≡◌, ℕ, zero, suc, Bool, true, false, if◌then◌else◌, List, [], ◌∷◌, ◌++◌, Option, Some, None, refl, ◌∙◌}
 use Rattle.std.specs.FinMap.{get}
 use Rattle.tss_base.specs.declared.operand.OpName.{OpName}
 use Rattle.tss_base.specs.declared.event.How.{How}
@@ -13,8 +12,8 @@ use Rattle.tss_protocol.specs.Mail.{StorageName, Home, Buffer, Source, ReleaseCo
 use Rattle.tss_base.specs.declared.range.Range.{Range}
 use Rattle.tss_protocol.specs.State.{Entry, OperandState, Flying, Version, CopyState}
 use Rattle.tss_protocol.specs.Stations.{sent_by_ready, sent_by_link, release_of, releases_from, after_ready, after_link, flight_after_finish, woken_in, woken_by, linked_in, linked_by, finished_in}
-use Rattle.tss_protocol.specs.Renaming.{may_retire, idle_by, after_idle}
-use Rattle.tss_protocol.specs.Versions.{Versioned, Settling, sending, ready_with, settle_beside, settle_over, settle_how, settle_by, settle_at, settle_asking, unchanged, settle, settled, may_ask, may_die, opened_how, opened_by, after_open, used_alone, used_behind, used_at, after_use, head_ready, released_by, released_at, after_release, nacked_at, after_nack}
+use Rattle.tss_protocol.specs.Renaming.{idle_by, after_idle}
+use Rattle.tss_protocol.specs.Versions.{Versioned, Settling, sending, ready_with, settle_how, settle_by, settle_at, settle_asking, unchanged, settle, settled, may_ask, may_die, opened_how, opened_by, after_open, used_alone, used_behind, used_at, after_use, head_ready, released_by, released_at, after_release, nacked_at, after_nack}
 use Rattle.tss_protocol.specs.Buffers.{sent_by_retire, sent_by_copy}
 use Rattle.tss_protocol.specs.Names.{operand_name}
 
@@ -124,8 +123,8 @@ module _ (vs : Named Version) (o : OpName) where
   released_by-later : (v : OpName) (x : Version) (producer : Bool) → AllSent IsLater (released_by vs o v x producer).sent
   released_by-later v x true =
       AllSent-append IsLater (head_ready v x x.head ++ Bye o false ∷ []) _
-          (AllSent-append IsLater (head_ready v x x.head) _ (head_ready-later v x x.head) (tt, tt))
-          (settled-later _ _)
+      (AllSent-append IsLater (head_ready v x x.head) _ (head_ready-later v x x.head) (tt, tt))
+      (settled-later _ _)
   released_by-later v x false = (tt, settled-later _ _)
 
   released_at-later : (v : OpName) (producer : Bool) (x : Option Version)
@@ -191,8 +190,8 @@ releases_from-later : (task place : ℕ) (rs : List OperandState) → AllSent Is
 releases_from-later task place [] = tt
 releases_from-later task place (r ∷ rs) =
     AllSent-append IsLater (release_of (operand_name task place) r r.source) _
-        (release_of-later (operand_name task place) r r.source)
-        (releases_from-later task (suc place) rs)
+    (release_of-later (operand_name task place) r r.source)
+    (releases_from-later task (suc place) rs)
 
 finished_in-later : (flight : Numbered Flying) (task : ℕ) (x : Option Flying)
     → AllSent IsLater (finished_in flight task x).sent

@@ -1,5 +1,5 @@
 -- What main's event does to the tasks: it spawns none, or one with the next number into an empty inbox.
-use Rattle.std.proofs.Common.{◌≡◌, ℕ, zero, suc, ◌+◌, ◌<◌, ◌≤◌, ◌⊎◌, inl, inr, Bool, true, false, ◌&&◌, not, if◌then◌else◌, List, [], ◌∷◌, ◌++◌, length, map, take, replicate, Option, Some, None, is_none, is_some, Result, Ok, Err, refl, sym, ap, ◌∙◌, subst, arith}
+use Rattle.std.proofs.Common.{◌≡◌, ℕ, zero, suc, ◌+◌, ◌<◌, ◌≤◌, ◌⊎◌, inl, inr, Bool, true, false, ◌&&◌, if◌then◌else◌, List, [], ◌∷◌, ◌++◌, length, take, replicate, Option, Some, None, is_none, is_some, Result, Ok, Err, refl, sym, ap, ◌∙◌, arith}
 use Rattle.std.specs.Prelude.{nat_lt, nat_le, ◌==◌, ◌-◌}
 use Rattle.std.specs.List.{list_any}
 use Rattle.std.proofs.lemmas.Bool.{and_parts, leb-false, ltb-false}
@@ -17,8 +17,8 @@ use Rattle.tss_model.specs.Registers.{trap_of}
 use Rattle.tss_model.specs.Causes.{epoch_full, list_place, load_denied, main_touch, main_budget_spent, output_full, too_many_operands, too_many_tasks}
 use Rattle.tss_model.specs.Core.{Stepped, Executed, Called, Ended, Trapped, Touched}
 use Rattle.tss_model.specs.TaskRun.{repeated}
-use Rattle.tss_model.specs.Spawn.{SpawnCall, Entry, after_first, entries_at, entries_checked, entry_checked, is_misplaced, list_range, merged_on, merged_operands, name_object, name_objects, no_operand, objects_of, same_range, seven, spawn_of, task_checked, task_of, with_rest}
-use Rattle.tss_model.specs.MainStep.{MainState, Flat, Call, ExitCall, Spawn, Barrier, Print, Unknown, has_spent, main_core, main_on, main_refused, main_step, main_stretch, main_trapped, output_of, print_done, print_range, print_some, print_call, call_done, spawn_call, spawn_on, main_call}
+use Rattle.tss_model.specs.Spawn.{SpawnCall, Entry, after_first, entries_at, entries_checked, entry_checked, is_misplaced, list_range, merged_on, merged_operands, name_object, name_objects, no_operand, objects_of, same_range, spawn_of, task_checked, task_of, with_rest}
+use Rattle.tss_model.specs.MainStep.{MainState, Flat, Call, ExitCall, Spawn, Barrier, Print, Unknown, has_spent, main_core, main_on, main_refused, main_step, main_trapped, output_of, print_done, print_range, print_some, print_call, call_done, spawn_call, spawn_on}
 use Rattle.tss_protocol.specs.State.{State}
 use Rattle.tss_protocol.specs.MainEvent.{flat_of, call_next, may_call, main_by, after_call}
 use Rattle.tss_protocol.specs.UnitMachine.{IsEnabled, is_enabled, after_event}

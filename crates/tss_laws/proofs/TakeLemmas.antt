@@ -1,6 +1,6 @@
 -- What take, decode and ack do to the front, and what stands under the names of a task's operands after its take.
-use Rattle.std.proofs.Common.{◌≡◌, ◌≢◌, ℕ, zero, suc, ◌+◌, ◌<◌, ◌≤◌, ◌⊎◌, inl, inr, Bool, true, false, List, [], ◌∷◌, map, Option, Some, None, refl, sym, ap, ◌∙◌, subst, arith}
-use Rattle.std.specs.Prelude.{◌==◌, ◌&&◌, slice_get, is_some}
+use Rattle.std.proofs.Common.{◌≡◌, ◌≢◌, ℕ, zero, suc, ◌+◌, ◌<◌, ◌⊎◌, inl, inr, true, List, [], ◌∷◌, Option, Some, None, refl, ap, ◌∙◌, arith}
+use Rattle.std.specs.Prelude.{◌==◌, slice_get, is_some}
 use Rattle.std.specs.FinMap.{get, insert, remove, len}
 use Rattle.std.proofs.lemmas.Bool.{and_parts}
 use Rattle.std.proofs.lemmas.Bool.Decides.{nat_tests}
@@ -16,12 +16,12 @@ use Rattle.tss_maps.proofs.Keys.{name_order}
 use Rattle.tss_maps.proofs.Changes.{at_inserted, beside_inserted, from_inserted}
 use Rattle.tss_model.specs.Access.{operands_of}
 use Rattle.tss_protocol.specs.Names.{operand_name}
-use Rattle.tss_protocol.specs.Mail.{Mail, posted, posted_all}
+use Rattle.tss_protocol.specs.Mail.{Mail, posted_all}
 use Rattle.tss_protocol.specs.State.{State, Entry}
-use Rattle.tss_protocol.specs.Gateway.{names_from, held_with, decodes_from, gateway_after_take}
+use Rattle.tss_protocol.specs.Gateway.{names_from, held_with, decodes_from}
 use Rattle.tss_protocol.specs.Stations.{has_slot, flight_after_take}
 use Rattle.tss_protocol.specs.Renaming.{decode_message, live_message}
-use Rattle.tss_protocol.specs.UnitMachine.{IsEnabled, is_enabled, after_event, can_take, after_take, without, can_decode_message, decode_message_taken, tables_of}
+use Rattle.tss_protocol.specs.UnitMachine.{IsEnabled, is_enabled, after_event, can_take, after_take, without, can_decode_message, decode_message_taken}
 use Rattle.tss_laws.proofs.SentLemmas.{IsLater, posted-later}
 use Rattle.tss_laws.proofs.FrontLemmas.{front_of}
 

@@ -12,3 +12,20 @@ ghost use Rattle.tss_laws.specs.Tasks.{TaskNumbersLaw, GatewayLaw, SlotsLaw, Dec
 pub fn task_numbers()
     ensures { TaskNumbersLaw }
 {}
+
+/// The gateway has operands of at most one task, which was taken. An operand is in it exactly where either its decode or
+/// its ack is under way, and never are both. A decode has the operand of its name.
+pub fn gateway()
+    ensures { GatewayLaw }
+{}
+
+/// No station ever has more tasks in flight than slots.
+pub fn slots()
+    ensures { SlotsLaw }
+{}
+
+/// Where an operand of a spawned task is still to be decoded, so is each operand of a later task on an object of the
+/// same bank: its task is in the inbox, or its decode is under way.
+pub fn decode_order()
+    ensures { DecodeOrderLaw }
+{}

@@ -1,4 +1,3 @@
--- tasks have the numbers of their spawns
 use Rattle.tss_laws.proofs.NumberLemmas.{numbers_of_runs}
 use Rattle.tss_laws.proofs.task_numbers.Goals as goal
 
