@@ -144,6 +144,16 @@ front_of S = record {
   acks = S.mail.acks;
 }
 
+-- the rest of what tells where tasks are: the tasks in flight, the queue and the workers
+pub record Back : Type 0 where
+  pub flight : Numbered Flying
+  pub queue : List ℕ
+  pub workers : Numbered Busy
+
+-- that of a state
+abbrev pub back_of : State → Back
+back_of S = record { flight = S.flight; queue = S.queue; workers = S.workers }
+
 -- the front hasn't changed, and each task in flight was in flight before
 pub record KeepsFront (S T : State) : Type 0 where
   pub front : front_of T ≡ front_of S

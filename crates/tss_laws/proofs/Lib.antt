@@ -6,3 +6,6 @@ pub mod RunLemmas
 pub mod NumberLemmas
 pub mod GatewayLemmas
 pub mod SlotLemmas
+pub mod BudgetLemmas
+pub mod BackLemmas
+pub mod StageLemmas

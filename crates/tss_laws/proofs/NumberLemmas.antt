@@ -112,7 +112,7 @@ numbers_spawned m ts us S T h p = record {
       (λ taken. subst (λ f. (1 ≤ n) × (n ≤ taken_by f.inbox f.spawned)) (sym p.front)
       (taken.0, let a = ap (λ o. taken_by o S.main.spawned) p.empty in let b = taken.1 in omega (arith, a, b)))
       (still_at p.task ts n x.task)
-      (h.flight n x (ap (λ f. get f n) (sym p.flight) ∙ e));
+      (h.flight n x (ap (λ b. get b.flight n) (sym p.back) ∙ e));
 }
 
 -- ---- take
@@ -160,7 +160,7 @@ module _ (m : Machine) (ts : List Task) (S T : State) (h : HasTaskNumbers m ts S
     each = h.each;
     inbox = λ t e. absurd (none-some t (sym (ap (λ f. f.inbox) p.front) ∙ e));
     flight = λ n y e.
-        elim (from_inserted nat_order S.flight p.task.number (entered p.task) n y (ap (λ f. get f n) (sym p.flight) ∙ e)) [
+        elim (from_inserted nat_order S.flight p.task.number (entered p.task) n y (ap (λ b. get b.flight n) (sym p.back) ∙ e)) [
           | inl here ↦ record {
             number = ap (λ (x : Flying). x.task.number) here.1 ∙ sym here.0;
             taken = subst (IsTaken T) (sym here.0) taken_itself;
@@ -179,7 +179,7 @@ module _ (m : Machine) (ts : List Task) (S T : State) (h : HasTaskNumbers m ts S
 -- ---- all events
 
 -- the front's inbox and counter, and the tasks in flight, are all of which it speaks
-numbers_same : (m : Machine) (ts : List Task) (S T : State) → HasTaskNumbers m ts S
+pub numbers_same : (m : Machine) (ts : List Task) (S T : State) → HasTaskNumbers m ts S
     → T.main.spawned ≡ S.main.spawned → T.inbox ≡ S.inbox → T.flight ≡ S.flight → HasTaskNumbers m ts T
 numbers_same m ts S T h spawned inbox flight = record {
   spawned = spawned ∙ h.spawned;
@@ -201,12 +201,12 @@ numbers_same m ts S T h spawned inbox flight = record {
 pub numbers_decode : (m : Machine) (ts : List Task) (S T : State) (o : OpName) → HasTaskNumbers m ts S
     → DecodesOperand S T o → HasTaskNumbers m ts T
 numbers_decode m ts S T o h d =
-    numbers_same m ts S T h (ap (λ f. f.spawned) d.front) (ap (λ f. f.inbox) d.front) d.flight
+    numbers_same m ts S T h (ap (λ f. f.spawned) d.front) (ap (λ f. f.inbox) d.front) (ap (λ b. b.flight) d.back)
 
 pub numbers_ack : (m : Machine) (ts : List Task) (S T : State) (o : OpName) → HasTaskNumbers m ts S
     → AcknowledgesOperand S T o → HasTaskNumbers m ts T
 numbers_ack m ts S T o h a =
-    numbers_same m ts S T h (ap (λ f. f.spawned) a.front) (ap (λ f. f.inbox) a.front) a.flight
+    numbers_same m ts S T h (ap (λ f. f.spawned) a.front) (ap (λ f. f.inbox) a.front) (ap (λ b. b.flight) a.back)
 
 -- every event keeps it
 pub HasTaskNumbers-after_event : IsKept HasTaskNumbers

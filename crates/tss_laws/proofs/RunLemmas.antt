@@ -50,7 +50,7 @@ law_from I P first kept so m i es S accepted admissible run =
 -- a spawn of nothing leaves the front alone
 keeps_by_nothing : (ts us : List Task) (S T : State) → SpawnsNothing ts us S T → KeepsFront S T
 keeps_by_nothing ts us S T q =
-    record { front = q.front; flight = subst (ComeFrom S.flight) (sym q.flight) (all_come S.flight) }
+    record { front = q.front; flight = subst (λ b. ComeFrom S.flight b.flight) (sym q.back) (all_come S.flight) }
 
 -- a fact is kept by every event where it is kept by what the events of the front do, and by what leaves the front alone
 module _ (I : TasksFact)

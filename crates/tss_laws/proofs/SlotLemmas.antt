@@ -69,7 +69,7 @@ slots_same m ts us S T h same station =
 slots_take : (m : Machine) (ts : List Task) (S T : State) → StaysWithinSlots m ts S → TakesTask m S T
     → StaysWithinSlots m ts T
 slots_take m ts S T h p station =
-    subst (λ flight. tasks_in m.sizes station flight ≤ m.sizes.slots) (sym p.flight)
+    subst (λ b. tasks_in m.sizes station b.flight ≤ m.sizes.slots) (sym p.back)
     (by (station_of m.sizes p.task.number == station) refl)
   where
     by : (b : Bool) → (station_of m.sizes p.task.number == station) ≡ b
@@ -94,10 +94,10 @@ slots_take m ts S T h p station =
 StaysWithinSlots-after_event : IsKept StaysWithinSlots
 StaysWithinSlots-after_event =
     kept_by_front StaysWithinSlots
-    (λ m ts us S T h p. slots_same m ts (p.task ∷ ts) S T h p.flight)
+    (λ m ts us S T h p. slots_same m ts (p.task ∷ ts) S T h (ap (λ b. b.flight) p.back))
     slots_take
-    (λ m ts S T o h d. slots_same m ts ts S T h d.flight)
-    (λ m ts S T o h a. slots_same m ts ts S T h a.flight)
+    (λ m ts S T o h d. slots_same m ts ts S T h (ap (λ b. b.flight) d.back))
+    (λ m ts S T o h a. slots_same m ts ts S T h (ap (λ b. b.flight) a.back))
     slots_kept
 
 -- no task is in flight at first

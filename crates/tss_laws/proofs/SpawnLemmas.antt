@@ -23,7 +23,7 @@ use Rattle.tss_protocol.specs.State.{State}
 use Rattle.tss_protocol.specs.MainEvent.{flat_of, call_next, may_call, main_by, after_call}
 use Rattle.tss_protocol.specs.UnitMachine.{IsEnabled, is_enabled, after_event}
 use Rattle.tss_laws.specs.Tasks.{with_spawned, spawned_by_main}
-use Rattle.tss_laws.proofs.FrontLemmas.{front_of}
+use Rattle.tss_laws.proofs.FrontLemmas.{front_of, back_of}
 
 -- ---- accepted spawns
 
@@ -174,7 +174,7 @@ spawned-print_call limits memory m r =
 pub record SpawnsNothing (ts us : List Task) (S T : State) : Type 0 where
   pub list : us ≡ ts
   pub front : front_of T ≡ front_of S
-  pub flight : T.flight ≡ S.flight
+  pub back : back_of T ≡ back_of S
 
 -- one is, into an empty inbox
 pub record SpawnsOne (m : Machine) (ts us : List Task) (S T : State) : Type 0 where
@@ -183,7 +183,7 @@ pub record SpawnsOne (m : Machine) (ts us : List Task) (S T : State) : Type 0 wh
   pub next : IsNext m.limits S.main.spawned task
   pub list : us ≡ task ∷ ts
   pub front : front_of T ≡ record (front_of S) { spawned = suc S.main.spawned; inbox = Some task }
-  pub flight : T.flight ≡ S.flight
+  pub back : back_of T ≡ back_of S
 
 -- one of both
 abbrev pub SpawnsAtMostOne : Machine → List Task → List Task → State → State → Type 0
@@ -197,14 +197,14 @@ module _ (m : Machine) (ts : List Task) (S : State) where
   spawns_by_call : (r : Result Task ℕ) → spawn_of (spawn_call S.main.registers) S.home S.main.epoch m.limits S.main.spawned ≡ r
       → S.inbox ≡ None
       → SpawnsAtMostOne m ts (with_spawned ts (spawn_on S.main r).1) S (after_call S (spawn_on S.main r))
-  spawns_by_call (Err n) e empty = inl (record { list = refl; front = refl; flight = refl })
+  spawns_by_call (Err n) e empty = inl (record { list = refl; front = refl; back = refl })
   spawns_by_call (Ok t) e empty = inr (record {
     task = t;
     empty = empty;
     next = IsNext-spawn_of (spawn_call S.main.registers) S.home S.main.epoch m.limits S.main.spawned t e;
     list = refl;
     front = refl;
-    flight = refl;
+    back = refl;
   })
 
   spawns_by : (c : Option Call) → may_call S c ≡ true
@@ -214,21 +214,21 @@ module _ (m : Machine) (ts : List Task) (S : State) where
     front = λ i. record (front_of S) {
       spawned = spawned-repeated S.code m.limits m.sizes.quantum (flat_of S) i;
     };
-    flight = refl;
+    back = refl;
   })
-  spawns_by (Some ExitCall) may = inl (record { list = refl; front = refl; flight = refl })
+  spawns_by (Some ExitCall) may = inl (record { list = refl; front = refl; back = refl })
   spawns_by (Some Spawn) may =
       spawns_by_call (spawn_of (spawn_call S.main.registers) S.home S.main.epoch m.limits S.main.spawned) refl
       (is_none-None S.inbox may)
-  spawns_by (Some Barrier) may = inl (record { list = refl; front = refl; flight = refl })
+  spawns_by (Some Barrier) may = inl (record { list = refl; front = refl; back = refl })
   spawns_by (Some Print) may = inl (record {
     list = refl;
     front = λ i. record (front_of S) {
       spawned = spawned-print_call m.limits S.home S.main (print_range S.main.registers) i;
     };
-    flight = refl;
+    back = refl;
   })
-  spawns_by (Some (Unknown n)) may = inl (record { list = refl; front = refl; flight = refl })
+  spawns_by (Some (Unknown n)) may = inl (record { list = refl; front = refl; back = refl })
 
   -- main's event spawns at most one task
   pub spawns_main : IsEnabled m S event.Main

@@ -19,11 +19,11 @@ use Rattle.tss_protocol.specs.Names.{operand_name}
 use Rattle.tss_protocol.specs.Mail.{Mail, posted_all}
 use Rattle.tss_protocol.specs.State.{State, Entry}
 use Rattle.tss_protocol.specs.Gateway.{names_from, held_with, decodes_from}
-use Rattle.tss_protocol.specs.Stations.{has_slot, flight_after_take}
+use Rattle.tss_protocol.specs.Stations.{has_slot, entered, flight_after_take}
 use Rattle.tss_protocol.specs.Renaming.{decode_message, live_message}
-use Rattle.tss_protocol.specs.UnitMachine.{IsEnabled, is_enabled, after_event, can_take, after_take, without, can_decode_message, decode_message_taken}
+use Rattle.tss_protocol.specs.UnitMachine.{IsEnabled, queue_with, is_queued, is_enabled, after_event, can_take, after_take, without, can_decode_message, decode_message_taken}
 use Rattle.tss_laws.proofs.SentLemmas.{IsLater, posted-later}
-use Rattle.tss_laws.proofs.FrontLemmas.{front_of}
+use Rattle.tss_laws.proofs.FrontLemmas.{front_of, back_of}
 
 -- ---- something for each of a task's operands, under its name
 
@@ -104,7 +104,11 @@ pub record TakesTask (m : Machine) (S T : State) : Type 0 where
     gateway = spread (λ o. tt) S.gateway task.number 0 (operands_of task);
     decodes = spread (λ o. o) S.mail.decodes task.number 0 (operands_of task);
   }
-  pub flight : T.flight ≡ flight_after_take S.flight task
+  pub back : back_of T
+      ≡ record (back_of S) {
+        flight = flight_after_take S.flight task;
+        queue = queue_with S.queue task.number (is_queued (entered task).stage);
+      }
 
 zero_from_test : (n : ℕ) → (n == 0) ≡ true → n ≡ 0
 zero_from_test n e = grind (arith, nat_tests)
@@ -126,7 +130,7 @@ takes_by m S (Some t) e on =
         decodes = sent.0 i;
         acks = sent.1 i;
       };
-      flight = refl;
+      back = refl;
     }
 
 -- an operand is decoded
@@ -135,7 +139,7 @@ pub record DecodesOperand (S T : State) (o : OpName) : Type 0 where
   pub there : get S.mail.decodes o ≡ Some operand
   pub front : front_of T
       ≡ record (front_of S) { decodes = remove S.mail.decodes o; acks = insert S.mail.acks o tt }
-  pub flight : T.flight ≡ S.flight
+  pub back : back_of T ≡ back_of S
 
 live_message-later : (o : OpName) (operand : Operand) (e : Entry) (mode : Mode)
     → IsLater (live_message o operand e mode)
@@ -158,14 +162,14 @@ decodes_by m S o (Some operand) e on =
       operand = operand;
       there = e;
       front = λ i. record (front_of S) { decodes = sent.0 i; acks = insert (sent.1 i) o tt };
-      flight = refl;
+      back = refl;
     }
 
 -- an operand is acknowledged
 pub record AcknowledgesOperand (S T : State) (o : OpName) : Type 0 where
   pub there : get S.mail.acks o ≡ Some tt
   pub front : front_of T ≡ record (front_of S) { gateway = remove S.gateway o; acks = remove S.mail.acks o }
-  pub flight : T.flight ≡ S.flight
+  pub back : back_of T ≡ back_of S
 
 some_unit : (o : Option (Unit {0})) → is_some o ≡ true → o ≡ Some tt
 some_unit None e = absurd (cc)
@@ -187,4 +191,4 @@ module _ (m : Machine) (S : State) where
   pub acknowledges_ack : (o : OpName) → IsEnabled m S (event.Ack o)
       → AcknowledgesOperand S (after_event m S (event.Ack o)) o
   unfolding is_enabled after_event
-  acknowledges_ack o on = record { there = some_unit (get S.mail.acks o) on; front = refl; flight = refl }
+  acknowledges_ack o on = record { there = some_unit (get S.mail.acks o) on; front = refl; back = refl }

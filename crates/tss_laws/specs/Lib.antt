@@ -4,3 +4,4 @@ pub mod Progress
 pub mod Bound
 pub mod NoFalseWait
 pub mod Tasks
+pub mod Stages

@@ -4,6 +4,7 @@
 #![tactic(auto)]
 
 ghost use Rattle.tss_laws.specs.Tasks.{TaskNumbersLaw, GatewayLaw, SlotsLaw, DecodeOrderLaw};
+ghost use Rattle.tss_laws.specs.Stages.{StagesLaw};
 
 /// Spawned tasks are numbered from 1 in their order, at most as many as there may be, and each with at most as many
 /// operands as it may have. The inbox has none but the last of them. A task in flight stands under its number and was
@@ -28,4 +29,12 @@ pub fn slots()
 /// same bank: its task is in the inbox, or its decode is under way.
 pub fn decode_order()
     ensures { DecodeOrderLaw }
+{}
+
+/// A task in flight waits exactly where one of its operands isn't ready, one that is queued is in the ready queue, and
+/// one that runs is on a worker. What is in the queue or on a worker was taken and has its operands. A busy worker is
+/// one of the machine's, has a storage for each operand of its task, and has completed no more instructions than a task
+/// may.
+pub fn stages()
+    ensures { StagesLaw }
 {}
