@@ -21,7 +21,7 @@ use Rattle.tss_laws.proofs.FrontLemmas.{Front, front_of, Back, back_of, KeepsFro
 use Rattle.tss_laws.proofs.SpawnLemmas.{SpawnsOne, SpawnsAtMostOne, spawns_main}
 use Rattle.tss_laws.proofs.TakeLemmas.{TakesTask, takes_take, decodes_decode, acknowledges_ack}
 use Rattle.tss_laws.proofs.BudgetLemmas.{within-stretch}
-use Rattle.tss_laws.proofs.RunLemmas.{IsKept}
+use Rattle.tss_laws.proofs.RunLemmas.{IsKeptAs}
 
 -- where tasks stand
 pub record Standing : Type 0 where
@@ -295,45 +295,45 @@ module _ (m : Machine) (S : State) where
 pub standing_same : (S T : State) → KeepsFront S T → back_of T ≡ back_of S → standing_of T ≡ standing_of S
 standing_same S T k b i = standing_by (k.front i) (b i)
 
--- a fact is kept by every event where it is kept by each of these changes, the front being left alone
-module _ (I : TasksFact)
+-- a fact is kept by every event, maybe as another one, where it is by each of these changes, the front being left alone
+module _ (I J : TasksFact)
     (spawns : (m : Machine) (ts us : List Task) (S T : State) → I m ts S → (p : SpawnsOne m ts us S T)
-    → I m (p.task ∷ ts) T)
-    (takes : (m : Machine) (ts : List Task) (S T : State) → I m ts S → TakesTask m S T → I m ts T)
+    → J m (p.task ∷ ts) T)
+    (takes : (m : Machine) (ts : List Task) (S T : State) → I m ts S → TakesTask m S T → J m ts T)
     (readies_one : (m : Machine) (ts : List Task) (S T : State) (o : OpName) → I m ts S → KeepsFront S T
-    → ReadiesOperand S T o → I m ts T)
+    → ReadiesOperand S T o → J m ts T)
     (changes : (m : Machine) (ts : List Task) (S T : State) (n : ℕ) → I m ts S → KeepsFront S T → ChangesTask S T n
-    → I m ts T)
+    → J m ts T)
     (starts_one : (m : Machine) (ts : List Task) (S T : State) (w : ℕ) → I m ts S → KeepsFront S T
-    → StartsTask m S T w → I m ts T)
+    → StartsTask m S T w → J m ts T)
     (executes_one : (m : Machine) (ts : List Task) (S T : State) (w : ℕ) → I m ts S → KeepsFront S T
-    → ExecutesTask m S T w → I m ts T)
+    → ExecutesTask m S T w → J m ts T)
     (finishes_one : (m : Machine) (ts : List Task) (S T : State) (w : ℕ) → I m ts S → KeepsFront S T
-    → FinishesTask S T w → I m ts T)
-    (stands : (m : Machine) (ts : List Task) (S T : State) → I m ts S → standing_of T ≡ standing_of S → I m ts T)
+    → FinishesTask S T w → J m ts T)
+    (stands : (m : Machine) (ts : List Task) (S T : State) → I m ts S → standing_of T ≡ standing_of S → J m ts T)
   where
     module _ (m : Machine) (ts : List Task) (S : State) (h : I m ts S) where
-      by_main : (us : List Task) (T : State) → SpawnsAtMostOne m ts us S T → I m us T
+      by_main : (us : List Task) (T : State) → SpawnsAtMostOne m ts us S T → J m us T
       by_main us T (inl q) =
-          subst (λ us. I m us T) (sym q.list) (stands m ts S T h (λ i. standing_by (q.front i) (q.back i)))
-      by_main us T (inr p) = subst (λ us. I m us T) (sym p.list) (spawns m ts us S T h p)
+          subst (λ us. J m us T) (sym q.list) (stands m ts S T h (λ i. standing_by (q.front i) (q.back i)))
+      by_main us T (inr p) = subst (λ us. J m us T) (sym p.list) (spawns m ts us S T h p)
 
-      by_ready : (o : OpName) (T : State) → KeepsFront S T → ReadiesAtMost S T o → I m ts T
+      by_ready : (o : OpName) (T : State) → KeepsFront S T → ReadiesAtMost S T o → J m ts T
       by_ready o T k (inl same) = stands m ts S T h (standing_same S T k same)
       by_ready o T k (inr c) = readies_one m ts S T o h k c
 
-      by_change : (n : ℕ) (T : State) → KeepsFront S T → ChangesAtMost S T n → I m ts T
+      by_change : (n : ℕ) (T : State) → KeepsFront S T → ChangesAtMost S T n → J m ts T
       by_change n T k (inl same) = stands m ts S T h (standing_same S T k same)
       by_change n T k (inr c) = changes m ts S T n h k c
 
-      by_start : (w : ℕ) (T : State) → KeepsFront S T → (back_of T ≡ back_of S) ⊎ StartsTask m S T w → I m ts T
+      by_start : (w : ℕ) (T : State) → KeepsFront S T → (back_of T ≡ back_of S) ⊎ StartsTask m S T w → J m ts T
       by_start w T k (inl same) = stands m ts S T h (standing_same S T k same)
       by_start w T k (inr c) = starts_one m ts S T w h k c
 
-      by_same : (T : State) → KeepsFront S T → back_of T ≡ back_of S → I m ts T
+      by_same : (T : State) → KeepsFront S T → back_of T ≡ back_of S → J m ts T
       by_same T k same = stands m ts S T h (standing_same S T k same)
 
-    pub kept_by_standing : IsKept I
+    pub kept_by_standing : IsKeptAs I J
     unfolding is_enabled after_event
     kept_by_standing m ts S event.Main h on =
         by_main m ts S h (spawned_by_main m S ts (call_next m S)) _ (spawns_main m ts S on)

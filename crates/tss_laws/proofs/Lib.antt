@@ -9,3 +9,5 @@ pub mod SlotLemmas
 pub mod BudgetLemmas
 pub mod BackLemmas
 pub mod StageLemmas
+pub mod StageEvents
+pub mod PlaceLemmas

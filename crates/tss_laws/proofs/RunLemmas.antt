@@ -17,13 +17,17 @@ use Rattle.tss_laws.proofs.FrontLemmas.{all_come, ComeFrom, KeepsFront, KeepsFro
 use Rattle.tss_laws.proofs.SpawnLemmas.{SpawnsNothing, SpawnsOne, SpawnsAtMostOne, spawns_main}
 use Rattle.tss_laws.proofs.TakeLemmas.{TakesTask, takes_take, DecodesOperand, decodes_decode, AcknowledgesOperand, acknowledges_ack}
 
--- each enabled event keeps the fact
-abbrev pub IsKept : TasksFact → Type 0
-IsKept I =
+-- what the first fact says of a state, the second says after each enabled event
+abbrev pub IsKeptAs : TasksFact → TasksFact → Type 0
+IsKeptAs I J =
     (m : Machine) (ts : List Task) (S : State) (e : Event)
     → I m ts S
     → IsEnabled m S e
-    → I m (spawned_after_event m S ts e) (after_event m S e)
+    → J m (spawned_after_event m S ts e) (after_event m S e)
+
+-- each enabled event keeps the fact
+abbrev pub IsKept : TasksFact → Type 0
+IsKept I = IsKeptAs I I
 
 -- so a list of events does
 pub kept_after : (I : TasksFact) → IsKept I → (m : Machine) (es : List Event) (ts : List Task) (S T : State)

@@ -1,37 +1,27 @@
 -- Each task in flight stands where its stage says, and what is queued or runs has its operands.
-use Rattle.std.proofs.Common.{◌≡◌, ◌≢◌, ◌↔◌, ℕ, suc, ◌<◌, ◌≤◌, ◌⊎◌, inl, inr, Bool, true, false, if◌then◌else◌, List, [], ◌∷◌, ◌++◌, map, length, Option, Some, None, refl, sym, ap, ◌∙◌, subst, arith, true≢false}
+use Rattle.std.proofs.Common.{◌≡◌, ◌≢◌, ◌↔◌, ℕ, ◌<◌, ◌≤◌, ◌⊎◌, inl, inr, Bool, true, false, if◌then◌else◌, List, [], ◌∷◌, ◌++◌, map, length, Option, Some, None, refl, sym, ap, ◌∙◌, subst, arith, true≢false}
 use Rattle.std.specs.Prelude.{◌==◌}
 use Rattle.std.specs.List.{list_any}
-use Rattle.std.specs.Ordering.{nat_cmp}
-use Rattle.std.specs.FinMap.{get, insert, remove, get-empty}
+use Rattle.std.specs.FinMap.{get, insert, remove}
 use Rattle.std.proofs.lemmas.Bool.{or_cases, or_left, or_right}
 use Rattle.std.proofs.lemmas.Bool.Decides.{nat_tests}
-use Rattle.std.proofs.lemmas.List.{length-map}
 use Rattle.std.proofs.lemmas.List.Folds.{list_any-append}
 use Rattle.std.proofs.lemmas.Option.{none-some, same_Some}
-use Rattle.tss_base.specs.declared.operand.OpName.{OpName}
 use Rattle.tss_base.specs.declared.operand.Operand.{Operand}
 use Rattle.tss_base.specs.declared.operand.Task.{Task}
 use Rattle.tss_base.specs.declared.machine.Machine.{Machine}
 use Rattle.tss_base.specs.declared.event.Stage.{Stage}
 use Rattle.tss_base.specs.declared.event.Stage.TheVariants as stage
-use Rattle.tss_base.specs.Image.{ImageState}
 use Rattle.tss_base.specs.Names.{Numbered}
 use Rattle.tss_maps.proofs.Keys.{nat_order, decide_key}
 use Rattle.tss_maps.proofs.Changes.{at_inserted, beside_inserted, from_inserted, beside_removed, from_removed}
 use Rattle.tss_model.specs.Access.{operands_of}
-use Rattle.tss_protocol.specs.State.{State, Flying, Busy, initial_state}
-use Rattle.tss_protocol.specs.Stations.{is_complete, is_gone, remaining_tasks, task_after_ready, new_operand, first_stage, entered, flight_after_take, flight_after_start, finished_in, storages_of}
+use Rattle.tss_protocol.specs.State.{Flying, Busy}
+use Rattle.tss_protocol.specs.Stations.{is_complete, is_gone, remaining_tasks, new_operand, first_stage, entered, flight_after_take, flight_after_start, finished_in, storages_of}
 use Rattle.tss_protocol.specs.Workers.{busy_at_start}
 use Rattle.tss_protocol.specs.UnitMachine.{queue_with, is_queued}
-use Rattle.tss_laws.specs.Tasks.{task_at, taken_by, HasTaskNumbers, IsInFlight}
-use Rattle.tss_laws.specs.Stages.{HasStages, StagesLaw}
-use Rattle.tss_laws.proofs.FrontLemmas.{KeepsFront}
-use Rattle.tss_laws.proofs.SpawnLemmas.{SpawnsOne}
-use Rattle.tss_laws.proofs.TakeLemmas.{TakesTask}
-use Rattle.tss_laws.proofs.RunLemmas.{IsKept, law_from}
-use Rattle.tss_laws.proofs.NumberLemmas.{still_at, taken_newest, last_taken_now, last_taken_before, taken_itself, numbers_same, numbers_spawned, numbers_take, numbers_kept, HasTaskNumbers-initial_state}
-use Rattle.tss_laws.proofs.BackLemmas.{Standing, standing_by, standing_of, still_ready-slice_set, ReadiesOperand, ChangesTask, StartsTask, ExecutesTask, FinishesTask, kept_by_standing}
+use Rattle.tss_laws.specs.Tasks.{task_at, taken_by}
+use Rattle.tss_laws.proofs.BackLemmas.{Standing}
 
 -- ---- the queue
 
@@ -40,19 +30,19 @@ abbrev pub in_queue : ℕ → List ℕ → Bool
 in_queue n queue = list_any (λ k. k == n) queue
 
 -- with one more, where it is queued
-still_queued : (queue : List ℕ) (t : ℕ) (c : Bool) (n : ℕ) → in_queue n queue ≡ true
+pub still_queued : (queue : List ℕ) (t : ℕ) (c : Bool) (n : ℕ) → in_queue n queue ≡ true
     → in_queue n (queue_with queue t c) ≡ true
 still_queued queue t true n e =
     list_any-append (λ k. k == n) queue (t ∷ []) ∙ or_left (in_queue n queue) (in_queue n (t ∷ [])) e
 still_queued queue t false n e = e
 
-now_queued : (queue : List ℕ) (t : ℕ) → in_queue t (queue ++ t ∷ []) ≡ true
+pub now_queued : (queue : List ℕ) (t : ℕ) → in_queue t (queue ++ t ∷ []) ≡ true
 now_queued queue t =
     let same : (t == t) ≡ true = grind (arith, nat_tests) in
     list_any-append (λ k. k == t) queue (t ∷ [])
     ∙ or_right (in_queue t queue) (in_queue t (t ∷ [])) (or_left (t == t) false same)
 
-from_queue : (queue : List ℕ) (t : ℕ) (c : Bool) (n : ℕ) → in_queue n (queue_with queue t c) ≡ true
+pub from_queue : (queue : List ℕ) (t : ℕ) (c : Bool) (n : ℕ) → in_queue n (queue_with queue t c) ≡ true
     → (in_queue n queue ≡ true) ⊎ ((n ≡ t) × (c ≡ true))
 from_queue queue t false n e = inl e
 from_queue queue t true n e =
@@ -65,14 +55,14 @@ from_queue queue t true n e =
     ]
 
 -- behind the front
-from_rest : (t : ℕ) (ts : List ℕ) (n : ℕ) → in_queue n (t ∷ ts) ≡ true → n ≢ t → in_queue n ts ≡ true
+pub from_rest : (t : ℕ) (ts : List ℕ) (n : ℕ) → in_queue n (t ∷ ts) ≡ true → n ≢ t → in_queue n ts ≡ true
 from_rest t ts n e other =
     elim (or_cases (t == n) (in_queue n ts) e) [
       | inl same ↦ let is : n ≡ t = grind (arith, nat_tests) in absurd (other is)
       | inr rest ↦ rest
     ]
 
-at_front : (t : ℕ) (ts : List ℕ) → in_queue t (t ∷ ts) ≡ true
+pub at_front : (t : ℕ) (ts : List ℕ) → in_queue t (t ∷ ts) ≡ true
 at_front t ts = let same : (t == t) ≡ true = grind (arith, nat_tests) in or_left (t == t) (in_queue t ts) same
 
 -- ---- the invariant, over where tasks stand
@@ -127,22 +117,22 @@ pub record Stages (m : Machine) (ts : List Task) (p : Standing) : Type 0 where
 
 -- ---- stages
 
-waiting≢queued : stage.Waiting ≡ stage.Queued → ⊥
+pub waiting≢queued : stage.Waiting ≡ stage.Queued → ⊥
 waiting≢queued e = cc
 
-waiting≢running : stage.Waiting ≡ stage.Running → ⊥
+pub waiting≢running : stage.Waiting ≡ stage.Running → ⊥
 waiting≢running e = cc
 
-queued≢running : stage.Queued ≡ stage.Running → ⊥
+pub queued≢running : stage.Queued ≡ stage.Running → ⊥
 queued≢running e = cc
 
-waiting≢finished : stage.Waiting ≡ stage.Finished → ⊥
+pub waiting≢finished : stage.Waiting ≡ stage.Finished → ⊥
 waiting≢finished e = cc
 
-queued≢finished : stage.Queued ≡ stage.Finished → ⊥
+pub queued≢finished : stage.Queued ≡ stage.Finished → ⊥
 queued≢finished e = cc
 
-running≢finished : stage.Running ≡ stage.Finished → ⊥
+pub running≢finished : stage.Running ≡ stage.Finished → ⊥
 running≢finished e = cc
 
 -- a complete task at another stage doesn't wait
@@ -171,6 +161,39 @@ complete_changed m k n x y there changes still q h z e =
       | inl here ↦ ap is_complete here.1 ∙ still (h x (ap (get m) here.0 ∙ there))
       | inr before ↦ h z before.1
     ]
+
+-- ---- a task that is taken
+
+-- a new task waits, or is queued where it has no operands
+entered_waits : (t : Task) (os : List Operand) → operands_of t ≡ os → WaitsForOperands (entered t)
+entered_waits t [] e =
+    let at = ap first_stage e in
+    past_waiting (entered t) (ap (λ os. is_complete (record (entered t) { operands = map new_operand os })) e)
+    (λ w. waiting≢queued (sym w ∙ at))
+entered_waits t (o ∷ os) e = (
+  λ w. ap (λ os. is_complete (record (entered t) { operands = map new_operand os })) e,
+  λ c. ap first_stage e,
+)
+
+entered_never_runs : (t : Task) (os : List Operand) → operands_of t ≡ os → (entered t).stage ≡ stage.Running → ⊥
+entered_never_runs t [] e at = queued≢running (sym (ap first_stage e) ∙ at)
+entered_never_runs t (o ∷ os) e at = waiting≢running (sym (ap first_stage e) ∙ at)
+
+pub queued_from_test : (s : Stage) → is_queued s ≡ true → s ≡ stage.Queued
+queued_from_test stage.Waiting e = absurd (true≢false (sym e))
+queued_from_test stage.Queued e = refl
+queued_from_test stage.Running e = absurd (true≢false (sym e))
+queued_from_test stage.Finished e = absurd (true≢false (sym e))
+
+complete_where_queued : (t : Task) → is_queued (entered t).stage ≡ true → is_complete (entered t) ≡ true
+complete_where_queued t e = by (operands_of t) refl
+  where
+    by : (os : List Operand) → operands_of t ≡ os → is_complete (entered t) ≡ true
+    by [] is = ap (λ os. is_complete (record (entered t) { operands = map new_operand os })) is
+    by (o ∷ os) is =
+        absurd (waiting≢queued (sym (ap first_stage is) ∙ queued_from_test (entered t).stage e))
+
+-- ---- events
 
 module _ (m : Machine) (ts : List Task) (p : Standing) (h : Stages m ts p) where
   -- a change of a task in flight, of the queue and of the workers
@@ -229,14 +252,14 @@ module _ (m : Machine) (ts : List Task) (p : Standing) (h : Stages m ts p) where
     queued_if c = if c then record y { stage = stage.Queued } else y
 
     -- one that isn't complete wasn't before, so it waits
-    not_before : is_complete y ≡ false → y.stage ≡ stage.Waiting
+    pub not_before : is_complete y ≡ false → y.stage ≡ stage.Waiting
     not_before e = by (is_complete x) refl
       where
         by : (b : Bool) → is_complete x ≡ b → y.stage ≡ stage.Waiting
         by true before = absurd (true≢false (sym (still before) ∙ e))
         by false before = same ∙ (h.waiting n x there).1 before
 
-    stages_readied_by : (c : Bool) → is_complete y ≡ c
+    pub stages_readied_by : (c : Bool) → is_complete y ≡ c
         → Stages m ts (record p {
           flight = insert p.flight n (queued_if c);
           queue = queue_with p.queue n c;
@@ -261,7 +284,7 @@ module _ (m : Machine) (ts : List Task) (p : Standing) (h : Stages m ts p) where
         (λ q other i. i) (λ q other on. on) (λ q i. inl i) h.workers
 
   -- link, bye: the task goes on at its stage
-  stages_went_on : (n : ℕ) (x y : Flying) → get p.flight n ≡ Some x → y.stage ≡ x.stage → is_complete y ≡ is_complete x
+  pub stages_went_on : (n : ℕ) (x y : Flying) → get p.flight n ≡ Some x → y.stage ≡ x.stage → is_complete y ≡ is_complete x
       → Stages m ts (record p { flight = remaining_tasks p.flight n y })
   stages_went_on n x y there same complete =
       let before = h.waiting n x there in
@@ -271,7 +294,7 @@ module _ (m : Machine) (ts : List Task) (p : Standing) (h : Stages m ts p) where
       (λ q other i. i) (λ q other on. on) (λ q i. inl i) h.workers
 
   -- start: the front task is on a worker that was idle
-  stages_started : (w t : ℕ) (rest : List ℕ) (x : Flying) → p.queue ≡ t ∷ rest → get p.workers w ≡ None
+  pub stages_started : (w t : ℕ) (rest : List ℕ) (x : Flying) → p.queue ≡ t ∷ rest → get p.workers w ≡ None
       → w < m.sizes.workers → get p.flight t ≡ Some x → task_at ts x.task.number ≡ Some x.task → x.task.number ≡ t
       → length (storages_of x) ≡ length (operands_of x.task)
       → Stages m ts (record p {
@@ -311,7 +334,7 @@ module _ (m : Machine) (ts : List Task) (p : Standing) (h : Stages m ts p) where
       ])
 
   -- exec: a worker goes on with its task
-  stages_executed : (w : ℕ) (b c : Busy) → get p.workers w ≡ Some b → c.task ≡ b.task → c.storages ≡ b.storages
+  pub stages_executed : (w : ℕ) (b c : Busy) → get p.workers w ≡ Some b → c.task ≡ b.task → c.storages ≡ b.storages
       → (b.registers.done ≤ m.limits.task_budget → c.registers.done ≤ m.limits.task_budget)
       → Stages m ts (record p { workers = insert p.workers w c })
   stages_executed w b c there task storages within = record {
@@ -358,7 +381,7 @@ module _ (m : Machine) (ts : List Task) (p : Standing) (h : Stages m ts p) where
       ∙ number) in
       (on.0, on.1, beside_removed nat_order p.workers w on.0 apart ∙ on.2, on.3)
 
-  stages_finished_in : (w : ℕ) (b : Busy) (x : Option Flying) → get p.workers w ≡ Some b
+  pub stages_finished_in : (w : ℕ) (b : Busy) (x : Option Flying) → get p.workers w ≡ Some b
       → get p.flight b.task.number ≡ x
       → Stages m ts (record p {
         flight = (finished_in p.flight b.task.number x).part;
@@ -389,7 +412,7 @@ module _ (m : Machine) (ts : List Task) (p : Standing) (h : Stages m ts p) where
   -- ---- spawn, take
 
   -- the counter and the inbox change, and no task that was taken is no longer
-  stages_moved : (us : List Task) (spawned : ℕ) (inbox : Option Task)
+  pub stages_moved : (us : List Task) (spawned : ℕ) (inbox : Option Task)
       → ((n : ℕ) → TakenBy p n → (1 ≤ n) × (n ≤ taken_by inbox spawned))
       → ((n : ℕ) (t : Task) → task_at ts n ≡ Some t → task_at us n ≡ Some t)
       → Stages m us (record p { spawned = spawned; inbox = inbox })
@@ -402,35 +425,6 @@ module _ (m : Machine) (ts : List Task) (p : Standing) (h : Stages m ts p) where
         works_now m ts us p (record p { spawned = spawned; inbox = inbox }) w b (h.workers w b e)
         (at b.task.number b.task) (taken b.task.number) (λ taken complete. complete);
   }
-
-  -- a new task waits, or is queued where it has no operands
-  entered_waits : (t : Task) (os : List Operand) → operands_of t ≡ os → WaitsForOperands (entered t)
-  entered_waits t [] e =
-      let at = ap first_stage e in
-      past_waiting (entered t) (ap (λ os. is_complete (record (entered t) { operands = map new_operand os })) e)
-      (λ w. waiting≢queued (sym w ∙ at))
-  entered_waits t (o ∷ os) e = (
-    λ w. ap (λ os. is_complete (record (entered t) { operands = map new_operand os })) e,
-    λ c. ap first_stage e,
-  )
-
-  entered_never_runs : (t : Task) (os : List Operand) → operands_of t ≡ os → (entered t).stage ≡ stage.Running → ⊥
-  entered_never_runs t [] e at = queued≢running (sym (ap first_stage e) ∙ at)
-  entered_never_runs t (o ∷ os) e at = waiting≢running (sym (ap first_stage e) ∙ at)
-
-  queued_from_test : (s : Stage) → is_queued s ≡ true → s ≡ stage.Queued
-  queued_from_test stage.Waiting e = absurd (true≢false (sym e))
-  queued_from_test stage.Queued e = refl
-  queued_from_test stage.Running e = absurd (true≢false (sym e))
-  queued_from_test stage.Finished e = absurd (true≢false (sym e))
-
-  complete_where_queued : (t : Task) → is_queued (entered t).stage ≡ true → is_complete (entered t) ≡ true
-  complete_where_queued t e = by (operands_of t) refl
-    where
-      by : (os : List Operand) → operands_of t ≡ os → is_complete (entered t) ≡ true
-      by [] is = ap (λ os. is_complete (record (entered t) { operands = map new_operand os })) is
-      by (o ∷ os) is =
-          absurd (waiting≢queued (sym (ap first_stage is) ∙ queued_from_test (entered t).stage e))
 
   -- take: a task comes into flight that wasn't taken before
   module _ (t : Task) (new : TakenBy p t.number → ⊥) (now : (1 ≤ t.number) × (t.number ≤ p.spawned))
@@ -456,7 +450,7 @@ module _ (m : Machine) (ts : List Task) (p : Standing) (h : Stages m ts p) where
           | inr old ↦ absurd (old.0 refl)
         ]
 
-    stages_taken : Stages m ts after
+    pub stages_taken : Stages m ts after
     stages_taken = record {
       waiting = λ n x e. elim (from_inserted nat_order p.flight t.number (entered t) n x e) [
         | inl here ↦ subst WaitsForOperands (sym here.1) (entered_waits t (operands_of t) refl)
@@ -486,135 +480,3 @@ module _ (m : Machine) (ts : List Task) (p : Standing) (h : Stages m ts p) where
           works_now m ts ts p after w b (h.workers w b e) (λ at. at) (taken b.task.number)
           (still_complete b.task.number);
     }
-
--- ---- all events
-
--- with the tasks' numbers
-abbrev pub IsStaged : Machine → List Task → State → Type 0
-IsStaged m ts S = HasTaskNumbers m ts S × Stages m ts (standing_of S)
-
-staged_spawned : (m : Machine) (ts us : List Task) (S T : State) → IsStaged m ts S → (p : SpawnsOne m ts us S T)
-    → IsStaged m (p.task ∷ ts) T
-staged_spawned m ts us S T h p = (
-  numbers_spawned m ts us S T h.0 p,
-  subst (Stages m (p.task ∷ ts)) (λ i. standing_by (sym p.front i) (sym p.back i))
-      (stages_moved m ts (standing_of S) h.1 (p.task ∷ ts) (suc S.main.spawned) (Some p.task)
-      (λ n taken. (
-        taken.0,
-        let a = ap (λ o. taken_by o S.main.spawned) p.empty in let b = taken.1 in omega (arith, a, b),
-      ))
-      (still_at p.task ts)),
-)
-
-staged_taken : (m : Machine) (ts : List Task) (S T : State) → IsStaged m ts S → TakesTask m S T → IsStaged m ts T
-staged_taken m ts S T h p = (
-  numbers_take m ts S T h.0 p,
-  subst (Stages m ts) (λ i. standing_by (sym p.front i) (sym p.back i))
-      (stages_taken m ts (standing_of S) h.1 p.task
-      (λ taken.
-      let a = last_taken_before m ts S T h.0 p in
-      let b = (taken_newest m ts S T h.0 p).number in
-      let c = taken.1 in
-      omega (arith, a, b, c))
-      (let r = taken_itself m ts S T h.0 p in
-      let a = last_taken_now m ts S T h.0 p in let b = r.1 in (r.0, omega (arith, a, b)))
-      (λ n taken.
-      let a = last_taken_before m ts S T h.0 p in let b = taken.1 in (taken.0, omega (arith, a, b)))),
-)
-
-staged_readied : (m : Machine) (ts : List Task) (S T : State) (o : OpName) → IsStaged m ts S → KeepsFront S T
-    → ReadiesOperand S T o → IsStaged m ts T
-staged_readied m ts S T o h k c =
-    let y = task_after_ready c.task o.place c.operand c.source in (
-      numbers_kept m ts S T h.0 k,
-      subst (Stages m ts) (λ i. standing_by (sym k.front i) (sym c.back i))
-          (stages_readied_by m ts (standing_of S) h.1 o.task c.task y c.there (h.0.flight o.task c.task c.there).taken
-          refl (λ all. still_ready-slice_set c.task.operands o.place _ all refl) (is_complete y) refl),
-    )
-
-staged_changed : (m : Machine) (ts : List Task) (S T : State) (n : ℕ) → IsStaged m ts S → KeepsFront S T
-    → ChangesTask S T n → IsStaged m ts T
-staged_changed m ts S T n h k c = (
-  numbers_kept m ts S T h.0 k,
-  subst (Stages m ts) (λ i. standing_by (sym k.front i) (sym c.back i))
-      (stages_went_on m ts (standing_of S) h.1 n c.task c.changed c.there c.stage c.complete),
-)
-
--- a task in flight has as many storages as operands
-length-storages : (ts : List Task) (S : State) (n : ℕ) (x : Flying) → IsInFlight ts S n x
-    → length (storages_of x) ≡ length (operands_of x.task)
-length-storages ts S n x f =
-    length-map x.operands _ ∙ sym (length-map x.operands (λ r. r.operand)) ∙ ap length f.operands
-
-staged_started : (m : Machine) (ts : List Task) (S T : State) (w : ℕ) → IsStaged m ts S → KeepsFront S T
-    → StartsTask m S T w → IsStaged m ts T
-staged_started m ts S T w h k c =
-    let f = h.0.flight c.number c.task c.there in (
-      numbers_kept m ts S T h.0 k,
-      subst (Stages m ts) (λ i. standing_by (sym k.front i) (sym c.back i))
-          (stages_started m ts (standing_of S) h.1 w c.number c.rest c.task c.queue c.idle c.worker c.there
-          (ap (task_at ts) f.number ∙ f.task) f.number (length-storages ts S c.number c.task f)),
-    )
-
-staged_executed : (m : Machine) (ts : List Task) (S T : State) (w : ℕ) → IsStaged m ts S → KeepsFront S T
-    → ExecutesTask m S T w → IsStaged m ts T
-staged_executed m ts S T w h k c = (
-  numbers_kept m ts S T h.0 k,
-  subst (Stages m ts) (λ i. standing_by (sym k.front i) (sym c.back i))
-      (stages_executed m ts (standing_of S) h.1 w c.busy c.after c.there c.task c.storages c.within),
-)
-
-staged_finished : (m : Machine) (ts : List Task) (S T : State) (w : ℕ) → IsStaged m ts S → KeepsFront S T
-    → FinishesTask S T w → IsStaged m ts T
-staged_finished m ts S T w h k c = (
-  numbers_kept m ts S T h.0 k,
-  subst (Stages m ts) (λ i. standing_by (sym k.front i) (sym c.back i))
-      (stages_finished_in m ts (standing_of S) h.1 w c.busy (get S.flight c.busy.task.number) c.there refl),
-)
-
-staged_still : (m : Machine) (ts : List Task) (S T : State) → IsStaged m ts S → standing_of T ≡ standing_of S
-    → IsStaged m ts T
-staged_still m ts S T h same = (
-  numbers_same m ts S T h.0 (ap (λ p. p.spawned) same) (ap (λ p. p.inbox) same) (ap (λ p. p.flight) same),
-  subst (Stages m ts) (sym same) h.1,
-)
-
--- every event keeps it
-pub IsStaged-after_event : IsKept IsStaged
-IsStaged-after_event =
-    kept_by_standing IsStaged staged_spawned staged_taken staged_readied staged_changed staged_started staged_executed
-    staged_finished staged_still
-
--- the first state has it
-IsStaged-initial_state : (m : Machine) (i : ImageState) → IsStaged m [] (initial_state i)
-IsStaged-initial_state m i = (
-  HasTaskNumbers-initial_state m i,
-  record {
-    waiting = λ n x e. absurd (none-some x (sym (get-empty nat_cmp n) ∙ e));
-    queued = λ n x e at. absurd (none-some x (sym (get-empty nat_cmp n) ∙ e));
-    running = λ n x e at. absurd (none-some x (sym (get-empty nat_cmp n) ∙ e));
-    queue = λ n e. absurd (true≢false (sym e));
-    workers = λ w b e. absurd (none-some b (sym (get-empty nat_cmp w) ∙ e));
-  },
-)
-
-has_stages : (m : Machine) (ts : List Task) (S : State) → IsStaged m ts S → HasStages m ts S
-has_stages m ts S h = record {
-  waiting = h.1.waiting;
-  queued = h.1.queued;
-  running = h.1.running;
-  queue = λ n e. let r = h.1.queue n e in record { taken = r.0; complete = r.1 };
-  workers = λ w b e.
-      let r = h.1.workers w b e in
-      record {
-        number = r.number;
-        task = r.task;
-        ready = record { taken = r.taken; complete = r.complete };
-        storages = r.storages;
-        budget = r.budget;
-      };
-}
-
--- the law
-pub stages_of_runs : StagesLaw
-stages_of_runs = law_from IsStaged HasStages IsStaged-initial_state IsStaged-after_event has_stages
