@@ -10,4 +10,8 @@ pub mod BudgetLemmas
 pub mod BackLemmas
 pub mod StageLemmas
 pub mod StageEvents
+pub mod NameLemmas
+pub mod VersionNames
+pub mod UnitNames
+pub mod NameEvents
 pub mod PlaceLemmas

@@ -5,3 +5,4 @@ pub mod Bound
 pub mod NoFalseWait
 pub mod Tasks
 pub mod Stages
+pub mod Names
