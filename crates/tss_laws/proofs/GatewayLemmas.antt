@@ -40,7 +40,7 @@ IsFrontSound m ts S = HasTaskNumbers m ts S × Acknowledges ts (front_of S)
 
 -- ---- a spawn
 
-operand_still : (u : Task) (ts : List Task) (o : OpName) (x : Operand) → IsOperandOf ts o x → IsOperandOf (u ∷ ts) o x
+pub operand_still : (u : Task) (ts : List Task) (o : OpName) (x : Operand) → IsOperandOf ts o x → IsOperandOf (u ∷ ts) o x
 operand_still u ts o x h =
     record { task = h.task; spawned = still_at u ts o.task h.task h.spawned; place = h.place }
 
@@ -180,7 +180,7 @@ module _ (ts : List Task) (f : Front) (o : OpName) (h : Acknowledges ts f) where
 -- every event keeps it
 pub IsFrontSound-after_event : IsKept IsFrontSound
 IsFrontSound-after_event =
-    kept_by_front IsFrontSound
+    kept_by_front IsFrontSound IsFrontSound
     (λ m ts us S T h p. (
       numbers_spawned m ts us S T h.0 p,
       subst (Acknowledges (p.task ∷ ts)) (sym p.front) (acknowledges_spawned ts (front_of S) p.task h.1 p.empty),
@@ -218,7 +218,7 @@ IsFrontSound-initial_state m i = (
 
 module _ (m : Machine) (ts : List Task) (S : State) (h : IsFrontSound m ts S) where
   -- an operand of the gateway is one of a task that was taken
-  of_taken : (o : OpName) → get S.gateway o ≡ Some tt → IsOfTaken ts S o
+  pub of_taken : (o : OpName) → get S.gateway o ≡ Some tt → IsOfTaken ts S o
   of_taken o e =
       let x = h.1.each o e in
       let last = h.1.last o e in

@@ -14,4 +14,5 @@ pub mod NameLemmas
 pub mod VersionNames
 pub mod UnitNames
 pub mod NameEvents
+pub mod DecodedNames
 pub mod PlaceLemmas

@@ -211,7 +211,7 @@ numbers_ack m ts S T o h a =
 -- every event keeps it
 pub HasTaskNumbers-after_event : IsKept HasTaskNumbers
 HasTaskNumbers-after_event =
-    kept_by_front HasTaskNumbers numbers_spawned numbers_take numbers_decode numbers_ack numbers_kept
+    kept_by_front HasTaskNumbers HasTaskNumbers numbers_spawned numbers_take numbers_decode numbers_ack numbers_kept
 
 -- the first state has it
 pub HasTaskNumbers-initial_state : (m : Machine) (i : ImageState) → HasTaskNumbers m [] (initial_state i)

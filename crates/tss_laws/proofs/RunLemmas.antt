@@ -56,21 +56,22 @@ keeps_by_nothing : (ts us : List Task) (S T : State) → SpawnsNothing ts us S T
 keeps_by_nothing ts us S T q =
     record { front = q.front; flight = subst (λ b. ComeFrom S.flight b.flight) (sym q.back) (all_come S.flight) }
 
--- a fact is kept by every event where it is kept by what the events of the front do, and by what leaves the front alone
-module _ (I : TasksFact)
+-- a fact is kept by every event, maybe as another one, where it is by what the events of the front do, and by what
+-- leaves the front alone
+module _ (I J : TasksFact)
     (spawns : (m : Machine) (ts us : List Task) (S T : State) → I m ts S → (p : SpawnsOne m ts us S T)
-    → I m (p.task ∷ ts) T)
-    (takes : (m : Machine) (ts : List Task) (S T : State) → I m ts S → TakesTask m S T → I m ts T)
-    (decodes : (m : Machine) (ts : List Task) (S T : State) (o : OpName) → I m ts S → DecodesOperand S T o → I m ts T)
+    → J m (p.task ∷ ts) T)
+    (takes : (m : Machine) (ts : List Task) (S T : State) → I m ts S → TakesTask m S T → J m ts T)
+    (decodes : (m : Machine) (ts : List Task) (S T : State) (o : OpName) → I m ts S → DecodesOperand S T o → J m ts T)
     (acknowledges : (m : Machine) (ts : List Task) (S T : State) (o : OpName) → I m ts S → AcknowledgesOperand S T o
-    → I m ts T)
-    (keeps : (m : Machine) (ts : List Task) (S T : State) → I m ts S → KeepsFront S T → I m ts T) where
-  kept_by_main : (m : Machine) (ts us : List Task) (S T : State) → I m ts S → SpawnsAtMostOne m ts us S T → I m us T
+    → J m ts T)
+    (keeps : (m : Machine) (ts : List Task) (S T : State) → I m ts S → KeepsFront S T → J m ts T) where
+  kept_by_main : (m : Machine) (ts us : List Task) (S T : State) → I m ts S → SpawnsAtMostOne m ts us S T → J m us T
   kept_by_main m ts us S T h (inl q) =
-      subst (λ us. I m us T) (sym q.list) (keeps m ts S T h (keeps_by_nothing ts us S T q))
-  kept_by_main m ts us S T h (inr p) = subst (λ us. I m us T) (sym p.list) (spawns m ts us S T h p)
+      subst (λ us. J m us T) (sym q.list) (keeps m ts S T h (keeps_by_nothing ts us S T q))
+  kept_by_main m ts us S T h (inr p) = subst (λ us. J m us T) (sym p.list) (spawns m ts us S T h p)
 
-  pub kept_by_front : IsKept I
+  pub kept_by_front : IsKeptAs I J
   kept_by_front m ts S event.Main h on =
       kept_by_main m ts (spawned_by_main m S ts (call_next m S)) S _ h (spawns_main m ts S on)
   kept_by_front m ts S event.Take h on = takes m ts S _ h (takes_take m S on)

@@ -93,7 +93,7 @@ slots_take m ts S T h p station =
 -- every event keeps it
 StaysWithinSlots-after_event : IsKept StaysWithinSlots
 StaysWithinSlots-after_event =
-    kept_by_front StaysWithinSlots
+    kept_by_front StaysWithinSlots StaysWithinSlots
     (λ m ts us S T h p. slots_same m ts (p.task ∷ ts) S T h (ap (λ b. b.flight) p.back))
     slots_take
     (λ m ts S T o h d. slots_same m ts ts S T h (ap (λ b. b.flight) d.back))

@@ -1,7 +1,7 @@
 -- The stations, the workers, the renaming tables and the copy engines keep a fact of each name, and send messages of
 -- which it holds.
-use Rattle.std.proofs.Common.{◌≡◌, ℕ, zero, suc, ◌+◌, ◌-◌, Bool, true, false, if◌then◌else◌, List, [], ◌∷◌, ◌++◌, map, Option, Some, None, refl, sym, ap, ◌∙◌, subst, arith}
-use Rattle.std.specs.Prelude.{slice_get, slice_set, nat_le, ◌==◌}
+use Rattle.std.proofs.Common.{◌≡◌, ℕ, zero, suc, ◌+◌, ◌-◌, Bool, true, false, if◌then◌else◌, List, [], ◌∷◌, map, Option, Some, None, refl, subst, arith}
+use Rattle.std.specs.Prelude.{slice_get, slice_set, nat_le}
 use Rattle.std.specs.FinMap.{get, insert, remove}
 use Rattle.std.proofs.lemmas.Option.{none-some, same_Some}
 use Rattle.tss_base.specs.declared.range.Range.{Range}
@@ -23,13 +23,13 @@ use Rattle.tss_model.specs.Core.{Write, Stepped, Executed, Called, Ended, Trappe
 use Rattle.tss_model.specs.Memory.{code_word}
 use Rattle.tss_model.specs.Causes.{budget_spent}
 use Rattle.tss_model.specs.Registers.{trap_of}
-use Rattle.tss_model.specs.TaskRun.{TaskState, is_over, repeated, task_byte, task_write, task_trapped, task_on, task_step, memory_write}
+use Rattle.tss_model.specs.TaskRun.{TaskState, is_over, repeated, task_byte, task_write, task_trapped, task_on, task_step}
 use Rattle.tss_protocol.specs.Names.{operand_name}
-use Rattle.tss_protocol.specs.Mail.{StorageName, Home, Buffer, Source, Message, Ack, GoneContents}
-use Rattle.tss_protocol.specs.State.{OperandState, Flying, Busy, Entry, CopyState, Outcome}
+use Rattle.tss_protocol.specs.Mail.{StorageName, Home, Buffer, Source}
+use Rattle.tss_protocol.specs.State.{OperandState, Flying, Entry, CopyState, Outcome}
 use Rattle.tss_protocol.specs.Stations.{is_complete, awaited, with_operand, is_gone, remaining_tasks, new_operand, entered, flight_after_take, link_after_ready, operand_after_ready, sent_by_ready, Woken, task_after_ready, woken_by, woken_in, after_ready, link_after_link, sent_by_link, operand_after_link, linked_by, linked_in, after_link, flight_after_start, storage_of, storages_of, release_of, releases_from, finished_in, flight_after_finish, operand_after_bye, parted_by, parted_in, after_bye}
-use Rattle.tss_protocol.specs.Workers.{Stores, Placed, placed_in, placed_at, storage_write, write_in, worker_write, storage_zeroed, output_zeroed, outputs_zeroed}
-use Rattle.tss_protocol.specs.Renaming.{Tables, live_entry, entry_after_decode, places_after_decode, takes_place, buffers_after_decode, takes_buffer, live_message, decode_message, sent_by_decode, decoded_by, may_retire, retiring_entry, idle_by, after_idle, buffers_after_gone, after_gone}
+use Rattle.tss_protocol.specs.Workers.{Stores, Placed, placed_in, placed_at, storage_write, write_in, worker_write, storage_zeroed, outputs_zeroed}
+use Rattle.tss_protocol.specs.Renaming.{live_entry, entry_after_decode, live_message, decode_message, sent_by_decode, retiring_entry, idle_by, buffers_after_gone}
 use Rattle.tss_protocol.specs.Buffers.{contents_after_gone, sent_by_retire, new_copy, copies_after_retire, piece_len, copies_after_copy, sent_by_copy}
 use Rattle.tss_laws.specs.Names.{WhereThere, EachEntry, EachOf, StorageNames, SourceNames, LinkNames, OperandNames, FlyingNames, MessageNames}
 use Rattle.tss_laws.proofs.SentLemmas.{AllSent, AllSent-append}
@@ -44,8 +44,8 @@ module _ {M : Type 0} (byte : M → ℕ → ℕ) (write : M → Write → M) (bu
   memory_written s None h = h
   memory_written s (Some w) h =
       elim (covers scratch_range w.at)
-          as (λ b. J (if b then record s { scratch = list_put s.scratch (w.at - scratch_range.base) w.bytes }
-          else record s { memory = write s.memory w }).memory) [
+      as (λ b. J (if b then record s { scratch = list_put s.scratch (w.at - scratch_range.base) w.bytes }
+      else record s { memory = write s.memory w }).memory) [
         | true ↦ h
         | false ↦ keeps s.memory w h
       ]
@@ -299,7 +299,7 @@ module _ (P : OpName → Type 0) where
       let rest = outputs_zeroed limits s os ss in
       let before = names_outputs_zeroed limits s os ss each (λ i. names (suc i)) in
       elim (reads o.mode)
-          as (λ b. ContentsNames (if b then rest else storage_zeroed limits rest o.object storage).contents) [
+      as (λ b. ContentsNames (if b then rest else storage_zeroed limits rest o.object storage).contents) [
         | true ↦ before
         | false ↦ names_zeroed limits rest o.object storage before (names 0 storage refl)
       ]
@@ -310,8 +310,8 @@ module _ (P : OpName → Type 0) where
   names_found (o ∷ os) [] a names = tt
   names_found (o ∷ os) (s ∷ ss) a names =
       elim (covers o.object a)
-          as (λ b. WhereThere (λ (p : Placed). StorageNames P p.storage)
-          (if b then Some (record { object = o.object; storage = s }) else placed_at (placed_in os ss) a)) [
+      as (λ b. WhereThere (λ (p : Placed). StorageNames P p.storage)
+      (if b then Some (record { object = o.object; storage = s }) else placed_at (placed_in os ss) a)) [
         | true ↦ names 0 s refl
         | false ↦ names_found os ss a (λ i. names (suc i))
       ]

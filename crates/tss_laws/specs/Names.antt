@@ -11,7 +11,7 @@ use Rattle.tss_base.specs.declared.event.LinkState.TheVariants as link
 use Rattle.tss_base.specs.declared.event.Follow.{Follow}
 use Rattle.tss_protocol.specs.Names.{operand_name}
 use Rattle.tss_protocol.specs.Mail.{StorageName, Home, Buffer, Source, Message, Decode, Ack, Open, Use, Ready, Link, Release, Bye, Idle, Nack, Retire, Gone, Mail}
-use Rattle.tss_protocol.specs.State.{State, OperandState, Flying, Busy, Version, CopyState}
+use Rattle.tss_protocol.specs.State.{State, OperandState, Flying, Version}
 use Rattle.tss_laws.specs.Tasks.{IsTaken, IsOperandOf, OverTasks}
 
 -- ---- a fact of each name

@@ -5,6 +5,7 @@
 
 ghost use Rattle.tss_laws.specs.Tasks.{TaskNumbersLaw, GatewayLaw, SlotsLaw, DecodeOrderLaw};
 ghost use Rattle.tss_laws.specs.Stages.{StagesLaw};
+ghost use Rattle.tss_laws.specs.Names.{NamesLaw};
 
 /// Spawned tasks are numbered from 1 in their order, at most as many as there may be, and each with at most as many
 /// operands as it may have. The inbox has none but the last of them. A task in flight stands under its number and was
@@ -37,4 +38,11 @@ pub fn decode_order()
 /// may.
 pub fn stages()
     ensures { StagesLaw }
+{}
+
+/// Each name in the stations, the workers, the tables for renaming and versioning, the copy engines, and the messages
+/// but decodes is of an operand that has been decoded: its task was taken, its place is one of its task's, and its
+/// decode isn't under way.
+pub fn names()
+    ensures { NamesLaw }
 {}
