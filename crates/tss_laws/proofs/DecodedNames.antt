@@ -196,7 +196,7 @@ AreNamesDecoded-after_event m ts S e h on =
     )
 
 -- the first state has it
-AreNamesDecoded-initial_state : (m : Machine) (i : ImageState) → AreNamesDecoded m [] (initial_state i)
+pub AreNamesDecoded-initial_state : (m : Machine) (i : ImageState) → AreNamesDecoded m [] (initial_state i)
 AreNamesDecoded-initial_state m i = (
   IsFrontSound-initial_state m i,
   StateNames-initial_state (DecodedBy [] (front_of (initial_state i))) i,

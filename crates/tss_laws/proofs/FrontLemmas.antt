@@ -164,7 +164,7 @@ front_sent : (S T : State) (ms : List Message) → KeepsFront S T → AllSent Is
 front_sent S T ms k later =
     let same = posted_all-later T.mail ms later in
     record {
-      front = (λ i. record (front_of T) { decodes = same.0 i; acks = same.1 i }) ∙ k.front;
+      front = (λ i. record (front_of T) { decodes = same.decodes i; acks = same.acks i }) ∙ k.front;
       flight = k.flight;
     }
 

@@ -15,4 +15,6 @@ pub mod VersionNames
 pub mod UnitNames
 pub mod NameEvents
 pub mod DecodedNames
+pub mod VersionObjects
+pub mod OpeningLemmas
 pub mod PlaceLemmas

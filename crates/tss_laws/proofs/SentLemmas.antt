@@ -27,12 +27,12 @@ pub AllSent-append : (P : Message → Type 0) (xs ys : List Message) → AllSent
 AllSent-append P [] ys a b = b
 AllSent-append P (x ∷ xs) ys a b = (a.0, AllSent-append P xs ys a.1 b)
 
--- neither decode nor ack, the messages between the gateway and the renaming tables
+-- none of decode, ack, open and use, the messages of an operand that isn't enlisted yet
 abbrev pub IsLater : Message → Type 0
 IsLater (Decode o operand) = ⊥
 IsLater (Ack o) = ⊥
-IsLater (Open o opening) = Unit {0}
-IsLater (Use o v) = Unit {0}
+IsLater (Open o opening) = ⊥
+IsLater (Use o v) = ⊥
 IsLater (Ready o source) = Unit {0}
 IsLater (Link o next) = Unit {0}
 IsLater (Release o releasing) = Unit {0}
@@ -228,27 +228,37 @@ sent_by_copy-later c false = tt
 
 -- ---- the mail
 
--- a later message is no decode and no ack
-pub posted-later : (m : Mail) (x : Message) → IsLater x
-    → ((posted m x).decodes ≡ m.decodes) × ((posted m x).acks ≡ m.acks)
+-- decodes, acks, opens and uses are as they were
+pub record KeepsEarly (m n : Mail) : Type 0 where
+  pub decodes : n.decodes ≡ m.decodes
+  pub acks : n.acks ≡ m.acks
+  pub opens : n.opens ≡ m.opens
+  pub uses : n.uses ≡ m.uses
+
+-- a later message leaves them so
+posted-later : (m : Mail) (x : Message) → IsLater x → KeepsEarly m (posted m x)
 posted-later m (Decode o operand) h = absurd h
 posted-later m (Ack o) h = absurd h
-posted-later m (Open o opening) h = (refl, refl)
-posted-later m (Use o v) h = (refl, refl)
-posted-later m (Ready o source) h = (refl, refl)
-posted-later m (Link o next) h = (refl, refl)
-posted-later m (Release o releasing) h = (refl, refl)
-posted-later m (Bye o promised) h = (refl, refl)
-posted-later m (Idle v asking) h = (refl, refl)
-posted-later m (Nack v) h = (refl, refl)
-posted-later m (Retire v) h = (refl, refl)
-posted-later m (Gone v going) h = (refl, refl)
+posted-later m (Open o opening) h = absurd h
+posted-later m (Use o v) h = absurd h
+posted-later m (Ready o source) h = record { decodes = refl; acks = refl; opens = refl; uses = refl }
+posted-later m (Link o next) h = record { decodes = refl; acks = refl; opens = refl; uses = refl }
+posted-later m (Release o releasing) h = record { decodes = refl; acks = refl; opens = refl; uses = refl }
+posted-later m (Bye o promised) h = record { decodes = refl; acks = refl; opens = refl; uses = refl }
+posted-later m (Idle v asking) h = record { decodes = refl; acks = refl; opens = refl; uses = refl }
+posted-later m (Nack v) h = record { decodes = refl; acks = refl; opens = refl; uses = refl }
+posted-later m (Retire v) h = record { decodes = refl; acks = refl; opens = refl; uses = refl }
+posted-later m (Gone v going) h = record { decodes = refl; acks = refl; opens = refl; uses = refl }
 
--- later messages leave decodes and acks as they are
-pub posted_all-later : (m : Mail) (xs : List Message) → AllSent IsLater xs
-    → ((posted_all m xs).decodes ≡ m.decodes) × ((posted_all m xs).acks ≡ m.acks)
-posted_all-later m [] h = (refl, refl)
+-- and so do more of them
+pub posted_all-later : (m : Mail) (xs : List Message) → AllSent IsLater xs → KeepsEarly m (posted_all m xs)
+posted_all-later m [] h = record { decodes = refl; acks = refl; opens = refl; uses = refl }
 posted_all-later m (x ∷ xs) h =
     let one = posted-later m x h.0 in
     let rest = posted_all-later (posted m x) xs h.1 in
-    (rest.0 ∙ one.0, rest.1 ∙ one.1)
+    record {
+      decodes = rest.decodes ∙ one.decodes;
+      acks = rest.acks ∙ one.acks;
+      opens = rest.opens ∙ one.opens;
+      uses = rest.uses ∙ one.uses;
+    }

@@ -16,13 +16,12 @@ use Rattle.tss_maps.proofs.Keys.{name_order}
 use Rattle.tss_maps.proofs.Changes.{at_inserted, beside_inserted, from_inserted}
 use Rattle.tss_model.specs.Access.{operands_of}
 use Rattle.tss_protocol.specs.Names.{operand_name}
-use Rattle.tss_protocol.specs.Mail.{Mail, posted_all}
+use Rattle.tss_protocol.specs.Mail.{Mail, posted, posted_all}
 use Rattle.tss_protocol.specs.State.{State, Entry}
 use Rattle.tss_protocol.specs.Gateway.{names_from, held_with, decodes_from}
 use Rattle.tss_protocol.specs.Stations.{has_slot, entered, flight_after_take}
 use Rattle.tss_protocol.specs.Renaming.{decode_message, live_message}
 use Rattle.tss_protocol.specs.UnitMachine.{IsEnabled, queue_with, is_queued, is_enabled, after_event, can_take, after_take, without, can_decode_message, decode_message_taken}
-use Rattle.tss_laws.proofs.SentLemmas.{IsLater, posted-later}
 use Rattle.tss_laws.proofs.FrontLemmas.{front_of, back_of}
 
 -- ---- something for each of a task's operands, under its name
@@ -141,23 +140,26 @@ pub record DecodesOperand (S T : State) (o : OpName) : Type 0 where
       ≡ record (front_of S) { decodes = remove S.mail.decodes o; acks = insert S.mail.acks o tt }
   pub back : back_of T ≡ back_of S
 
-live_message-later : (o : OpName) (operand : Operand) (e : Entry) (mode : Mode)
-    → IsLater (live_message o operand e mode)
-live_message-later o operand e Input = tt
-live_message-later o operand e Output = tt
-live_message-later o operand e Inout = tt
+-- what decode sends first is no decode and no ack
+live_message-front : (m : Mail) (o : OpName) (operand : Operand) (e : Entry) (mode : Mode)
+    → ((posted m (live_message o operand e mode)).decodes ≡ m.decodes)
+    × ((posted m (live_message o operand e mode)).acks ≡ m.acks)
+live_message-front m o operand e Input = (refl, refl)
+live_message-front m o operand e Output = (refl, refl)
+live_message-front m o operand e Inout = (refl, refl)
 
-decode_message-later : (o : OpName) (operand : Operand) (e : Option Entry) → IsLater (decode_message o operand e)
-decode_message-later o operand None = tt
-decode_message-later o operand (Some e) = live_message-later o operand e operand.mode
+decode_message-front : (m : Mail) (o : OpName) (operand : Operand) (e : Option Entry)
+    → ((posted m (decode_message o operand e)).decodes ≡ m.decodes)
+    × ((posted m (decode_message o operand e)).acks ≡ m.acks)
+decode_message-front m o operand None = (refl, refl)
+decode_message-front m o operand (Some e) = live_message-front m o operand e operand.mode
 
 decodes_by : (m : Machine) (S : State) (o : OpName) (c : Option Operand) → get S.mail.decodes o ≡ c
     → can_decode_message m S c ≡ true → DecodesOperand S (decode_message_taken m (without S (event.Decode o)) o c) o
 decodes_by m S o None e on = absurd (cc)
 decodes_by m S o (Some operand) e on =
-    let x = decode_message o operand (get S.entries operand.object.base) in
-    let sent = posted-later (record (S.mail) { decodes = remove S.mail.decodes o }) x
-    (decode_message-later o operand (get S.entries operand.object.base)) in
+    let sent = decode_message-front (record (S.mail) { decodes = remove S.mail.decodes o }) o operand
+        (get S.entries operand.object.base) in
     record {
       operand = operand;
       there = e;

@@ -6,3 +6,4 @@ pub mod NoFalseWait
 pub mod Tasks
 pub mod Stages
 pub mod Names
+pub mod Openings

@@ -6,6 +6,7 @@
 ghost use Rattle.tss_laws.specs.Tasks.{TaskNumbersLaw, GatewayLaw, SlotsLaw, DecodeOrderLaw};
 ghost use Rattle.tss_laws.specs.Stages.{StagesLaw};
 ghost use Rattle.tss_laws.specs.Names.{NamesLaw};
+ghost use Rattle.tss_laws.specs.Openings.{OpeningsLaw};
 
 /// Spawned tasks are numbered from 1 in their order, at most as many as there may be, and each with at most as many
 /// operands as it may have. The inbox has none but the last of them. A task in flight stands under its number and was
@@ -45,4 +46,10 @@ pub fn stages()
 /// decode isn't under way.
 pub fn names()
     ensures { NamesLaw }
+{}
+
+/// Of an operand's decode, open, use and version there is one at most. An open has the operand of its name, a use is of
+/// an input, and a version is of the object of the operand of its name.
+pub fn openings()
+    ensures { OpeningsLaw }
 {}
