@@ -18,3 +18,4 @@ pub mod DecodedNames
 pub mod VersionObjects
 pub mod OpeningLemmas
 pub mod PlaceLemmas
+pub mod TableLemmas

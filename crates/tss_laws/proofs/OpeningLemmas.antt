@@ -1,5 +1,5 @@
 -- Of an operand's decode, open, use and version there is one at most.
-use Rattle.std.proofs.Common.{◌≡◌, ◌≢◌, ℕ, zero, suc, ◌⊎◌, inl, inr, Bool, true, false, List, [], ◌∷◌, Option, Some, None, refl, sym, ap, ◌∙◌, subst, true≢false}
+use Rattle.std.proofs.Common.{◌≡◌, ◌≢◌, ℕ, suc, ◌⊎◌, inl, inr, Bool, List, [], ◌∷◌, Option, Some, None, refl, sym, ap, ◌∙◌, subst}
 use Rattle.std.specs.FinMap.{get, insert, remove, get-empty}
 use Rattle.std.proofs.lemmas.Option.{none-some}
 use Rattle.tss_base.specs.declared.range.Range.{Range}
@@ -17,7 +17,7 @@ use Rattle.tss_maps.proofs.Keys.{name_order, decide_key}
 use Rattle.tss_maps.proofs.Changes.{beside_inserted, from_inserted, at_removed, beside_removed, from_removed, decide_get}
 use Rattle.tss_model.specs.Access.{operands_of}
 use Rattle.tss_model.specs.MainStep.{MainState, Call, main_call}
-use Rattle.tss_protocol.specs.Mail.{Source, OpenContents, ReleaseContents, IdleContents, GoneContents, Message, Open, Use, Ack, Mail, posted, posted_all, taken}
+use Rattle.tss_protocol.specs.Mail.{Source, OpenContents, ReleaseContents, IdleContents, GoneContents, Message, Mail, posted, posted_all, taken}
 use Rattle.tss_protocol.specs.State.{State, Flying, Busy, Entry, Version, CopyState, initial_state}
 use Rattle.tss_protocol.specs.Names.{operand_name}
 use Rattle.tss_protocol.specs.Gateway.{decodes_from}
@@ -25,13 +25,11 @@ use Rattle.tss_protocol.specs.Renaming.{live_message, decode_message}
 use Rattle.tss_protocol.specs.Versions.{after_open, after_use}
 use Rattle.tss_protocol.specs.Buffers.{is_last_piece}
 use Rattle.tss_protocol.specs.MainEvent.{call_next, main_by, after_call}
-use Rattle.tss_protocol.specs.UnitMachine.{IsEnabled, is_enabled, after_event, with_sent, without, after_take, decode_message_taken, open_message_taken, use_message_taken, ready_message_taken, link_message_taken, after_start, start_task, after_exec, after_finish, release_message_taken, bye_message_taken, idle_message_taken, nack_message_taken, retire_version, after_copy, gone_message_taken}
+use Rattle.tss_protocol.specs.UnitMachine.{IsEnabled, after_event, with_sent, without, after_take, decode_message_taken, open_message_taken, use_message_taken, ready_message_taken, link_message_taken, after_start, start_task, after_exec, after_finish, release_message_taken, bye_message_taken, idle_message_taken, nack_message_taken, retire_version, after_copy, gone_message_taken}
 use Rattle.tss_laws.specs.Tasks.{TasksFact, spawned_after_event, spawned_by_main, IsOperandOf}
 use Rattle.tss_laws.specs.Openings.{HasOpenings, OpeningsLaw}
 use Rattle.tss_laws.proofs.SentLemmas.{AllSent, IsLater, posted_all-later, after_open-later, after_use-later, after_release-later, after_nack-later, after_ready-later, after_link-later, flight_after_finish-later, after_idle-later, sent_by_retire-later, sent_by_copy-later}
-use Rattle.tss_laws.proofs.FrontLemmas.{front_of}
 use Rattle.tss_laws.proofs.SpawnLemmas.{SpawnsAtMostOne, spawns_main}
-use Rattle.tss_laws.proofs.TakeLemmas.{decodes_decode}
 use Rattle.tss_laws.proofs.RunLemmas.{IsKept, law_from}
 use Rattle.tss_laws.proofs.GatewayLemmas.{operand_still}
 use Rattle.tss_laws.proofs.DecodedNames.{AreNamesDecoded, AreNamesDecoded-after_event, AreNamesDecoded-initial_state}

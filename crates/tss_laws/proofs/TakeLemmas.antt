@@ -159,7 +159,7 @@ decodes_by : (m : Machine) (S : State) (o : OpName) (c : Option Operand) → get
 decodes_by m S o None e on = absurd (cc)
 decodes_by m S o (Some operand) e on =
     let sent = decode_message-front (record (S.mail) { decodes = remove S.mail.decodes o }) o operand
-        (get S.entries operand.object.base) in
+    (get S.entries operand.object.base) in
     record {
       operand = operand;
       there = e;

@@ -7,3 +7,4 @@ pub mod Tasks
 pub mod Stages
 pub mod Names
 pub mod Openings
+pub mod Tables

@@ -7,6 +7,7 @@ ghost use Rattle.tss_laws.specs.Tasks.{TaskNumbersLaw, GatewayLaw, SlotsLaw, Dec
 ghost use Rattle.tss_laws.specs.Stages.{StagesLaw};
 ghost use Rattle.tss_laws.specs.Names.{NamesLaw};
 ghost use Rattle.tss_laws.specs.Openings.{OpeningsLaw};
+ghost use Rattle.tss_laws.specs.Tables.{TablesLaw};
 
 /// Spawned tasks are numbered from 1 in their order, at most as many as there may be, and each with at most as many
 /// operands as it may have. The inbox has none but the last of them. A task in flight stands under its number and was
@@ -52,4 +53,9 @@ pub fn names()
 /// an input, and a version is of the object of the operand of its name.
 pub fn openings()
     ensures { OpeningsLaw }
+{}
+
+/// Five of the seven counts never exceed their sizes: of slots, workers, entries, version places and buffers.
+pub fn tables()
+    ensures { TablesLaw }
 {}
