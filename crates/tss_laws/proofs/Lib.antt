@@ -19,3 +19,4 @@ pub mod VersionObjects
 pub mod OpeningLemmas
 pub mod PlaceLemmas
 pub mod TableLemmas
+pub mod JointLemmas
