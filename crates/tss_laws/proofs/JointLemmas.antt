@@ -1,5 +1,5 @@
 -- A fact that joins the versions with the mail, kept by the events of the versioning tables where a few changes keep it.
-use Rattle.std.proofs.Common.{◌≡◌, ℕ, zero, suc, Bool, true, false, if◌then◌else◌, List, [], ◌∷◌, ◌++◌, Option, Some, None, refl, sym, ap, ◌∙◌, subst, true≢false}
+use Rattle.std.proofs.Common.{◌≡◌, ℕ, zero, suc, Bool, true, false, if◌then◌else◌, List, [], ◌∷◌, ◌++◌, Option, Some, None, refl, sym, subst, true≢false}
 use Rattle.std.specs.Prelude.{not, ◌&&◌, ◌==◌, is_none}
 use Rattle.std.specs.FinMap.{get}
 use Rattle.std.proofs.lemmas.Bool.{and_parts}
@@ -10,8 +10,6 @@ use Rattle.tss_base.specs.declared.event.How.{How}
 use Rattle.tss_base.specs.declared.event.How.TheVariants.{Beside, Over}
 use Rattle.tss_base.specs.declared.event.Follow.{Follow}
 use Rattle.tss_base.specs.Names.{Named}
-use Rattle.tss_maps.proofs.Changes.{at_inserted, beside_inserted, at_removed}
-use Rattle.tss_maps.proofs.Keys.{name_order}
 use Rattle.tss_protocol.specs.Mail.{StorageName, Source, GoneContents, OpenContents, ReleaseContents, Message, Ready, Link, Bye, Idle, Gone, Mail, posted, posted_all}
 use Rattle.tss_protocol.specs.State.{Version}
 use Rattle.tss_protocol.specs.Versions.{Versioned, Settling, sending, put_version, drop_version, version_changed, change_version, change_named, ready_with, buffer_of, may_die, may_ask, is_count, followed_by, unlinked, settle_how, settle_asking, unchanged, settle_by, settle_at, settle, settled, new_version, first_version, followed, opened_how, opened_by, after_open, enlisted, used_alone, used_behind, used_at, after_use, head_ready, produced_now, is_last, released_once, released_by, released_at, after_release}

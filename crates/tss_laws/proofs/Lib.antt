@@ -20,3 +20,5 @@ pub mod OpeningLemmas
 pub mod PlaceLemmas
 pub mod TableLemmas
 pub mod JointLemmas
+pub mod AskingLemmas
+pub mod AskingEvents

@@ -10,6 +10,7 @@ use Rattle.tss_base.specs.declared.event.LinkState.TheVariants as link
 use Rattle.tss_base.specs.Names.{Named, Numbered}
 use Rattle.tss_protocol.specs.Mail.{StorageName, Home, Buffer, Source, ReleaseContents, OpenContents, Message, Decode, Ack, Open, Use, Ready, Link, Release, Bye, Idle, Nack, Retire, Gone, Mail, posted, posted_all}
 use Rattle.tss_base.specs.declared.range.Range.{Range}
+use Rattle.tss_model.specs.Access.{writes}
 use Rattle.tss_protocol.specs.State.{Entry, OperandState, Flying, Version, CopyState}
 use Rattle.tss_protocol.specs.Stations.{sent_by_ready, sent_by_link, release_of, releases_from, after_ready, after_link, flight_after_finish, woken_in, woken_by, linked_in, linked_by, finished_in}
 use Rattle.tss_protocol.specs.Renaming.{idle_by, after_idle}
@@ -146,61 +147,77 @@ module _ (vs : Named Version) (o : OpName) where
 
 -- ---- stations
 
-sent_by_ready-later : (l : LinkState) (source : Source) → AllSent IsLater (sent_by_ready l source)
-sent_by_ready-later link.Nothing source = tt
-sent_by_ready-later (link.Held next) source = (tt, tt)
-sent_by_ready-later link.Passed source = tt
+-- stations send ready and release messages alone
+module _ (P : Message → Type 0) (ready : (o : OpName) (source : Source) → P (Ready o source))
+    (release : (o : OpName) (r : ReleaseContents) → P (Release o r)) where
+  sent_by_ready-all : (l : LinkState) (source : Source) → AllSent P (sent_by_ready l source)
+  sent_by_ready-all link.Nothing source = tt
+  sent_by_ready-all (link.Held next) source = (ready next source, tt)
+  sent_by_ready-all link.Passed source = tt
 
-sent_by_link-later : (source : Option Source) (next : OpName) → AllSent IsLater (sent_by_link source next)
-sent_by_link-later None next = tt
-sent_by_link-later (Some source) next = (tt, tt)
+  sent_by_link-all : (source : Option Source) (next : OpName) → AllSent P (sent_by_link source next)
+  sent_by_link-all None next = tt
+  sent_by_link-all (Some source) next = (ready next source, tt)
 
-module _ (flight : Numbered Flying) (o : OpName) where
-  woken_by-later : (source : Source) (x : Flying) (r : Option OperandState)
-      → AllSent IsLater (woken_by flight o source x r).sent
-  woken_by-later source x None = tt
-  woken_by-later source x (Some r) = sent_by_ready-later r.link source
+  module _ (flight : Numbered Flying) (o : OpName) where
+    woken_by-all : (source : Source) (x : Flying) (r : Option OperandState)
+        → AllSent P (woken_by flight o source x r).sent
+    woken_by-all source x None = tt
+    woken_by-all source x (Some r) = sent_by_ready-all r.link source
 
-  woken_in-later : (source : Source) (x : Option Flying) → AllSent IsLater (woken_in flight o source x).sent
-  woken_in-later source None = tt
-  woken_in-later source (Some x) = woken_by-later source x _
+    woken_in-all : (source : Source) (x : Option Flying) → AllSent P (woken_in flight o source x).sent
+    woken_in-all source None = tt
+    woken_in-all source (Some x) = woken_by-all source x _
 
-  -- what ready sends
-  pub after_ready-later : (source : Source) → AllSent IsLater (after_ready flight o source).sent
-  after_ready-later source = woken_in-later source (get flight o.task)
+    -- what ready sends
+    pub after_ready-all : (source : Source) → AllSent P (after_ready flight o source).sent
+    after_ready-all source = woken_in-all source (get flight o.task)
 
-  linked_by-later : (next : OpName) (x : Flying) (r : Option OperandState)
-      → AllSent IsLater (linked_by flight o next x r).sent
-  linked_by-later next x None = tt
-  linked_by-later next x (Some r) = sent_by_link-later r.source next
+    linked_by-all : (next : OpName) (x : Flying) (r : Option OperandState)
+        → AllSent P (linked_by flight o next x r).sent
+    linked_by-all next x None = tt
+    linked_by-all next x (Some r) = sent_by_link-all r.source next
 
-  linked_in-later : (next : OpName) (x : Option Flying) → AllSent IsLater (linked_in flight o next x).sent
-  linked_in-later next None = tt
-  linked_in-later next (Some x) = linked_by-later next x _
+    linked_in-all : (next : OpName) (x : Option Flying) → AllSent P (linked_in flight o next x).sent
+    linked_in-all next None = tt
+    linked_in-all next (Some x) = linked_by-all next x _
 
-  -- what link sends
-  pub after_link-later : (next : OpName) → AllSent IsLater (after_link flight o next).sent
-  after_link-later next = linked_in-later next (get flight o.task)
+    -- what link sends
+    pub after_link-all : (next : OpName) → AllSent P (after_link flight o next).sent
+    after_link-all next = linked_in-all next (get flight o.task)
 
-release_of-later : (o : OpName) (r : OperandState) (source : Option Source) → AllSent IsLater (release_of o r source)
-release_of-later o r None = tt
-release_of-later o r (Some source) = (tt, tt)
+  release_of-all : (o : OpName) (r : OperandState) (source : Option Source) → AllSent P (release_of o r source)
+  release_of-all o r None = tt
+  release_of-all o r (Some source) =
+      (release o (record { version = source.version; producer = writes r.operand.mode }), tt)
 
-releases_from-later : (task place : ℕ) (rs : List OperandState) → AllSent IsLater (releases_from task place rs)
-releases_from-later task place [] = tt
-releases_from-later task place (r ∷ rs) =
-    AllSent-append IsLater (release_of (operand_name task place) r r.source) _
-    (release_of-later (operand_name task place) r r.source)
-    (releases_from-later task (suc place) rs)
+  releases_from-all : (task place : ℕ) (rs : List OperandState) → AllSent P (releases_from task place rs)
+  releases_from-all task place [] = tt
+  releases_from-all task place (r ∷ rs) =
+      AllSent-append P (release_of (operand_name task place) r r.source) _
+      (release_of-all (operand_name task place) r r.source)
+      (releases_from-all task (suc place) rs)
 
-finished_in-later : (flight : Numbered Flying) (task : ℕ) (x : Option Flying)
-    → AllSent IsLater (finished_in flight task x).sent
-finished_in-later flight task None = tt
-finished_in-later flight task (Some x) = releases_from-later task 0 x.operands
+  finished_in-all : (flight : Numbered Flying) (task : ℕ) (x : Option Flying)
+      → AllSent P (finished_in flight task x).sent
+  finished_in-all flight task None = tt
+  finished_in-all flight task (Some x) = releases_from-all task 0 x.operands
 
--- what finish sends
+  -- what finish sends
+  pub flight_after_finish-all : (flight : Numbered Flying) (task : ℕ)
+      → AllSent P (flight_after_finish flight task).sent
+  flight_after_finish-all flight task = finished_in-all flight task (get flight task)
+
+-- each of these is a later message
+pub after_ready-later : (flight : Numbered Flying) (o : OpName) (source : Source)
+    → AllSent IsLater (after_ready flight o source).sent
+after_ready-later = after_ready-all IsLater (λ o source. tt) (λ o r. tt)
+
+pub after_link-later : (flight : Numbered Flying) (o next : OpName) → AllSent IsLater (after_link flight o next).sent
+after_link-later = after_link-all IsLater (λ o source. tt) (λ o r. tt)
+
 pub flight_after_finish-later : (flight : Numbered Flying) (task : ℕ) → AllSent IsLater (flight_after_finish flight task).sent
-flight_after_finish-later flight task = finished_in-later flight task (get flight task)
+flight_after_finish-later = flight_after_finish-all IsLater (λ o source. tt) (λ o r. tt)
 
 -- ---- idle, retire, copy
 

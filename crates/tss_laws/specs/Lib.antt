@@ -8,3 +8,4 @@ pub mod Stages
 pub mod Names
 pub mod Openings
 pub mod Tables
+pub mod Asking

@@ -8,6 +8,7 @@ ghost use Rattle.tss_laws.specs.Stages.{StagesLaw};
 ghost use Rattle.tss_laws.specs.Names.{NamesLaw};
 ghost use Rattle.tss_laws.specs.Openings.{OpeningsLaw};
 ghost use Rattle.tss_laws.specs.Tables.{TablesLaw};
+ghost use Rattle.tss_laws.specs.Asking.{AskingLaw};
 
 /// Spawned tasks are numbered from 1 in their order, at most as many as there may be, and each with at most as many
 /// operands as it may have. The inbox has none but the last of them. A task in flight stands under its number and was
@@ -58,4 +59,10 @@ pub fn openings()
 /// Five of the seven counts never exceed their sizes: of slots, workers, entries, version places and buffers.
 pub fn tables()
     ensures { TablesLaw }
+{}
+
+/// A version that asks whether it may retire has exactly one message of this under way: that it asks, with its object
+/// and the number of its readers, that it may not, or that it may. No other version has any.
+pub fn asking()
+    ensures { AskingLaw }
 {}
