@@ -145,7 +145,7 @@ module _ (vs : Named Version) (m : Mail) (h : Asking vs m) where
 pub IsJoint-Asking : IsJoint Asking
 IsJoint-Asking = record {
   write = λ vs m v x y e asked object h. asking_written vs m h v x y e asked object;
-  dies = λ vs m v x g e quiet h. asking_dies vs m h v x e quiet g;
+  dies = λ vs m v x g e object quiet h. asking_dies vs m h v x e quiet g;
   asks = λ vs m v x e quiet h. asking_asks vs m h v x e quiet;
   ready = λ vs m o s h. h;
   linked = λ vs m o next h. h;

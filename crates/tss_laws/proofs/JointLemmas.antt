@@ -20,7 +20,7 @@ pub record IsJoint (J : Named Version → Mail → Type 0) : Type 0 where
   pub write : (vs : Named Version) (m : Mail) (v : OpName) (x y : Version) → get vs v ≡ Some x → y.asked ≡ x.asked
       → y.object ≡ x.object → J vs m → J (put_version vs v y) m
   pub dies : (vs : Named Version) (m : Mail) (v : OpName) (x : Version) (g : GoneContents) → get vs v ≡ Some x
-      → x.asked ≡ None → J vs m → J (drop_version vs v) (posted m (Gone v g))
+      → g.object ≡ x.object → x.asked ≡ None → J vs m → J (drop_version vs v) (posted m (Gone v g))
   pub asks : (vs : Named Version) (m : Mail) (v : OpName) (x : Version) → get vs v ≡ Some x → x.asked ≡ None → J vs m
       → J (put_version vs v (record x { asked = Some x.registered }))
       (posted m (Idle v (record { base = x.object.base; count = x.registered })))
@@ -33,7 +33,7 @@ pub posted_all-append : (m : Mail) (xs ys : List Message) → posted_all m (xs +
 posted_all-append m [] ys = refl
 posted_all-append m (x ∷ xs) ys = posted_all-append (posted m x) xs ys
 
-none_from_test : {X : Type 0} (o : Option X) → is_none o ≡ true → o ≡ None
+pub none_from_test : {X : Type 0} (o : Option X) → is_none o ≡ true → o ≡ None
 none_from_test None e = refl
 none_from_test (Some x) e = absurd (true≢false (sym e))
 
@@ -82,13 +82,13 @@ module _ (J : Named Version → Mail → Type 0) (k : IsJoint J) where
     joint_settle_how quiet f Beside =
         let g : GoneContents = record { object = x.object; buffer = buffer_of x.storage; retired = false } in
         rest (unlinked vs v x f.version) (posted m (Gone v g)) f.version
-        (joint_unlinked vs (posted m (Gone v g)) v x f.version (k.dies vs m v x g e quiet h))
+        (joint_unlinked vs (posted m (Gone v g)) v x f.version (k.dies vs m v x g e refl quiet h))
     joint_settle_how quiet f Over =
         let g : GoneContents = record { object = x.object; buffer = None; retired = false } in
         joint_ready _ (posted m (Gone v g)) f.version f.version x.storage
         (joint_changed (λ y. record y { storage = x.storage }) (λ y. refl) (λ y. refl) (unlinked vs v x f.version)
         (posted m (Gone v g)) f.version
-        (joint_unlinked vs (posted m (Gone v g)) v x f.version (k.dies vs m v x g e quiet h)))
+        (joint_unlinked vs (posted m (Gone v g)) v x f.version (k.dies vs m v x g e refl quiet h)))
 
     joint_settle_by : (f : Option Follow) → After m (settle_by vs v x go f)
     joint_settle_by None = by (may_ask x) refl

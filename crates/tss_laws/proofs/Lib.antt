@@ -20,5 +20,7 @@ pub mod OpeningLemmas
 pub mod PlaceLemmas
 pub mod TableLemmas
 pub mod JointLemmas
+pub mod HeldLemmas
+pub mod HeldEvents
 pub mod AskingLemmas
 pub mod AskingEvents

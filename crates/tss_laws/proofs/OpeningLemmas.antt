@@ -321,7 +321,7 @@ module _ (m : Machine) (ts : List Task) (S : State) (h : AreNamesDecoded m ts S)
     | inr v ↦ absurd (undecoded (h.1.8.2 o v.0 v.1).0.2)
   ]
 
-  no_version_yet : get S.versions o ≡ None
+  pub no_version_yet : get S.versions o ≡ None
   no_version_yet = elim (decide_get S.versions o) [
     | inl e ↦ e
     | inr x ↦ absurd (undecoded (h.1.6 o x.0 x.1).0.2)

@@ -9,3 +9,4 @@ pub mod Names
 pub mod Openings
 pub mod Tables
 pub mod Asking
+pub mod Held

@@ -9,6 +9,7 @@ ghost use Rattle.tss_laws.specs.Names.{NamesLaw};
 ghost use Rattle.tss_laws.specs.Openings.{OpeningsLaw};
 ghost use Rattle.tss_laws.specs.Tables.{TablesLaw};
 ghost use Rattle.tss_laws.specs.Asking.{AskingLaw};
+ghost use Rattle.tss_laws.specs.Held.{HeldPlacesLaw};
 
 /// Spawned tasks are numbered from 1 in their order, at most as many as there may be, and each with at most as many
 /// operands as it may have. The inbox has none but the last of them. A task in flight stands under its number and was
@@ -65,4 +66,11 @@ pub fn tables()
 /// and the number of its readers, that it may not, or that it may. No other version has any.
 pub fn asking()
     ensures { AskingLaw }
+{}
+
+/// A place is held under the name of an open under way, of a version, of one that is copied home, or of one that is gone
+/// with its message under way. Under one name there is one of these at most, and each holds a place in the bank of its
+/// object.
+pub fn held_places()
+    ensures { HeldPlacesLaw }
 {}
