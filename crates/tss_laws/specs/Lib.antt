@@ -3,3 +3,4 @@ pub mod Refinement
 pub mod Progress
 pub mod Bound
 pub mod NoFalseWait
+pub mod MainInOrder

@@ -1,0 +1,240 @@
+-- What a call of main leaves of main: the steps that it has taken, the tasks that it has spawned, and the objects of a
+-- spawned task, which main may not load from then on.
+use Rattle.std.proofs.Common.{◌≡◌, ℕ, suc, ◌+◌, ◌≤◌, Bool, true, false, Option, Some, Result, Ok, Err, List, [], ◌∷◌, ◌++◌, refl, sym, ap, ◌∙◌, arith, add-one, nat_le, nat_lt}
+use Rattle.std.specs.Prelude.{cond, ◌==◌, ◌&&◌, ◌||◌, length, is_some, is_none, max, min}
+use Rattle.std.specs.List.{list_any}
+use Rattle.std.proofs.lemmas.Bool.{and_parts, or_parts, or_from, both_ways, eqb-true, leb-true, ltb-true, lt-ltb, false_from_ne_true}
+use Rattle.std.proofs.lemmas.List.Folds.{list_any-append}
+use Rattle.std.proofs.lemmas.Option.{none-some, same_Some}
+use Rattle.tss_base.specs.declared.range.Range.{Range}
+use Rattle.tss_base.specs.declared.operand.Operand.{Operand}
+use Rattle.tss_base.specs.declared.operand.Task.{Task}
+use Rattle.tss_base.specs.declared.machine.Limits.{Limits}
+use Rattle.tss_base.specs.Range.{end_of, meets}
+use Rattle.tss_model.specs.Causes.{too_many_operands, list_place, main_touch, epoch_full, too_many_tasks, output_full, load_denied}
+use Rattle.tss_model.specs.Memory.{MemoryRange, Memory, range_of, bytes_of, covers}
+use Rattle.tss_model.specs.Registers.{trap_of}
+use Rattle.tss_model.specs.Access.{Loads, touches}
+use Rattle.tss_model.specs.Spawn.{SpawnCall, same_range, name_object, name_objects, objects_of, entries_at, entries_checked, task_of, merged_operands, task_checked, is_misplaced, list_range, spawn_of}
+use Rattle.tss_model.specs.MainStep.{MainState, Call, ExitCall, Spawn, Barrier, Print, Unknown, main_trapped, main_refused, call_done, spawn_call, spawn_done, spawn_on, print_range, print_some, print_call, print_done, output_of, main_call}
+use Rattle.tss_laws.specs.MainInOrder.{MayLoad, steps_taken}
+use Rattle.tss_laws.proofs.FlatLoads.{byte_range, main_granted}
+use Rattle.tss_laws.proofs.FlatOrder.{steps_taken-on}
+
+-- ---- the steps of a call
+
+module _ (limits : Limits) (m : Memory) (s : MainState) (on : is_some s.ending ≡ false) where
+  -- one that is accepted
+  done_step : (t : MainState) → t.ending ≡ s.ending → t.registers.done ≡ s.registers.done + 1
+      → steps_taken t ≡ suc s.registers.done
+  done_step t ending done = steps_taken-on t (ap is_some ending ∙ on) ∙ done ∙ add-one s.registers.done
+
+  print_some-step : (r : Range) → steps_taken (print_some limits m s r) ≡ suc s.registers.done
+  print_some-step r =
+      by (is_none (range_of m.ranges r)) (touches s.epoch r)
+      (nat_lt limits.output_bytes (length (output_of s.pieces) + r.len))
+    where
+      by : (b t o : Bool) → steps_taken (cond b (main_trapped s (trap_of s.registers load_denied r.base))
+          (cond t (main_refused s main_touch) (cond o (main_refused s output_full) (print_done s (bytes_of m r)))))
+          ≡ suc s.registers.done
+      by true t o = refl
+      by false true o = refl
+      by false false true = refl
+      by false false false = done_step (print_done s (bytes_of m r)) refl refl
+
+  print_call-step : (r : Range) → steps_taken (print_call limits m s r) ≡ suc s.registers.done
+  print_call-step r = by (r.len == 0)
+    where
+      by : (b : Bool) → steps_taken (cond b (call_done s) (print_some limits m s r)) ≡ suc s.registers.done
+      by true = done_step (call_done s) refl refl
+      by false = print_some-step r
+
+  spawn_on-step : (r : Result Task ℕ) → steps_taken (spawn_on s r).0 ≡ suc s.registers.done
+  spawn_on-step (Ok t) = done_step (spawn_done s t) refl refl
+  spawn_on-step (Err n) = refl
+
+  -- a call is one step
+  pub main_call-step : (c : Call) → steps_taken (main_call limits m s c).0 ≡ suc s.registers.done
+  main_call-step ExitCall = add-one s.registers.done
+  main_call-step Spawn = spawn_on-step (spawn_of (spawn_call s.registers) m s.epoch limits s.spawned)
+  main_call-step Barrier = done_step (record (call_done s) { epoch = [] }) refl refl
+  main_call-step Print = print_call-step (print_range s.registers)
+  main_call-step (Unknown n) = refl
+
+-- ---- what it counts
+
+-- neither main's completed instructions nor its tasks fall
+pub record Rises (s t : MainState) : Type 0 where
+  pub done : s.registers.done ≤ t.registers.done
+  pub spawned : s.spawned ≤ t.spawned
+
+module _ (limits : Limits) (m : Memory) (s : MainState) where
+  rises_done : (t : MainState) → t.registers.done ≡ s.registers.done + 1 → t.spawned ≡ s.spawned → Rises s t
+  rises_done t done spawned = record { done = omega (arith, done); spawned = omega (arith, spawned) }
+
+  rises_still : (t : MainState) → t.registers.done ≡ s.registers.done → t.spawned ≡ s.spawned → Rises s t
+  rises_still t done spawned = record { done = omega (arith, done); spawned = omega (arith, spawned) }
+
+  print_call-rises : (r : Range) → Rises s (print_call limits m s r)
+  print_call-rises r =
+      by (r.len == 0) (is_none (range_of m.ranges r)) (touches s.epoch r)
+      (nat_lt limits.output_bytes (length (output_of s.pieces) + r.len))
+    where
+      by : (n b t o : Bool) → Rises s (cond n (call_done s)
+          (cond b (main_trapped s (trap_of s.registers load_denied r.base)) (cond t (main_refused s main_touch)
+          (cond o (main_refused s output_full) (print_done s (bytes_of m r))))))
+      by true b t o = rises_done _ refl refl
+      by false true t o = rises_still _ refl refl
+      by false false true o = rises_still _ refl refl
+      by false false false true = rises_still _ refl refl
+      by false false false false = rises_done _ refl refl
+
+  spawn_on-rises : (r : Result Task ℕ) → Rises s (spawn_on s r).0
+  spawn_on-rises (Ok t) = record { done = omega arith; spawned = omega arith }
+  spawn_on-rises (Err n) = rises_still _ refl refl
+
+  pub main_call-rises : (c : Call) → Rises s (main_call limits m s c).0
+  main_call-rises ExitCall = rises_done _ refl refl
+  main_call-rises Spawn = spawn_on-rises (spawn_of (spawn_call s.registers) m s.epoch limits s.spawned)
+  main_call-rises Barrier = rises_done _ refl refl
+  main_call-rises Print = print_call-rises (print_range s.registers)
+  main_call-rises (Unknown n) = rises_still _ refl refl
+
+-- ---- the task of a spawn
+
+same_Ok : {A B : Type 0} (x y : A) → ◌≡◌ {A = Result A B} (Ok x) (Ok y) → x ≡ y
+same_Ok x y e = cc
+
+task_checked-number : (limits : Limits) (call : SpawnCall) (named : List Range) (spawned : ℕ)
+    (r : Result (List Operand) ℕ) (t : Task) → task_checked limits call named spawned r ≡ Ok t → t.number ≡ suc spawned
+task_checked-number limits call named spawned (Err n) t e = absurd (cc)
+task_checked-number limits call named spawned (Ok listed) t e =
+    by (nat_lt limits.epoch_objects (length (name_objects named (objects_of listed))))
+    (nat_le limits.max_tasks spawned) e
+  where
+    by : (b d : Bool) → cond b (Err epoch_full) (cond d (Err too_many_tasks)
+        (Ok (task_of call (suc spawned) listed (merged_operands listed)))) ≡ Ok t → t.number ≡ suc spawned
+    by true d e = absurd (cc)
+    by false true e = absurd (cc)
+    by false false e =
+        ap (λ (x : Task). x.number) (sym (same_Ok (task_of call (suc spawned) listed (merged_operands listed)) t e))
+
+-- it has the next number
+pub spawn_of-number : (call : SpawnCall) (m : Memory) (named : List Range) (limits : Limits) (spawned : ℕ) (t : Task)
+    → spawn_of call m named limits spawned ≡ Ok t → t.number ≡ suc spawned
+unfolding spawn_of
+spawn_of-number call m named limits spawned t e =
+    by (nat_lt limits.max_operands call.count) (nat_lt 0 call.count && is_misplaced m call)
+    (nat_lt 0 call.count && touches named (list_range call)) e
+  where
+    rest : Result Task ℕ
+    rest = task_checked limits call named spawned (entries_checked limits m named (entries_at m call.list call.count))
+
+    by : (b c d : Bool)
+        → cond b (Err too_many_operands) (cond c (Err list_place) (cond d (Err main_touch) rest)) ≡ Ok t
+        → t.number ≡ suc spawned
+    by true c d e = absurd (cc)
+    by false true d e = absurd (cc)
+    by false false true e = absurd (cc)
+    by false false false e =
+        task_checked-number limits call named spawned
+        (entries_checked limits m named (entries_at m call.list call.count)) t e
+
+-- a call that spawns a task is an accepted spawn
+pub record IsSpawn (s main : MainState) (t : Task) : Type 0 where
+  pub main_is : main ≡ spawn_done s t
+  pub number : t.number ≡ suc s.spawned
+
+pub main_call-spawn : (limits : Limits) (m : Memory) (s : MainState) (c : Call) (main : MainState) (t : Task)
+    → main_call limits m s c ≡ (main, Some t) → IsSpawn s main t
+main_call-spawn limits m s ExitCall main t e = absurd (none-some t (ap (λ (p : MainState × Option Task). p.1) e))
+main_call-spawn limits m s Spawn main t e =
+    by (spawn_of (spawn_call s.registers) m s.epoch limits s.spawned) refl e
+  where
+    by : (r : Result Task ℕ) → spawn_of (spawn_call s.registers) m s.epoch limits s.spawned ≡ r
+        → spawn_on s r ≡ (main, Some t) → IsSpawn s main t
+    by (Err n) d e = absurd (none-some t (ap (λ (p : MainState × Option Task). p.1) e))
+    by (Ok u) d e =
+        let same : u ≡ t = same_Some u t (ap (λ (p : MainState × Option Task). p.1) e) in
+        record {
+          main_is = ap (λ (p : MainState × Option Task). p.0) (sym e) ∙ ap (spawn_done s) same;
+          number =
+              ap (λ (x : Task). x.number) (sym same)
+              ∙ spawn_of-number (spawn_call s.registers) m s.epoch limits s.spawned u d;
+        }
+main_call-spawn limits m s Barrier main t e = absurd (none-some t (ap (λ (p : MainState × Option Task). p.1) e))
+main_call-spawn limits m s Print main t e = absurd (none-some t (ap (λ (p : MainState × Option Task). p.1) e))
+main_call-spawn limits m s (Unknown n) main t e = absurd (none-some t (ap (λ (p : MainState × Option Task). p.1) e))
+
+-- ---- named objects
+
+same_range-equal : (r s : Range) → same_range r s ≡ true → r ≡ s
+same_range-equal r s e =
+    let parts = and_parts (r.base == s.base) (r.len == s.len) e in
+    let base = eqb-true r.base s.base parts.0 in
+    let len = eqb-true r.len s.len parts.1 in
+    λ i. record { base = base i; len = len i }
+
+-- what no element passes, an equal one doesn't pass
+none_equal : (P : Range → Bool) (object : Range) (named : List Range) → list_any P named ≡ false
+    → list_any (same_range object) named ≡ true → P object ≡ false
+none_equal P object [] none e = absurd (cc)
+none_equal P object (n ∷ named) none e =
+    let parts = or_parts (P n) (list_any P named) none in
+    by (same_range object n) refl e parts.0 (none_equal P object named parts.1)
+  where
+    by : (b : Bool) → same_range object n ≡ b → (b || list_any (same_range object) named) ≡ true → P n ≡ false
+        → (list_any (same_range object) named ≡ true → P object ≡ false) → P object ≡ false
+    by true same e first later = ap P (same_range-equal object n same) ∙ first
+    by false other e first later = later e
+
+-- a test that no named object passes is passed by none that was named before, nor by the one named last
+name_object-none : (P : Range → Bool) (named : List Range) (object : Range)
+    → list_any P (name_object named object) ≡ false
+    → (list_any P named ≡ false) × (P object ≡ false)
+name_object-none P named object none = by (list_any (same_range object) named) refl none
+  where
+    by : (b : Bool) → list_any (same_range object) named ≡ b
+        → list_any P (cond b named (named ++ object ∷ [])) ≡ false
+        → (list_any P named ≡ false) × (P object ≡ false)
+    by true e none = (none, none_equal P object named none e)
+    by false e none =
+        let parts = or_parts (list_any P named) (list_any P (object ∷ []))
+        (sym (list_any-append P named (object ∷ [])) ∙ none) in
+        (parts.0, (or_parts (P object) false parts.1).0)
+
+pub name_objects-none : (P : Range → Bool) (named objects : List Range)
+    → list_any P (name_objects named objects) ≡ false
+    → (list_any P named ≡ false) × (list_any P objects ≡ false)
+name_objects-none P named [] none = (none, refl)
+name_objects-none P named (object ∷ objects) none =
+    let rest = name_objects-none P (name_object named object) objects none in
+    let parts = name_object-none P named object rest.0 in
+    (parts.0, or_from (P object) (list_any P objects) parts.1 rest.1)
+
+-- a byte that meets no object lies in none
+uncovered : (r : Range) (a : ℕ) → meets r (byte_range a) ≡ false → covers r a ≡ false
+uncovered r a apart =
+    false_from_ne_true (covers r a) (λ inside.
+    let parts = and_parts (nat_le r.base a) (nat_lt a (end_of r)) inside in
+    let low = leb-true r.base a parts.0 in
+    let high = ltb-true a (end_of r) parts.1 in
+    both_ways (meets r (byte_range a)) apart
+    (lt-ltb (max r.base a) (min (end_of r) (a + 1)) (omega (arith, low, high))))
+
+objects-uncovered : (operands : List Operand) (a : ℕ) → touches (objects_of operands) (byte_range a) ≡ false
+    → list_any (λ o. covers o.object a) operands ≡ false
+objects-uncovered [] a apart = refl
+objects-uncovered (o ∷ operands) a apart =
+    let parts = or_parts (meets o.object (byte_range a)) (touches (objects_of operands) (byte_range a)) apart in
+    or_from (covers o.object a) (list_any (λ o. covers o.object a) operands) (uncovered o.object a parts.0)
+    (objects-uncovered operands a parts.1)
+
+-- what main may load once a task's objects are named lies in none of them
+pub may_load_unnamed : (ranges : List MemoryRange) (named : List Range) (operands : List Operand) (a : ℕ)
+    → MayLoad ranges (name_objects named (objects_of operands)) a
+    → list_any (λ o. covers o.object a) operands ≡ false
+may_load_unnamed ranges named operands a may =
+    let apart = (main_granted ranges (name_objects named (objects_of operands)) Loads (byte_range a) may).1 in
+    objects-uncovered operands a
+    (name_objects-none (λ object. meets object (byte_range a)) named (objects_of operands) apart).1

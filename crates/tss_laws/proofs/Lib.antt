@@ -1,0 +1,12 @@
+mod FlatRanges
+mod FlatLoads
+mod FlatCore
+mod FlatWrites
+mod FlatSteps
+mod FlatMain
+mod FlatCalls
+mod FlatTask
+mod RunKeeps
+mod FlatOrder
+mod FlatSpawn
+mod MainEvent
