@@ -1,8 +1,9 @@
--- One step of a core: what it reads where it is main's, what it stores, and the instructions that it completes.
-use Rattle.std.proofs.Common.{◌≡◌, ℕ, zero, suc, ◌+◌, ◌%◌, ◌<◌, Bool, true, false, Option, Some, None, List, length, refl, ap, ◌∙◌, arith}
+-- One step of a core: what it reads, what it stores, and the instructions that it completes.
+use Rattle.std.proofs.Common.{◌≡◌, ℕ, zero, suc, ◌+◌, ◌%◌, ◌<◌, Bool, true, false, Option, Some, None, length, refl, ap, ◌∙◌, arith}
 use Rattle.std.specs.Prelude.{cond, ◌==◌, slice_set}
 use Rattle.std.specs.Int.{bytes_low_first}
 use Rattle.tss_base.specs.declared.range.Range.{Range}
+use Rattle.tss_base.specs.Range.{Covers}
 use Rattle.tss_isa.specs.declared.instr.Instr.{Instr}
 use Rattle.tss_isa.specs.declared.instr.Instr.TheVariants.{Lui, Auipc, Jal, Jalr, Branch, Load, Store, OpImm, Op, Fence, Ecall, Ebreak}
 use Rattle.tss_isa.specs.declared.instr.LoadKind.{LoadKind}
@@ -10,34 +11,32 @@ use Rattle.tss_isa.specs.declared.instr.StoreKind.{StoreKind}
 use Rattle.tss_isa.specs.declared.instr.StoreKind.TheVariants.{Sb, Sh, Sw}
 use Rattle.tss_isa.specs.InstrTable.{instr_of}
 use Rattle.tss_model.specs.Causes.{jump_misaligned, load_misaligned, store_misaligned}
-use Rattle.tss_model.specs.Memory.{MemoryRange}
 use Rattle.tss_model.specs.Registers.{Registers, register_at, with_register, next_pc, completed, end_pc, trap_of}
-use Rattle.tss_model.specs.Access.{Actor, MainActor, Loads, Stores, Access, Granted, Denied, Touch, access_of, main_access}
+use Rattle.tss_model.specs.Access.{Actor, Loads, Stores, Access, Granted, Denied, Touch, access_of}
 use Rattle.tss_model.specs.Core.{Stepped, Executed, Called, Ended, Trapped, Touched, jump_to, branch_if, passes, load_on, load_from, load_range, load_width, loaded_value, extended, store_on, store_to, store_range, store_width, stored_value, execute, execute_word, execute_fetched, core_step, moved, result_in}
-use Rattle.tss_laws.specs.MainInOrder.{MayLoad}
-use Rattle.tss_laws.proofs.FlatLoads.{may_load_granted, same_number}
+use Rattle.tss_laws.proofs.FlatLoads.{same_number}
 
--- ---- what a step of main reads
+-- ---- what a step reads
 
-module _ (ranges : List MemoryRange) (named : List Range) (f g : ℕ → ℕ)
-    (same : (a : ℕ) → MayLoad ranges named a → f a ≡ g a) (r : Registers) where
-  load_on-same : (kind : LoadKind) (rd at : ℕ) (x : Access)
-      → main_access ranges named Loads (load_range kind at) ≡ x
+-- two reads agree on every range that an actor may load
+abbrev pub AgreeOnLoads : Actor → (ℕ → ℕ) → (ℕ → ℕ) → Type 0
+AgreeOnLoads actor f g = (q : Range) (a : ℕ) → access_of actor Loads q ≡ Granted → Covers q a → f a ≡ g a
+
+module _ (actor : Actor) (f g : ℕ → ℕ) (same : AgreeOnLoads actor f g) (r : Registers) where
+  load_on-same : (kind : LoadKind) (rd at : ℕ) (x : Access) → access_of actor Loads (load_range kind at) ≡ x
       → load_on x r rd at (loaded_value f kind at) ≡ load_on x r rd at (loaded_value g kind at)
   load_on-same kind rd at Granted e =
       ap (λ n. result_in r rd (extended kind n))
-      (same_number f g at (load_width kind) (λ a low high.
-      same a (may_load_granted ranges named Loads (load_range kind at) a e (low, high))))
+      (same_number f g at (load_width kind) (λ a low high. same (load_range kind at) a e (low, high)))
   load_on-same kind rd at Denied e = refl
   load_on-same kind rd at Touch e = refl
 
-  load_from-same : (kind : LoadKind) (rd at : ℕ)
-      → load_from (MainActor ranges named) f r kind rd at ≡ load_from (MainActor ranges named) g r kind rd at
+  load_from-same : (kind : LoadKind) (rd at : ℕ) → load_from actor f r kind rd at ≡ load_from actor g r kind rd at
   load_from-same kind rd at =
       ap (λ x. cond (at % load_width kind == 0) x (Trapped (trap_of r load_misaligned at)))
-      (load_on-same kind rd at (main_access ranges named Loads (load_range kind at)) refl)
+      (load_on-same kind rd at (access_of actor Loads (load_range kind at)) refl)
 
-  execute-same : (i : Instr) → execute (MainActor ranges named) f r i ≡ execute (MainActor ranges named) g r i
+  execute-same : (i : Instr) → execute actor f r i ≡ execute actor g r i
   execute-same (Lui rd imm) = refl
   execute-same (Auipc rd imm) = refl
   execute-same (Jal rd offset) = refl
@@ -51,19 +50,16 @@ module _ (ranges : List MemoryRange) (named : List Range) (f g : ℕ → ℕ)
   execute-same Ecall = refl
   execute-same Ebreak = refl
 
-  word-same : (w : ℕ) (i : Option Instr)
-      → execute_word (MainActor ranges named) f r w i ≡ execute_word (MainActor ranges named) g r w i
+  word-same : (w : ℕ) (i : Option Instr) → execute_word actor f r w i ≡ execute_word actor g r w i
   word-same w (Some i) = execute-same i
   word-same w None = refl
 
-  fetched-same : (w : Option ℕ)
-      → execute_fetched (MainActor ranges named) f r w ≡ execute_fetched (MainActor ranges named) g r w
+  fetched-same : (w : Option ℕ) → execute_fetched actor f r w ≡ execute_fetched actor g r w
   fetched-same (Some w) = word-same w (instr_of w)
   fetched-same None = refl
 
-  -- memories that agree where main may load give main's core the same step
-  pub core_step-same : (word : ℕ → Option ℕ)
-      → core_step (MainActor ranges named) f word r ≡ core_step (MainActor ranges named) g word r
+  -- reads that agree wherever an actor may load give its core the same step
+  pub core_step-same : (word : ℕ → Option ℕ) → core_step actor f word r ≡ core_step actor g word r
   unfolding core_step
   core_step-same word = ap (λ x. cond (r.pc == end_pc) Ended x) (fetched-same (word r.pc))
 

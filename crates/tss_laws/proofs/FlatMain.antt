@@ -7,7 +7,7 @@ use Rattle.tss_base.specs.declared.machine.Limits.{Limits}
 use Rattle.tss_base.specs.Image.{SegmentState}
 use Rattle.tss_model.specs.Causes.{fetch_outside, main_touch, main_budget_spent}
 use Rattle.tss_model.specs.Memory.{byte_at, code_word}
-use Rattle.tss_model.specs.Access.{MainActor, Stores}
+use Rattle.tss_model.specs.Access.{MainActor, Loads, Stores}
 use Rattle.tss_model.specs.Core.{Stepped, Executed, Called, Ended, Trapped, Touched, core_step}
 use Rattle.tss_model.specs.TaskRun.{repeated}
 use Rattle.tss_model.specs.Registers.{trap_of}
@@ -142,8 +142,10 @@ module _ (code : List SegmentState) (limits : Limits) (f g : Flat) (alike : AreA
   -- main's core does the same on both
   pub main_core-alike : main_core code f ≡ main_core code g
   main_core-alike =
-      core_step-same f.memory.ranges f.main.epoch (byte_at f.memory) (byte_at g.memory)
-      (λ a may. ap (λ o. unwrap_or o 0) (alike.bytes a may)) f.main.registers (code_word code)
+      core_step-same (MainActor f.memory.ranges f.main.epoch) (byte_at f.memory) (byte_at g.memory)
+      (λ q a granted covered. ap (λ o. unwrap_or o 0)
+      (alike.bytes a (may_load_granted f.memory.ranges f.main.epoch Loads q a granted covered))) f.main.registers
+      (code_word code)
       ∙ (λ i. core_step (MainActor (alike.ranges i) (alike.main i).epoch) (byte_at g.memory) (code_word code)
       (alike.main i).registers)
 

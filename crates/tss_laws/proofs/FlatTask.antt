@@ -67,18 +67,32 @@ granted_store : (b : Bool) → cond b Granted Denied ≡ Granted → b ≡ true
 granted_store true e = refl
 granted_store false e = absurd (cc)
 
--- a granted store outside the scratch leaves each address beside the objects that the task writes
-store-beside : (ranges : List MemoryRange) (operands : List Operand) (w : Write) (a : ℕ) → 0 < length w.bytes
+-- a write that a task may make beyond its scratch: it has bytes, and they lie in an operand that is output or inout
+abbrev pub MayWrite : List Operand → Write → Type 0
+MayWrite operands w =
+    (0 < length w.bytes)
+    × (list_any (λ o. writes o.mode && contains o.object (record { base = w.at; len = length w.bytes })) operands
+    ≡ true)
+
+-- a granted store outside the scratch is one
+pub granted_write : (ranges : List MemoryRange) (operands : List Operand) (w : Write) → 0 < length w.bytes
     → task_access ranges operands Stores (record { base = w.at; len = length w.bytes }) ≡ Granted
-    → covers scratch_range w.at ≡ false → is_written operands a ≡ false → w.at ≤ a → a < w.at + length w.bytes → ⊥
-store-beside ranges operands w a some granted outside beside low high =
+    → covers scratch_range w.at ≡ false → MayWrite operands w
+granted_write ranges operands w some granted outside =
     let r : Range = record { base = w.at; len = length w.bytes } in
     elim (or_cases (contains scratch_range r) (list_any (λ o. writes o.mode && contains o.object r) operands)
     (granted_store (task_may_store operands r) granted)) [
-      | inl scratch ↦ both_ways (covers scratch_range w.at) outside
-          (covers_inside scratch_range r w.at scratch (omega arith, omega arith))
-      | inr owned ↦ both_ways (is_written operands a) beside (stored_written operands r a (low, high) owned)
+      | inl scratch ↦ absurd (both_ways (covers scratch_range w.at) outside
+          (covers_inside scratch_range r w.at scratch (omega arith, omega arith)))
+      | inr owned ↦ (some, owned)
     ]
+
+-- it leaves each address beside the objects that the task writes
+pub write_beside : (operands : List Operand) (w : Write) (a : ℕ) → MayWrite operands w → is_written operands a ≡ false
+    → w.at ≤ a → a < w.at + length w.bytes → ⊥
+write_beside operands w a may beside low high =
+    both_ways (is_written operands a) beside
+    (stored_written operands (record { base = w.at; len = length w.bytes }) a (low, high) may.1)
 
 -- ---- steps
 
@@ -99,7 +113,7 @@ module _ (ranges : List MemoryRange) (operands : List Operand) (s : TaskState Me
             ranges = refl;
             bytes = λ a beside.
                 map_put-beside s.memory.bytes w.at w.bytes a
-                (store-beside ranges operands w a some granted outside beside);
+                (write_beside operands w a (granted_write ranges operands w some granted outside) beside);
           })
 
   task_on-changes : (x : Stepped) → IsStep (TaskActor ranges operands) s.registers x

@@ -6,6 +6,8 @@ mod FlatSteps
 mod FlatMain
 mod FlatCalls
 mod FlatTask
+mod FlatTaskAlike
+mod FlatTaskRuns
 mod RunKeeps
 mod FlatOrder
 mod FlatSpawn
