@@ -1,24 +1,23 @@
 -- What a call of main leaves of main: the steps that it has taken, the tasks that it has spawned, and the objects of a
 -- spawned task, which main may not load from then on.
-use Rattle.std.proofs.Common.{◌≡◌, ℕ, suc, ◌+◌, ◌≤◌, Bool, true, false, Option, Some, Result, Ok, Err, List, [], ◌∷◌, ◌++◌, refl, sym, ap, ◌∙◌, arith, add-one, nat_le, nat_lt}
-use Rattle.std.specs.Prelude.{cond, ◌==◌, ◌&&◌, ◌||◌, length, is_some, is_none, max, min}
+use Rattle.std.proofs.Common.{◌≡◌, ℕ, suc, ◌+◌, ◌≤◌, Bool, true, false, Option, Some, Result, Ok, Err, List, [], refl, sym, ap, ◌∙◌, arith, add-one, nat_le, nat_lt}
+use Rattle.std.specs.Prelude.{cond, ◌==◌, ◌&&◌, length, is_some, is_none}
 use Rattle.std.specs.List.{list_any}
-use Rattle.std.proofs.lemmas.Bool.{and_parts, or_parts, or_from, both_ways, eqb-true, leb-true, ltb-true, lt-ltb, false_from_ne_true}
-use Rattle.std.proofs.lemmas.List.Folds.{list_any-append}
+use Rattle.std.proofs.lemmas.Bool.{both_ways, false_from_ne_true}
 use Rattle.std.proofs.lemmas.Option.{none-some, same_Some}
 use Rattle.tss_base.specs.declared.range.Range.{Range}
 use Rattle.tss_base.specs.declared.operand.Operand.{Operand}
 use Rattle.tss_base.specs.declared.operand.Task.{Task}
 use Rattle.tss_base.specs.declared.machine.Limits.{Limits}
-use Rattle.tss_base.specs.Range.{end_of, meets}
 use Rattle.tss_model.specs.Causes.{too_many_operands, list_place, main_touch, epoch_full, too_many_tasks, output_full, load_denied}
 use Rattle.tss_model.specs.Memory.{MemoryRange, Memory, range_of, bytes_of, covers}
 use Rattle.tss_model.specs.Registers.{trap_of}
 use Rattle.tss_model.specs.Access.{Loads, touches}
-use Rattle.tss_model.specs.Spawn.{SpawnCall, same_range, name_object, name_objects, objects_of, entries_at, entries_checked, task_of, merged_operands, task_checked, is_misplaced, list_range, spawn_of}
+use Rattle.tss_model.specs.Spawn.{SpawnCall, name_objects, objects_of, entries_at, entries_checked, task_of, merged_operands, task_checked, is_misplaced, list_range, spawn_of}
 use Rattle.tss_model.specs.MainStep.{MainState, Call, ExitCall, Spawn, Barrier, Print, Unknown, main_trapped, main_refused, call_done, spawn_call, spawn_done, spawn_on, print_range, print_some, print_call, print_done, output_of, main_call}
 use Rattle.tss_laws.specs.MainInOrder.{MayLoad, steps_taken}
 use Rattle.tss_laws.proofs.FlatLoads.{byte_range, main_granted}
+use Rattle.tss_laws.proofs.FlatNames.{any_has, any_object, name_objects-names, covers-touch}
 use Rattle.tss_laws.proofs.FlatOrder.{steps_taken-on}
 
 -- ---- the steps of a call
@@ -168,73 +167,15 @@ main_call-spawn limits m s (Unknown n) main t e = absurd (none-some t (ap (λ (p
 
 -- ---- named objects
 
-same_range-equal : (r s : Range) → same_range r s ≡ true → r ≡ s
-same_range-equal r s e =
-    let parts = and_parts (r.base == s.base) (r.len == s.len) e in
-    let base = eqb-true r.base s.base parts.0 in
-    let len = eqb-true r.len s.len parts.1 in
-    λ i. record { base = base i; len = len i }
-
--- what no element passes, an equal one doesn't pass
-none_equal : (P : Range → Bool) (object : Range) (named : List Range) → list_any P named ≡ false
-    → list_any (same_range object) named ≡ true → P object ≡ false
-none_equal P object [] none e = absurd (cc)
-none_equal P object (n ∷ named) none e =
-    let parts = or_parts (P n) (list_any P named) none in
-    by (same_range object n) refl e parts.0 (none_equal P object named parts.1)
-  where
-    by : (b : Bool) → same_range object n ≡ b → (b || list_any (same_range object) named) ≡ true → P n ≡ false
-        → (list_any (same_range object) named ≡ true → P object ≡ false) → P object ≡ false
-    by true same e first later = ap P (same_range-equal object n same) ∙ first
-    by false other e first later = later e
-
--- a test that no named object passes is passed by none that was named before, nor by the one named last
-name_object-none : (P : Range → Bool) (named : List Range) (object : Range)
-    → list_any P (name_object named object) ≡ false
-    → (list_any P named ≡ false) × (P object ≡ false)
-name_object-none P named object none = by (list_any (same_range object) named) refl none
-  where
-    by : (b : Bool) → list_any (same_range object) named ≡ b
-        → list_any P (cond b named (named ++ object ∷ [])) ≡ false
-        → (list_any P named ≡ false) × (P object ≡ false)
-    by true e none = (none, none_equal P object named none e)
-    by false e none =
-        let parts = or_parts (list_any P named) (list_any P (object ∷ []))
-        (sym (list_any-append P named (object ∷ [])) ∙ none) in
-        (parts.0, (or_parts (P object) false parts.1).0)
-
-pub name_objects-none : (P : Range → Bool) (named objects : List Range)
-    → list_any P (name_objects named objects) ≡ false
-    → (list_any P named ≡ false) × (list_any P objects ≡ false)
-name_objects-none P named [] none = (none, refl)
-name_objects-none P named (object ∷ objects) none =
-    let rest = name_objects-none P (name_object named object) objects none in
-    let parts = name_object-none P named object rest.0 in
-    (parts.0, or_from (P object) (list_any P objects) parts.1 rest.1)
-
--- a byte that meets no object lies in none
-uncovered : (r : Range) (a : ℕ) → meets r (byte_range a) ≡ false → covers r a ≡ false
-uncovered r a apart =
-    false_from_ne_true (covers r a) (λ inside.
-    let parts = and_parts (nat_le r.base a) (nat_lt a (end_of r)) inside in
-    let low = leb-true r.base a parts.0 in
-    let high = ltb-true a (end_of r) parts.1 in
-    both_ways (meets r (byte_range a)) apart
-    (lt-ltb (max r.base a) (min (end_of r) (a + 1)) (omega (arith, low, high))))
-
-objects-uncovered : (operands : List Operand) (a : ℕ) → touches (objects_of operands) (byte_range a) ≡ false
-    → list_any (λ o. covers o.object a) operands ≡ false
-objects-uncovered [] a apart = refl
-objects-uncovered (o ∷ operands) a apart =
-    let parts = or_parts (meets o.object (byte_range a)) (touches (objects_of operands) (byte_range a)) apart in
-    or_from (covers o.object a) (list_any (λ o. covers o.object a) operands) (uncovered o.object a parts.0)
-    (objects-uncovered operands a parts.1)
-
 -- what main may load once a task's objects are named lies in none of them
 pub may_load_unnamed : (ranges : List MemoryRange) (named : List Range) (operands : List Operand) (a : ℕ)
     → MayLoad ranges (name_objects named (objects_of operands)) a
     → list_any (λ o. covers o.object a) operands ≡ false
 may_load_unnamed ranges named operands a may =
-    let apart = (main_granted ranges (name_objects named (objects_of operands)) Loads (byte_range a) may).1 in
-    objects-uncovered operands a
-    (name_objects-none (λ object. meets object (byte_range a)) named (objects_of operands) apart).1
+    false_from_ne_true (list_any (λ o. covers o.object a) operands) (λ inside.
+    let object = any_has (λ x. covers x a) (objects_of operands)
+    (sym (any_object (λ x. covers x a) operands) ∙ inside) in
+    both_ways (touches (name_objects named (objects_of operands)) (byte_range a))
+    (main_granted ranges (name_objects named (objects_of operands)) Loads (byte_range a) may).1
+    (covers-touch (name_objects named (objects_of operands)) object.0 a
+    (name_objects-names named (objects_of operands) object.0 object.1) object.2))

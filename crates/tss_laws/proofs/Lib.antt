@@ -8,7 +8,11 @@ mod FlatCalls
 mod FlatTask
 mod FlatTaskAlike
 mod FlatTaskRuns
-mod RunKeeps
 mod FlatOrder
+mod FlatNames
 mod FlatSpawn
+mod FlatEpoch
+mod FlatStarts
+mod FlatNaming
+mod RunKeeps
 mod MainEvent
