@@ -25,7 +25,8 @@ use Rattle.tss_laws.proofs.FlatNames.{Has, AreApart, AreApart-part, AreApart-mor
 -- ---- what a check that passed says
 
 -- where the test failed, the rest is the answer
-pub else_of : {X : Type 0} (b : Bool) (n : ℕ) (r : Result X ℕ) (x : X) → cond b (Err n) r ≡ Ok x → (b ≡ false) × (r ≡ Ok x)
+pub else_of : {X : Type 0} (b : Bool) (n : ℕ) (r : Result X ℕ) (x : X) → cond b (Err n) r ≡ Ok x
+    → (b ≡ false) × (r ≡ Ok x)
 else_of true n r x e = absurd (cc)
 else_of false n r x e = (refl, e)
 
@@ -120,7 +121,8 @@ module _ (call : SpawnCall) (m : Memory) (named : List Range) (limits : Limits) 
       → task_checked limits call named spawned r ≡ Ok t → IsSpawned limits m named t
   task_passed (Err n) each e = absurd (cc)
   task_passed (Ok os) each e =
-      let first = else_of (nat_lt limits.epoch_objects (length (name_objects named (objects_of os)))) epoch_full _ t e in
+      let first = else_of (nat_lt limits.epoch_objects (length (name_objects named (objects_of os)))) epoch_full _
+      t e in
       let second = else_of (nat_le limits.max_tasks spawned) too_many_tasks _ t first.1 in
       let is = same_Ok (task_of call (suc spawned) os (merged_operands os)) t second.1 in
       record {

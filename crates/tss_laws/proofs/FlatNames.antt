@@ -32,7 +32,8 @@ Has named object = list_any (same_range object) named ≡ true
 
 pub Has-append : (xs ys : List Range) (x : Range) → Has (xs ++ ys) x → Has xs x ⊎ Has ys x
 Has-append xs ys x has =
-    or_cases (list_any (same_range x) xs) (list_any (same_range x) ys) (sym (list_any-append (same_range x) xs ys) ∙ has)
+    or_cases (list_any (same_range x) xs) (list_any (same_range x) ys)
+    (sym (list_any-append (same_range x) xs ys) ∙ has)
 
 pub Has-left : (xs ys : List Range) (x : Range) → Has xs x → Has (xs ++ ys) x
 Has-left xs ys x has =
@@ -73,7 +74,8 @@ any_object P (o ∷ operands) = ap (λ b. P o.object || b) (any_object P operand
 -- ---- naming
 
 -- what is named was named before, or is the object
-pub name_object-has : (named : List Range) (object x : Range) → Has (name_object named object) x → Has named x ⊎ (x ≡ object)
+pub name_object-has : (named : List Range) (object x : Range) → Has (name_object named object) x
+    → Has named x ⊎ (x ≡ object)
 name_object-has named object x has = by (list_any (same_range object) named) has
   where
     by : (b : Bool) → Has (cond b named (named ++ object ∷ [])) x → Has named x ⊎ (x ≡ object)
@@ -137,7 +139,8 @@ AreApart-part xs ys part apart x y has also meet = apart x y (part x has) (part 
 
 meets-sym : (x y : Range) → meets x y ≡ true → meets y x ≡ true
 meets-sym x y meet =
-    let common : max x.base y.base < min (end_of x) (end_of y) = ltb-true (max x.base y.base) (min (end_of x) (end_of y)) meet in
+    let common : max x.base y.base < min (end_of x) (end_of y) =
+    ltb-true (max x.base y.base) (min (end_of x) (end_of y)) meet in
     lt-ltb (max y.base x.base) (min (end_of y) (end_of x)) (omega (arith, common))
 
 -- an object that overlaps none of the named ones is one of them, or meets none
@@ -146,7 +149,8 @@ not_overlapped : (named : List Range) (object x : Range) → overlaps named obje
 not_overlapped named object x none has meet = elim (cases_Bool (same_range x object)) [
   | inl same ↦ same_range-equal x object same
   | inr other ↦
-      let passes = and_from (meets x object) (not (same_range x object)) meet (not_from_false (same_range x object) other) in
+      let passes = and_from (meets x object) (not (same_range x object)) meet
+      (not_from_false (same_range x object) other) in
       absurd (both_ways (overlaps named object) none
       (has_any (λ n. meets n object && not (same_range n object)) named x has passes))
 ]

@@ -62,7 +62,8 @@ module _ (code : List SegmentState) (limits : Limits) (f : Flat) (a : ℕ)
 -- through n steps from j on an address lies in a named object, and no task that is started writes it
 pub record StaysNamed (i : ImageState) (limits : Limits) (a j n : ℕ) : Type 0 where
   pub named : (k : ℕ) → k < n → touches (flat_stepped i limits (j + k)).main.epoch (byte_range a) ≡ true
-  pub unwritten : (k : ℕ) (t : Task) → k < n → task_started i limits (j + k) ≡ Some t → is_written (operands_of t) a ≡ false
+  pub unwritten : (k : ℕ) (t : Task) → k < n → task_started i limits (j + k) ≡ Some t
+      → is_written (operands_of t) a ≡ false
 
 -- then its byte stays
 pub named_stays : (i : ImageState) (limits : Limits) (a j n : ℕ) → StaysNamed i limits a j n
@@ -125,7 +126,8 @@ module _ (i : ImageState) (limits : Limits) (x : Range) (j n : ℕ) (unbroken : 
         let later : j + suc k ≡ suc (j + k) = omega arith in
         unwritten_object (flat_stepped i limits (suc (j + k))).main.epoch (operands_of t) x a
         (flat_stepped-apart i limits (suc (j + k)))
-        (λ o has. started-names i limits (j + k) (record { task = t; memory = (flat_stepped i limits (j + k)).memory }) start o has)
+        (λ o has. started-names i limits (j + k)
+        (record { task = t; memory = (flat_stepped i limits (j + k)).memory }) start o has)
         (ap (λ (l : ℕ). list_any (same_range x) (flat_stepped i limits l).main.epoch) (sym later)
         ∙ unbroken.named (suc k) (omega arith))
         inside (unbroken.unwritten k (record { task = t; memory = (flat_stepped i limits (j + k)).memory }) h start);
@@ -138,7 +140,8 @@ module _ (i : ImageState) (limits : Limits) (x : Range) (j n : ℕ) (unbroken : 
 
   pub unbroken_bytes : bytes_of (flat_stepped i limits (j + n)).memory x ≡ bytes_of (flat_stepped i limits j).memory x
   unbroken_bytes =
-      same_bytes (byte_at (flat_stepped i limits (j + n)).memory) (byte_at (flat_stepped i limits j).memory) x.base x.len
+      same_bytes (byte_at (flat_stepped i limits (j + n)).memory) (byte_at (flat_stepped i limits j).memory)
+      x.base x.len
       (λ a low high. ap (λ o. unwrap_or o 0) (unbroken_byte a
       (and_from (nat_le x.base a) (nat_lt a (end_of x)) (le-leb x.base a low) (lt-ltb a (end_of x) high))))
 

@@ -148,7 +148,8 @@ module _ (i : ImageState) (limits : Limits) where
       let by = started_at-by i limits k s start in
       let f = flat_stepped i limits k in
       let spawn = main_call-spawn limits f.memory f.main by.call by.main s.task by.called in
-      let epoch : (flat_stepped i limits (suc k)).main.epoch ≡ name_objects f.main.epoch (objects_of (operands_of s.task)) =
+      let epoch : (flat_stepped i limits (suc k)).main.epoch
+      ≡ name_objects f.main.epoch (objects_of (operands_of s.task)) =
       ap (λ (f : Flat). f.main.epoch)
       (flat_stepped-next i limits k ∙ flat_step-call (frozen i) limits f by.call by.next)
       ∙ call_ran-epoch (frozen i) limits f.memory (main_call limits f.memory f.main by.call)
@@ -162,4 +163,5 @@ module _ (i : ImageState) (limits : Limits) where
       → s.task.number ≡ suc (flat_stepped i limits k).main.spawned
   started-number k s start =
       let by = started_at-by i limits k s start in
-      (main_call-spawn limits (flat_stepped i limits k).memory (flat_stepped i limits k).main by.call by.main s.task by.called).number
+      (main_call-spawn limits (flat_stepped i limits k).memory (flat_stepped i limits k).main by.call by.main s.task
+      by.called).number

@@ -110,10 +110,11 @@ task_loads ranges operands q a granted covered outside =
     (granted_load (task_may_load operands q (range_of ranges q)) granted)) [
       | inl scratch ↦ absurd (both_ways (covers scratch_range a) outside
           (covers_inside scratch_range q a scratch covered))
-      | inr beyond ↦ elim (or_cases (list_any (λ o. contains o.object q) operands) (is_fixed (range_of ranges q)) beyond) [
-        | inl owned ↦ inl (owned_covers operands q a covered owned)
-        | inr fixed ↦ inr (is_fixed-some (range_of ranges q) fixed)
-      ]
+      | inr beyond ↦ elim (or_cases (list_any (λ o. contains o.object q) operands) (is_fixed (range_of ranges q))
+          beyond) [
+            | inl owned ↦ inl (owned_covers operands q a covered owned)
+            | inr fixed ↦ inr (is_fixed-some (range_of ranges q) fixed)
+          ]
     ]
 
 -- two memories that agree on what a task has at its start
@@ -152,10 +153,12 @@ module _ (t : Task) (m n : Memory) (agree : AgreeForTask t m n) where
 
   stretch_same : (code : List SegmentState) (limits : Limits) (k : ℕ)
       → RunSame t m n (task_stepped code limits m t k)
-      (task_stretch byte_at memory_write limits.task_budget code (TaskActor m.ranges (operands_of t)) k (task_start n t))
+      (task_stretch byte_at memory_write limits.task_budget code (TaskActor m.ranges (operands_of t)) k
+      (task_start n t))
   stretch_same code limits k =
       let run = task_stretch-alike byte_at memory_write byte_at memory_write m.ranges (operands_of t) StillAgree
-      (λ x y still q a granted covered outside. ap (λ o. unwrap_or o 0) (still a (loads_agree q a granted covered outside)))
+      (λ x y still q a granted covered outside.
+      ap (λ o. unwrap_or o 0) (still a (loads_agree q a granted covered outside)))
       (λ x y still w may a there. map_put-agrees x.bytes y.bytes w.at w.bytes a (still a there))
       limits.task_budget code k (task_start m t) (task_start n t)
       (record {

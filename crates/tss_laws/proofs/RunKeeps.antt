@@ -339,7 +339,8 @@ main_keeps P m kept es S T p e =
     ]) es S T p e
 
 -- the objects that main has named are apart after its event
-main_by-apart : (m : Machine) (S : State) (c : Option Call) → AreApart S.main.epoch → AreApart (main_by m S c).main.epoch
+main_by-apart : (m : Machine) (S : State) (c : Option Call) → AreApart S.main.epoch
+    → AreApart (main_by m S c).main.epoch
 main_by-apart m S None apart =
     subst AreApart (sym (main_stretch-leaves S.code m.limits m.sizes.quantum (flat_of S)).epoch) apart
 main_by-apart m S (Some call) apart =
