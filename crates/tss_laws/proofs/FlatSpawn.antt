@@ -1,6 +1,6 @@
 -- What a call of main leaves of main: the steps that it has taken, the tasks that it has spawned, and the objects of a
 -- spawned task, which main may not load from then on.
-use Rattle.std.proofs.Common.{◌≡◌, ℕ, suc, ◌+◌, ◌≤◌, Bool, true, false, Option, Some, Result, Ok, Err, List, [], refl, sym, ap, ◌∙◌, arith, add-one, nat_le, nat_lt}
+use Rattle.std.proofs.Common.{◌≡◌, ◌⊎◌, inl, inr, ℕ, suc, ◌+◌, ◌≤◌, Bool, true, false, Option, Some, Result, Ok, Err, List, [], ◌∷◌, ◌++◌, refl, sym, ap, ◌∙◌, arith, add-one, nat_le, nat_lt}
 use Rattle.std.specs.Prelude.{cond, ◌==◌, ◌&&◌, length, is_some, is_none}
 use Rattle.std.specs.List.{list_any}
 use Rattle.std.proofs.lemmas.Bool.{both_ways, false_from_ne_true}
@@ -60,19 +60,30 @@ module _ (limits : Limits) (m : Memory) (s : MainState) (on : is_some s.ending �
   main_call-step Print = print_call-step (print_range s.registers)
   main_call-step (Unknown n) = refl
 
--- ---- what it counts
+-- ---- what it counts and prints
 
--- neither main's completed instructions nor its tasks fall
+-- main has printed nothing more, or a piece with the tasks that it has spawned
+abbrev pub PrintsOne : MainState → MainState → Type 0
+PrintsOne s t =
+    (t.pieces ≡ s.pieces)
+    ⊎ ((bytes : List ℕ) × (t.pieces ≡ s.pieces ++ record { before = s.spawned; bytes = bytes } ∷ []))
+
+-- neither main's completed instructions nor its tasks fall, and it prints at most one piece
 pub record Rises (s t : MainState) : Type 0 where
   pub done : s.registers.done ≤ t.registers.done
   pub spawned : s.spawned ≤ t.spawned
+  pub pieces : PrintsOne s t
 
 module _ (limits : Limits) (m : Memory) (s : MainState) where
-  rises_done : (t : MainState) → t.registers.done ≡ s.registers.done + 1 → t.spawned ≡ s.spawned → Rises s t
-  rises_done t done spawned = record { done = omega (arith, done); spawned = omega (arith, spawned) }
+  rises_done : (t : MainState) → t.registers.done ≡ s.registers.done + 1 → t.spawned ≡ s.spawned → PrintsOne s t
+      → Rises s t
+  rises_done t done spawned pieces =
+      record { done = omega (arith, done); spawned = omega (arith, spawned); pieces = pieces }
 
-  rises_still : (t : MainState) → t.registers.done ≡ s.registers.done → t.spawned ≡ s.spawned → Rises s t
-  rises_still t done spawned = record { done = omega (arith, done); spawned = omega (arith, spawned) }
+  rises_still : (t : MainState) → t.registers.done ≡ s.registers.done → t.spawned ≡ s.spawned → t.pieces ≡ s.pieces
+      → Rises s t
+  rises_still t done spawned pieces =
+      record { done = omega (arith, done); spawned = omega (arith, spawned); pieces = inl pieces }
 
   print_call-rises : (r : Range) → Rises s (print_call limits m s r)
   print_call-rises r =
@@ -82,22 +93,22 @@ module _ (limits : Limits) (m : Memory) (s : MainState) where
       by : (n b t o : Bool) → Rises s (cond n (call_done s)
           (cond b (main_trapped s (trap_of s.registers load_denied r.base)) (cond t (main_refused s main_touch)
           (cond o (main_refused s output_full) (print_done s (bytes_of m r))))))
-      by true b t o = rises_done _ refl refl
-      by false true t o = rises_still _ refl refl
-      by false false true o = rises_still _ refl refl
-      by false false false true = rises_still _ refl refl
-      by false false false false = rises_done _ refl refl
+      by true b t o = rises_done _ refl refl (inl refl)
+      by false true t o = rises_still _ refl refl refl
+      by false false true o = rises_still _ refl refl refl
+      by false false false true = rises_still _ refl refl refl
+      by false false false false = rises_done _ refl refl (inr (bytes_of m r, refl))
 
   spawn_on-rises : (r : Result Task ℕ) → Rises s (spawn_on s r).0
-  spawn_on-rises (Ok t) = record { done = omega arith; spawned = omega arith }
-  spawn_on-rises (Err n) = rises_still _ refl refl
+  spawn_on-rises (Ok t) = record { done = omega arith; spawned = omega arith; pieces = inl refl }
+  spawn_on-rises (Err n) = rises_still _ refl refl refl
 
   pub main_call-rises : (c : Call) → Rises s (main_call limits m s c).0
-  main_call-rises ExitCall = rises_done _ refl refl
+  main_call-rises ExitCall = rises_done _ refl refl (inl refl)
   main_call-rises Spawn = spawn_on-rises (spawn_of (spawn_call s.registers) m s.epoch limits s.spawned)
-  main_call-rises Barrier = rises_done _ refl refl
+  main_call-rises Barrier = rises_done _ refl refl (inl refl)
   main_call-rises Print = print_call-rises (print_range s.registers)
-  main_call-rises (Unknown n) = rises_still _ refl refl
+  main_call-rises (Unknown n) = rises_still _ refl refl refl
 
 -- ---- the task of a spawn
 

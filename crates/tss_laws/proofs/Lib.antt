@@ -14,5 +14,8 @@ mod FlatSpawn
 mod FlatEpoch
 mod FlatStarts
 mod FlatNaming
+mod FlatEnds
+mod FlatPieces
 mod RunKeeps
+mod MainFollows
 mod MainEvent

@@ -8,13 +8,15 @@ use Rattle.tss_base.specs.declared.operand.Task.{Task}
 use Rattle.tss_base.specs.declared.ending.Trap.{Trap}
 use Rattle.tss_base.specs.declared.machine.Limits.{Limits}
 use Rattle.tss_base.specs.declared.machine.Machine.{Machine}
+use Rattle.tss_base.specs.declared.event.Event.{Event}
 use Rattle.tss_base.specs.declared.event.Event.TheVariants as event
 use Rattle.tss_base.specs.Image.{SegmentState, ImageState}
 use Rattle.tss_model.specs.Memory.{covers, frozen}
 use Rattle.tss_model.specs.Access.{Loads, main_access, operands_of}
-use Rattle.tss_model.specs.MainStep.{MainState, Flat, Call, main_stretch, next_call, main_call}
-use Rattle.tss_model.specs.InOrder.{Started, flat_start, flat_step, flat_stepped, call_ran, main_after_task, is_executed, main_after, started_in, task_called, end_of_started}
-use Rattle.tss_protocol.specs.State.{State}
+use Rattle.tss_model.specs.MainStep.{MainState, Flat, Call, main_stretch, next_call, main_call, output_of}
+use Rattle.tss_model.specs.InOrder.{Started, flat_start, flat_step, flat_stepped, call_ran, main_after_task, main_after, started_in, task_called, end_of_started, in_order}
+use Rattle.tss_protocol.specs.State.{State, initial_state}
+use Rattle.tss_protocol.specs.Run.{IsRun}
 use Rattle.tss_protocol.specs.MainEvent.{flat_of, with_flat, call_next, after_call, main_by}
 use Rattle.tss_protocol.specs.UnitMachine.{is_enabled, IsEnabled, after_event}
 use Rattle.tss_laws.specs.MainInOrder.{MayLoad, Agrees, FollowsInOrder, FollowsAfter, IsCutOff, steps_taken, flat_beside, started_next, inbox_with, is_operand_of}
@@ -23,9 +25,12 @@ use Rattle.tss_laws.proofs.FlatLoads.{byte_range}
 use Rattle.tss_laws.proofs.FlatMain.{AreAlike, main_stretch-leaves, main_stretch-together, next_call-alike}
 use Rattle.tss_laws.proofs.FlatCalls.{main_call-same}
 use Rattle.tss_laws.proofs.FlatTask.{task_end-changes, unwritten_beside}
-use Rattle.tss_laws.proofs.FlatOrder.{flat_stepped-ranges, steps_taken-on, Reaches, main_stretch-reaches, main_after-there, flat_stepped-next, trapped_after, executed_on}
-use Rattle.tss_laws.proofs.FlatSpawn.{Rises, main_call-step, main_call-rises, main_call-spawn, may_load_unnamed}
-use Rattle.tss_laws.proofs.RunKeeps.{HasGround}
+use Rattle.tss_laws.proofs.FlatOrder.{flat_stepped-ranges, steps_taken-on, Reaches, main_stretch-reaches, flat_stepped-next, trapped_after}
+use Rattle.tss_laws.proofs.FlatSpawn.{Rises, main_call-step, main_call-rises, main_call-spawn, may_load_unnamed, IsSpawn}
+use Rattle.tss_laws.proofs.FlatEnds.{in_order-trap, in_order-tasks, in_order-output}
+use Rattle.tss_laws.proofs.FlatPieces.{NoneAfter, pieces_below, pieces_below-all, pieces_below-rises, NoneAfter-rises}
+use Rattle.tss_laws.proofs.MainFollows.{followed_by}
+use Rattle.tss_laws.proofs.RunKeeps.{HasGround, main_keeps}
 
 -- an event of main may happen only where main hasn't ended
 pub main_on-enabled : (m : Machine) (S : State) → IsEnabled m S event.Main → is_some S.main.ending ≡ false
@@ -33,7 +38,7 @@ unfolding is_enabled
 main_on-enabled m S on = not-true (is_some S.main.ending) (and_parts _ _ (and_parts _ _ on).0).0
 
 module _ (m : Machine) (i : ImageState) (S : State) (ground : HasGround i S) (on : is_some S.main.ending ≡ false)
-    (follows : FollowsInOrder m i S) where
+    (follows : FollowsInOrder m i S) (few : NoneAfter S.main.spawned S.main.pieces) where
   -- program order there
   abbrev beside : Flat
   beside = flat_beside i m.limits S.main
@@ -47,12 +52,7 @@ module _ (m : Machine) (i : ImageState) (S : State) (ground : HasGround i S) (on
 
   -- it has a state after as many instructions
   after_there : main_after i m.limits S.main.registers.done ≡ Some beside
-  after_there =
-      let count = steps_taken-on S.main on in
-      ap (main_after i m.limits) (sym count)
-      ∙ main_after-there i m.limits (steps_taken S.main)
-      (ap (λ (x : MainState). x.registers.done) (sym follows.main) ∙ sym count)
-      (ap (λ (x : MainState). is_executed x.ending) (sym follows.main) ∙ executed_on S.main.ending on)
+  after_there = followed_by m i S on follows
 
   -- and its next call is that of the unit machine
   same_call : next_call (frozen i) m.limits beside ≡ call_next m S
@@ -146,13 +146,26 @@ module _ (m : Machine) (i : ImageState) (S : State) (ground : HasGround i S) (on
       abbrev started : Started
       started = record { task = t; memory = beside.memory }
 
+      spawn : IsSpawn S.main main t
+      spawn = main_call-spawn m.limits S.home S.main call main t called
+
+      -- what main printed before it is the output where it traps
+      printed_before : (trap : Trap) → (end_of_started i m.limits started).trap ≡ Some trap
+          → output_of (pieces_below t.number main.pieces) ≡ (in_order i m.limits).output
+      printed_before trap ends =
+          let later : S.main.spawned < t.number = omega (arith, spawn.number) in
+          ap (λ (x : MainState). output_of (pieces_below t.number x.pieces)) spawn.main_is
+          ∙ ap output_of (pieces_below-all S.main.spawned t.number S.main.pieces later few)
+          ∙ ap (λ (x : MainState). output_of x.pieces) follows.main
+          ∙ ap (λ (n : ℕ). output_of (flat_stepped i m.limits n).main.pieces) (steps_taken-on S.main on)
+          ∙ sym (in_order-output i m.limits S.main.registers.done started trap (start (Some t) called) ends)
+
       -- the task ends and main goes on, or it traps and is the reason that no state follows
       main_after_spawn : (o : Option Trap) → (end_of_started i m.limits started).trap ≡ o
           → (main ≡ (flat_beside i m.limits main).main) ⊎ IsCutOff i m.limits main
       main_after_spawn None ends =
           inl (sym (ap (λ (f : Flat). f.main) (there (Some t) called) ∙ ap (main_after_task main t) ends))
       main_after_spawn (Some trap) ends =
-          let spawn = main_call-spawn m.limits S.home S.main call main t called in
           let done : main.registers.done ≡ S.main.registers.done + 1 =
           ap (λ (x : MainState). x.registers.done) spawn.main_is in
           let count : main.spawned ≡ suc S.main.spawned = ap (λ (x : MainState). x.spawned) spawn.main_is in
@@ -168,6 +181,9 @@ module _ (m : Machine) (i : ImageState) (S : State) (ground : HasGround i S) (on
             none =
                 trapped_after i m.limits S.main.registers.done started trap main.registers.done (start (Some t) called)
                 ends later;
+            ending = in_order-trap i m.limits S.main.registers.done started trap (start (Some t) called) ends;
+            tasks = in_order-tasks i m.limits S.main.registers.done started trap (start (Some t) called) ends;
+            printed = printed_before trap ends;
           })
 
       -- beside its objects memory stays
@@ -181,7 +197,6 @@ module _ (m : Machine) (i : ImageState) (S : State) (ground : HasGround i S) (on
 
       after_spawn : FollowsAfter m i S (record S { main = main; inbox = Some t })
       after_spawn =
-          let spawn = main_call-spawn m.limits S.home S.main call main t called in
           record {
             main = main_after_spawn (end_of_started i m.limits started).trap refl;
             inbox = ap (λ o. inbox_with o S.inbox) (sym (start (Some t) called));
@@ -223,8 +238,16 @@ main_rises m S = by (call_next m S)
     by : (c : Option Call) → Rises S.main (main_by m S c).main
     by None =
         let leaves = main_stretch-leaves S.code m.limits m.sizes.quantum (flat_of S) in
-        record { done = leaves.done; spawned = omega (arith, leaves.spawned) }
+        record { done = leaves.done; spawned = omega (arith, leaves.spawned); pieces = inl leaves.pieces }
     by (Some call) = called (main_call m.limits S.home S.main call) (main_call-rises m.limits S.home S.main call)
+
+-- no piece of main has more tasks before it than main has spawned
+pub pieces-run : (m : Machine) (i : ImageState) (es : List Event) (S : State) → IsRun m i es S
+    → NoneAfter S.main.spawned S.main.pieces
+pieces-run m i es S run =
+    main_keeps (λ (s : MainState). NoneAfter s.spawned s.pieces) m
+    (λ S none. NoneAfter-rises S.main (after_event m S event.Main).main (main_rises m S) none) es (initial_state i) S tt
+    run
 
 -- where program order has no state any more, it has none afterwards
 pub cut_off_rises : (i : ImageState) (limits : Limits) (s t : MainState) → Rises s t → IsCutOff i limits s
@@ -240,6 +263,9 @@ cut_off_rises i limits s t rises cut =
       trap = cut.trap;
       trapped = cut.trapped;
       none = trapped_after i limits cut.place cut.started cut.trap t.registers.done cut.start cut.trapped later;
+      ending = cut.ending;
+      tasks = cut.tasks;
+      printed = ap output_of (pieces_below-rises cut.started.task.number s t rises cut.number) ∙ cut.printed;
     }
 
 -- main's event changes home only where main may load

@@ -6,6 +6,7 @@ use Rattle.std.specs.FinMap.{get}
 use Rattle.tss_base.specs.declared.range.Range.{Range}
 use Rattle.tss_base.specs.declared.operand.Task.{Task}
 use Rattle.tss_base.specs.declared.ending.Trap.{Trap}
+use Rattle.tss_base.specs.declared.ending.Ending.TheVariants.{TaskTrap}
 use Rattle.tss_base.specs.declared.machine.Limits.{Limits}
 use Rattle.tss_base.specs.declared.machine.Machine.{Machine}
 use Rattle.tss_base.specs.declared.event.Event.{Event}
@@ -13,9 +14,10 @@ use Rattle.tss_base.specs.declared.event.Event.TheVariants as event
 use Rattle.tss_base.specs.Image.{ImageState}
 use Rattle.tss_model.specs.Memory.{MemoryRange, covers}
 use Rattle.tss_model.specs.Access.{Loads, Granted, main_access, operands_of}
-use Rattle.tss_model.specs.MainStep.{MainState, Flat}
-use Rattle.tss_model.specs.InOrder.{Started, is_executed, flat_stepped, main_after, started_at, end_of_started}
+use Rattle.tss_model.specs.MainStep.{MainState, Flat, output_of}
+use Rattle.tss_model.specs.InOrder.{Started, is_executed, flat_stepped, main_after, started_at, end_of_started, in_order}
 use Rattle.tss_protocol.specs.State.{State}
+use Rattle.tss_protocol.specs.Result.{pieces_by}
 use Rattle.tss_protocol.specs.UnitMachine.{IsEnabled, after_event}
 use Rattle.tss_laws.specs.Runs.{OverRuns}
 
@@ -44,7 +46,8 @@ pub record FollowsInOrder (m : Machine) (i : ImageState) (S : State) : Type 0 wh
   pub main : S.main ≡ (flat_beside i m.limits S.main).main
   pub home : (a : ℕ) → MayLoad S.home.ranges S.main.epoch a → Agrees m i S a
 
--- a task that main has spawned traps in program order, which therefore has no state after as many instructions of main
+-- a task that main has spawned traps in program order, and so ends it: there is no state after as many instructions of
+-- main as it has completed. What main has printed with fewer tasks spawned is the output of program order
 pub record IsCutOff (i : ImageState) (limits : Limits) (main : MainState) : Type 0 where
   pub place : ℕ
   pub before : place < main.registers.done
@@ -54,6 +57,10 @@ pub record IsCutOff (i : ImageState) (limits : Limits) (main : MainState) : Type
   pub trap : Trap
   pub trapped : (end_of_started i limits started).trap ≡ Some trap
   pub none : main_after i limits main.registers.done ≡ None
+  pub ending : (in_order i limits).ending ≡ TaskTrap started.task.number trap
+  pub tasks : (in_order i limits).tasks ≡ started.task.number
+  pub printed : output_of (pieces_by (Some (record { task = started.task.number; trap = trap })) main.pieces)
+      ≡ (in_order i limits).output
 
 -- ---- one event
 
@@ -85,7 +92,7 @@ abbrev pub StaysInOrder : Machine → ImageState → List Event → State → Ty
 StaysInOrder m i es S =
     IsEnabled m S event.Main → FollowsInOrder m i S → FollowsAfter m i S (after_event m S event.Main)
 
--- where program order has no state any more, it has none after an event of main
+-- where a task's trap has ended program order, it is so after an event of main
 abbrev pub StaysCutOff : Machine → ImageState → List Event → State → Type 0
 StaysCutOff m i es S =
     IsEnabled m S event.Main
