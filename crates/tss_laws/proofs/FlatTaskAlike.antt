@@ -41,6 +41,18 @@ module _ {M : Type 0} (byte : M → ℕ → ℕ) (write : M → Write → M) (bu
 
 -- ---- two runs
 
+-- the same registers, scratch and trap, over memories that a relation joins
+pub record RunAlike {M N : Type 0} (R : M → N → Type 0) (s : TaskState M) (u : TaskState N) : Type 0 where
+  pub registers : s.registers ≡ u.registers
+  pub scratch : s.scratch ≡ u.scratch
+  pub trap : s.trap ≡ u.trap
+  pub memory : R s.memory u.memory
+
+alike_by : {M N : Type 0} (R : M → N → Type 0) (s t : TaskState M) (u v : TaskState N) → s ≡ t → u ≡ v → RunAlike R t v
+    → RunAlike R s u
+alike_by R s t u v e d alike =
+    subst (λ x. RunAlike R x u) (sym e) (subst (λ y. RunAlike R t y) (sym d) alike)
+
 -- R relates two memories. They show the same bytes wherever the task may load beyond its scratch, and are related after
 -- the same write of the task
 module _ {M N : Type 0} (byte : M → ℕ → ℕ) (write : M → Write → M) (other : N → ℕ → ℕ) (rewrite : N → Write → N)
@@ -48,18 +60,7 @@ module _ {M N : Type 0} (byte : M → ℕ → ℕ) (write : M → Write → M) (
     (shown : (x : M) (y : N) → R x y → (q : Range) (a : ℕ) → task_access ranges operands Loads q ≡ Granted → Covers q a
     → covers scratch_range a ≡ false → byte x a ≡ other y a)
     (kept : (x : M) (y : N) → R x y → (w : Write) → MayWrite operands w → R (write x w) (rewrite y w)) where
-  -- the same registers, scratch and trap over related memories
-  pub record RunAlike (s : TaskState M) (u : TaskState N) : Type 0 where
-    pub registers : s.registers ≡ u.registers
-    pub scratch : s.scratch ≡ u.scratch
-    pub trap : s.trap ≡ u.trap
-    pub memory : R s.memory u.memory
-
-  alike_by : (s t : TaskState M) (u v : TaskState N) → s ≡ t → u ≡ v → RunAlike t v → RunAlike s u
-  alike_by s t u v e d alike =
-      subst (λ (x : TaskState M). RunAlike x u) (sym e) (subst (λ (y : TaskState N). RunAlike t y) (sym d) alike)
-
-  module _ (s : TaskState M) (u : TaskState N) (alike : RunAlike s u) where
+  module _ (s : TaskState M) (u : TaskState N) (alike : RunAlike R s u) where
     task_byte-alike : (q : Range) (a : ℕ) → task_access ranges operands Loads q ≡ Granted → Covers q a
         → task_byte byte s a ≡ task_byte other u a
     task_byte-alike q a granted covered = by (covers scratch_range a) refl
@@ -84,13 +85,13 @@ module _ {M N : Type 0} (byte : M → ℕ → ℕ) (write : M → Write → M) (
 
     task_write-alike : (w : Write) → 0 < length w.bytes
         → task_access ranges operands Stores (record { base = w.at; len = length w.bytes }) ≡ Granted
-        → RunAlike (task_write write s (Some w)) (task_write rewrite u (Some w))
+        → RunAlike R (task_write write s (Some w)) (task_write rewrite u (Some w))
     task_write-alike w some granted = by (covers scratch_range w.at) refl
       where
         by : (b : Bool) → covers scratch_range w.at ≡ b
-            → RunAlike (task_write write s (Some w)) (task_write rewrite u (Some w))
+            → RunAlike R (task_write write s (Some w)) (task_write rewrite u (Some w))
         by true inside =
-            alike_by _ (record s { scratch = list_put s.scratch (w.at - scratch_range.base) w.bytes }) _
+            alike_by R _ (record s { scratch = list_put s.scratch (w.at - scratch_range.base) w.bytes }) _
             (record u { scratch = list_put u.scratch (w.at - scratch_range.base) w.bytes })
             (cond-true _ _ _ inside) (cond-true _ _ _ inside)
             (record {
@@ -100,7 +101,7 @@ module _ {M N : Type 0} (byte : M → ℕ → ℕ) (write : M → Write → M) (
               memory = alike.memory;
             })
         by false outside =
-            alike_by _ (record s { memory = write s.memory w }) _ (record u { memory = rewrite u.memory w })
+            alike_by R _ (record s { memory = write s.memory w }) _ (record u { memory = rewrite u.memory w })
             (cond-false _ _ _ outside) (cond-false _ _ _ outside)
             (record {
               registers = alike.registers;
@@ -110,7 +111,7 @@ module _ {M N : Type 0} (byte : M → ℕ → ℕ) (write : M → Write → M) (
                   kept s.memory u.memory alike.memory w (granted_write ranges operands w some granted outside);
             })
 
-    trapped-alike : (t : Trap) (v : Trap) → t ≡ v → RunAlike (task_trapped s t) (task_trapped u v)
+    trapped-alike : (t : Trap) (v : Trap) → t ≡ v → RunAlike R (task_trapped s t) (task_trapped u v)
     trapped-alike t v e = record {
       registers = alike.registers;
       scratch = alike.scratch;
@@ -119,7 +120,7 @@ module _ {M N : Type 0} (byte : M → ℕ → ℕ) (write : M → Write → M) (
     }
 
     task_on-alike : (x : Stepped) → IsStep (TaskActor ranges operands) s.registers x
-        → RunAlike (task_on write s x) (task_on rewrite u x)
+        → RunAlike R (task_on write s x) (task_on rewrite u x)
     task_on-alike (Executed r None) step =
         record { registers = refl; scratch = alike.scratch; trap = alike.trap; memory = alike.memory }
     task_on-alike (Executed r (Some w)) step =
@@ -133,7 +134,7 @@ module _ {M N : Type 0} (byte : M → ℕ → ℕ) (write : M → Write → M) (
 
     -- a step of both
     pub task_step-alike : (budget : ℕ) (code : List SegmentState)
-        → RunAlike (task_step byte write budget code (TaskActor ranges operands) s)
+        → RunAlike R (task_step byte write budget code (TaskActor ranges operands) s)
         (task_step other rewrite budget code (TaskActor ranges operands) u)
     task_step-alike budget code = by (is_over s) (nat_le budget s.registers.done) refl refl
       where
@@ -144,17 +145,17 @@ module _ {M N : Type 0} (byte : M → ℕ → ℕ) (write : M → Write → M) (
         spent b e = (λ i. nat_le budget (sym alike.registers i).done) ∙ e
 
         by : (o b : Bool) → is_over s ≡ o → nat_le budget s.registers.done ≡ b
-            → RunAlike (task_step byte write budget code (TaskActor ranges operands) s)
+            → RunAlike R (task_step byte write budget code (TaskActor ranges operands) s)
             (task_step other rewrite budget code (TaskActor ranges operands) u)
         by true b e d =
-            alike_by _ s _ u (task_step-over byte write budget code (TaskActor ranges operands) s e)
+            alike_by R _ s _ u (task_step-over byte write budget code (TaskActor ranges operands) s e)
             (task_step-over other rewrite budget code (TaskActor ranges operands) u (over true e)) alike
         by false true e d =
-            alike_by _ _ _ _ (task_step-spent byte write budget code (TaskActor ranges operands) s e d)
+            alike_by R _ _ _ _ (task_step-spent byte write budget code (TaskActor ranges operands) s e d)
             (task_step-spent other rewrite budget code (TaskActor ranges operands) u (over false e) (spent true d))
             (trapped-alike _ _ (λ i. trap_of (alike.registers i) budget_spent 0))
         by false false e d =
-            alike_by _ _ _ _ (task_step-core byte write budget code (TaskActor ranges operands) s e d)
+            alike_by R _ _ _ _ (task_step-core byte write budget code (TaskActor ranges operands) s e d)
             (task_step-core other rewrite budget code (TaskActor ranges operands) u (over false e) (spent false d)
             ∙ ap (task_on rewrite u) (sym (core-alike code)))
             (task_on-alike (core_step (TaskActor ranges operands) (task_byte byte s) (code_word code) s.registers)
@@ -162,7 +163,7 @@ module _ {M N : Type 0} (byte : M → ℕ → ℕ) (write : M → Write → M) (
 
   -- a stretch of both
   pub task_stretch-alike : (budget : ℕ) (code : List SegmentState) (n : ℕ) (s : TaskState M) (u : TaskState N)
-      → RunAlike s u → RunAlike (task_stretch byte write budget code (TaskActor ranges operands) n s)
+      → RunAlike R s u → RunAlike R (task_stretch byte write budget code (TaskActor ranges operands) n s)
       (task_stretch other rewrite budget code (TaskActor ranges operands) n u)
   unfolding repeated
   task_stretch-alike budget code zero s u alike = alike

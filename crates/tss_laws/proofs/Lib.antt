@@ -16,6 +16,8 @@ mod FlatStarts
 mod FlatNaming
 mod FlatEnds
 mod FlatPieces
+mod StoreBytes
+mod StoreRuns
 mod RunKeeps
 mod MainFollows
 mod MainEvent
