@@ -1,7 +1,8 @@
 -- One step of a core: what it reads, what it stores, and the instructions that it completes.
-use Rattle.std.proofs.Common.{◌≡◌, ℕ, zero, suc, ◌+◌, ◌%◌, ◌<◌, Bool, true, false, Option, Some, None, length, refl, ap, ◌∙◌, arith}
+use Rattle.std.proofs.Common.{◌≡◌, ℕ, zero, suc, ◌+◌, ◌%◌, ◌<◌, Bool, true, false, Option, Some, None, length, refl, sym, ap, subst, ◌∙◌, arith}
 use Rattle.std.specs.Prelude.{cond, ◌==◌, slice_set}
 use Rattle.std.specs.Int.{bytes_low_first}
+use Rattle.std.proofs.lemmas.Bool.{cond-true, cond-false}
 use Rattle.tss_base.specs.declared.range.Range.{Range}
 use Rattle.tss_base.specs.Range.{Covers}
 use Rattle.tss_isa.specs.declared.instr.Instr.{Instr}
@@ -12,7 +13,7 @@ use Rattle.tss_isa.specs.declared.instr.StoreKind.TheVariants.{Sb, Sh, Sw}
 use Rattle.tss_isa.specs.InstrTable.{instr_of}
 use Rattle.tss_model.specs.Causes.{jump_misaligned, load_misaligned, store_misaligned}
 use Rattle.tss_model.specs.Registers.{Registers, register_at, with_register, next_pc, completed, end_pc, trap_of}
-use Rattle.tss_model.specs.Access.{Actor, Loads, Stores, Access, Granted, Denied, Touch, access_of}
+use Rattle.tss_model.specs.Access.{Actor, Purpose, Loads, Stores, Access, Granted, Denied, Touch, access_of}
 use Rattle.tss_model.specs.Core.{Stepped, Executed, Called, Ended, Trapped, Touched, jump_to, branch_if, passes, load_on, load_from, load_range, load_width, loaded_value, extended, store_on, store_to, store_range, store_width, stored_value, execute, execute_word, execute_fetched, core_step, moved, result_in}
 use Rattle.tss_laws.proofs.FlatLoads.{same_number}
 
@@ -65,7 +66,8 @@ module _ (actor : Actor) (f g : ℕ → ℕ) (same : AgreeOnLoads actor f g) (r 
 
 -- ---- what a step stores, and the instructions that it completes
 
--- a step of an actor: an executed instruction completes one more, and its write is a store that is granted
+-- a step of an actor: an executed instruction completes one more, and its write is a store that is granted. The end is
+-- met only at its pc, and a touch only where the rule of access says so
 abbrev pub IsStep : Actor → Registers → Stepped → Type 0
 IsStep actor r (Executed s None) = s.done ≡ r.done + 1
 IsStep actor r (Executed s (Some w)) =
@@ -73,9 +75,9 @@ IsStep actor r (Executed s (Some w)) =
     × (0 < length w.bytes)
     × (access_of actor Stores (record { base = w.at; len = length w.bytes }) ≡ Granted)
 IsStep actor r Called = Unit {0}
-IsStep actor r Ended = Unit {0}
+IsStep actor r Ended = (r.pc == end_pc) ≡ true
 IsStep actor r (Trapped t) = Unit {0}
-IsStep actor r Touched = Unit {0}
+IsStep actor r Touched = (purpose : Purpose) × (q : Range) × (access_of actor purpose q ≡ Touch)
 
 -- the low bytes of a number are as many as were asked for
 pub length-bytes_low_first : (i n x : ℕ) → length (bytes_low_first i n x) ≡ n
@@ -111,17 +113,18 @@ module _ (actor : Actor) (byte : ℕ → ℕ) (r : Registers) where
   branch_if-step true target = jump_to-step 0 target
   branch_if-step false target = refl
 
-  load_on-step : (x : Access) (rd at v : ℕ) → IsStep actor r (load_on x r rd at v)
-  load_on-step Granted rd at v = result_in-step rd v
-  load_on-step Denied rd at v = tt
-  load_on-step Touch rd at v = tt
+  load_on-step : (kind : LoadKind) (rd at v : ℕ) (x : Access) → access_of actor Loads (load_range kind at) ≡ x
+      → IsStep actor r (load_on x r rd at v)
+  load_on-step kind rd at v Granted e = result_in-step rd v
+  load_on-step kind rd at v Denied e = tt
+  load_on-step kind rd at v Touch e = (Loads, load_range kind at, e)
 
   load_from-step : (kind : LoadKind) (rd at : ℕ) → IsStep actor r (load_from actor byte r kind rd at)
   load_from-step kind rd at =
       elim (at % load_width kind == 0) as (λ b. IsStep actor r (cond b
       (load_on (access_of actor Loads (load_range kind at)) r rd at (loaded_value byte kind at))
       (Trapped (trap_of r load_misaligned at)))) [
-        | true ↦ load_on-step (access_of actor Loads (load_range kind at)) rd at (loaded_value byte kind at)
+        | true ↦ load_on-step kind rd at (loaded_value byte kind at) (access_of actor Loads (load_range kind at)) refl
         | false ↦ tt
       ]
 
@@ -134,7 +137,7 @@ module _ (actor : Actor) (byte : ℕ → ℕ) (r : Registers) where
         ap (λ n. access_of actor Stores (record { base = at; len = n })) len ∙ e,
       )
   store_on-step kind at v Denied e = tt
-  store_on-step kind at v Touch e = tt
+  store_on-step kind at v Touch e = (Stores, store_range kind at, e)
 
   store_to-step : (kind : StoreKind) (at v : ℕ) → IsStep actor r (store_to actor r kind at v)
   store_to-step kind at v =
@@ -170,8 +173,9 @@ module _ (actor : Actor) (byte : ℕ → ℕ) (r : Registers) where
   -- each step of a core is such a step
   pub core_step-step : (word : ℕ → Option ℕ) → IsStep actor r (core_step actor byte word r)
   unfolding core_step
-  core_step-step word =
-      elim (r.pc == end_pc) as (λ b. IsStep actor r (cond b Ended (execute_fetched actor byte r (word r.pc)))) [
-        | true ↦ tt
-        | false ↦ fetched-step (word r.pc)
-      ]
+  core_step-step word = by (r.pc == end_pc) refl
+    where
+      by : (b : Bool) → (r.pc == end_pc) ≡ b
+          → IsStep actor r (cond (r.pc == end_pc) Ended (execute_fetched actor byte r (word r.pc)))
+      by true e = subst (IsStep actor r) (sym (cond-true _ _ _ e)) e
+      by false e = subst (IsStep actor r) (sym (cond-false _ _ _ e)) (fetched-step (word r.pc))

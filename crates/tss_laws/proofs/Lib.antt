@@ -1,23 +1,26 @@
-mod FlatRanges
-mod FlatLoads
-mod FlatCore
-mod FlatWrites
-mod FlatSteps
-mod FlatMain
-mod FlatCalls
-mod FlatTask
-mod FlatTaskAlike
-mod FlatTaskRuns
-mod FlatOrder
-mod FlatNames
-mod FlatSpawn
-mod FlatEpoch
-mod FlatStarts
-mod FlatNaming
-mod FlatEnds
-mod FlatPieces
-mod StoreBytes
-mod StoreRuns
-mod RunKeeps
-mod MainFollows
-mod MainEvent
+pub mod FlatRanges
+pub mod FlatLoads
+pub mod FlatCore
+pub mod FlatWrites
+pub mod FlatSteps
+pub mod FlatMain
+pub mod FlatCalls
+pub mod FlatTask
+pub mod FlatTaskAlike
+pub mod FlatTaskRuns
+pub mod FlatTaskEnds
+pub mod FlatOrder
+pub mod FlatNames
+pub mod FlatSpawn
+pub mod FlatEpoch
+pub mod FlatStarts
+pub mod FlatNaming
+pub mod FlatEnds
+pub mod FlatPieces
+pub mod StoreBytes
+pub mod StoreRuns
+pub mod StoreStart
+pub mod StoreFollows
+pub mod RunKeeps
+pub mod MainFollows
+pub mod MainEvent

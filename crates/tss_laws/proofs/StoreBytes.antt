@@ -148,11 +148,12 @@ in_write w a = elim (cases_lt a w.at) [
   ]
 ]
 
-buffer_put : (contents : Named (List ℕ)) (n : OpName) (bytes : List ℕ)
+-- a buffer that is set, and another
+pub buffer_put : (contents : Named (List ℕ)) (n : OpName) (bytes : List ℕ)
     → buffer_bytes (insert contents n bytes) n ≡ bytes
 buffer_put contents n bytes = ap (λ (o : Option (List ℕ)). unwrap_or o []) (at_inserted name_order contents n bytes)
 
-buffer_beside : (contents : Named (List ℕ)) (n k : OpName) (bytes : List ℕ) → (k ≡ n → ⊥)
+pub buffer_beside : (contents : Named (List ℕ)) (n k : OpName) (bytes : List ℕ) → (k ≡ n → ⊥)
     → buffer_bytes (insert contents n bytes) k ≡ buffer_bytes contents k
 buffer_beside contents n k bytes apart =
     ap (λ (o : Option (List ℕ)). unwrap_or o []) (beside_inserted name_order contents n bytes k apart)
