@@ -84,6 +84,7 @@ module _ (limits : Limits) (m : Memory) where
           let parts = after o (r o) e in
           (o, parts.0, parts.1, entry_passed named object mode o d, parts.2)
 
+  -- the operands of entries that passed did so one by one
   pub entries_passed : (named : List Range) (es : List Entry) (os : List Operand)
       → entries_checked limits m named es ≡ Ok os → AreChecked named os
   unfolding entries_checked
@@ -133,6 +134,7 @@ module _ (call : SpawnCall) (m : Memory) (named : List Range) (limits : Limits) 
             ∙ take-filled (merged_operands os) (replicate (7 - length (merged_operands os)) no_operand);
       }
 
+  -- the task of a spawn whose checks passed
   pub spawn_of-spawned : spawn_of call m named limits spawned ≡ Ok t → IsSpawned limits m named t
   unfolding spawn_of
   spawn_of-spawned e =
@@ -202,6 +204,7 @@ module _ (limits : Limits) (m : Memory) (s : MainState) where
   main_call-apart (Unknown n) apart = apart
 
 module _ (code : List SegmentState) (limits : Limits) where
+  -- the task of a call changes no epoch
   pub call_ran-epoch : (m : Memory) (p : MainState × Option Task) → (call_ran code limits m p).main.epoch ≡ p.0.epoch
   call_ran-epoch m (main, None) = refl
   call_ran-epoch m (main, Some t) = by (task_end code limits m t).trap

@@ -49,6 +49,7 @@ apart_byte object r a covered apart =
     both_ways (meets object r) apart
     (lt-ltb (max object.base r.base) (min (end_of object) (end_of r)) (omega (arith, common, covered.0, covered.1))))
 
+-- the same for all objects
 pub touches-byte : (named : List Range) (r : Range) (a : ℕ) → Covers r a → touches named r ≡ false →
     touches named (byte_range a) ≡ false
 touches-byte [] r a covered apart = refl
@@ -71,6 +72,7 @@ granted_by Stores (Some true) true e = absurd (cc)
 granted_by Stores (Some true) false e = ((true, refl), refl)
 granted_by Stores (Some false) touched e = absurd (cc)
 
+-- where such an access lies
 pub main_granted : (ranges : List MemoryRange) (named : List Range) (purpose : Purpose) (r : Range) →
     main_access ranges named purpose r ≡ Granted →
     ((w : Bool) × (range_of ranges r ≡ Some w)) × (touches named r ≡ false)

@@ -3,11 +3,13 @@
 use Rattle.std.proofs.Common.{◌≡◌, ℕ, zero, suc, ◌≤◌, Bool, true, false, Some, None, List, length, refl, sym, ap, subst, ◌∙◌, arith}
 use Rattle.std.specs.Prelude.{◌||◌, if◌then◌else◌, is_some, unwrap_or}
 use Rattle.std.specs.FinMap.{get}
+use Rattle.tss_base.specs.declared.range.Range.{Range}
+use Rattle.tss_base.specs.Range.{Covers}
 use Rattle.tss_base.specs.declared.machine.Limits.{Limits}
 use Rattle.tss_base.specs.Image.{SegmentState}
 use Rattle.tss_model.specs.Causes.{fetch_outside, main_touch, main_budget_spent}
-use Rattle.tss_model.specs.Memory.{byte_at, code_word}
-use Rattle.tss_model.specs.Access.{MainActor, Loads, Stores}
+use Rattle.tss_model.specs.Memory.{MemoryRange, byte_at, code_word}
+use Rattle.tss_model.specs.Access.{MainActor, Loads, Stores, Granted, main_access}
 use Rattle.tss_model.specs.Core.{Stepped, Executed, Called, Ended, Trapped, Touched, core_step}
 use Rattle.tss_model.specs.TaskRun.{repeated}
 use Rattle.tss_model.specs.Registers.{trap_of}
@@ -20,16 +22,26 @@ use Rattle.tss_laws.proofs.FlatSteps.{main_step-ended, main_step-spent, main_ste
 
 -- ---- one machine
 
--- what main's steps leave: the ranges of memory, the epoch, the tasks, the pieces, and each byte where main may not
--- load. Main's completed instructions don't fall
+-- by the rule of access main may not store the byte at an address
+abbrev pub NeverStored : List MemoryRange → List Range → ℕ → Type 0
+NeverStored ranges named a = (q : Range) → main_access ranges named Stores q ≡ Granted → Covers q a → ⊥
+
+-- so it is where main may not load
+pub unloaded_unstored : (ranges : List MemoryRange) (named : List Range) (a : ℕ) → (MayLoad ranges named a → ⊥)
+    → NeverStored ranges named a
+unloaded_unstored ranges named a out q granted covered = out (may_load_granted ranges named Stores q a granted covered)
+
+-- what main's steps leave: the ranges of memory, the epoch, the tasks, the pieces, and each byte that main may not
+-- store. Main's completed instructions don't fall
 pub record Leaves (f g : Flat) : Type 0 where
   pub ranges : g.memory.ranges ≡ f.memory.ranges
   pub epoch : g.main.epoch ≡ f.main.epoch
   pub spawned : g.main.spawned ≡ f.main.spawned
   pub pieces : g.main.pieces ≡ f.main.pieces
   pub done : f.main.registers.done ≤ g.main.registers.done
-  pub bytes : (a : ℕ) → (MayLoad f.memory.ranges f.main.epoch a → ⊥) → get g.memory.bytes a ≡ get f.memory.bytes a
+  pub bytes : (a : ℕ) → NeverStored f.memory.ranges f.main.epoch a → get g.memory.bytes a ≡ get f.memory.bytes a
 
+-- a machine leaves itself
 pub Leaves-same : (f g : Flat) → g ≡ f → Leaves f g
 Leaves-same f g e = record {
   ranges = λ i. (e i).memory.ranges;
@@ -42,6 +54,7 @@ Leaves-same f g e = record {
   bytes = λ a out i. get (e i).memory.bytes a;
 }
 
+-- what two steps in a row leave
 pub Leaves-then : (f g h : Flat) → Leaves f g → Leaves g h → Leaves f h
 Leaves-then f g h p q = record {
   ranges = q.ranges ∙ p.ranges;
@@ -50,7 +63,7 @@ Leaves-then f g h p q = record {
   pieces = q.pieces ∙ p.pieces;
   done = omega (arith, p.done, q.done);
   bytes = λ a out.
-      q.bytes a (λ may. out (subst (λ (x : Type 0). x) (λ i. MayLoad (p.ranges i) (p.epoch i) a) may)) ∙ p.bytes a out;
+      q.bytes a (subst (λ (x : Type 0). x) (λ i. NeverStored (sym p.ranges i) (sym p.epoch i) a) out) ∙ p.bytes a out;
 }
 
 -- where main alone changes, and only its registers and ending
@@ -77,9 +90,8 @@ main_on-leaves f (Executed r (Some w)) step = record {
   pieces = refl;
   done = omega (arith, step.0);
   bytes = λ a out.
-      map_put-beside f.memory.bytes w.at w.bytes a (λ low high.
-      out (may_load_granted f.memory.ranges f.main.epoch Stores
-      (record { base = w.at; len = length w.bytes }) a step.2 (low, high)));
+      map_put-beside f.memory.bytes w.at w.bytes a
+      (λ low high. out (record { base = w.at; len = length w.bytes }) step.2 (low, high));
 }
 main_on-leaves f Called step = Leaves-same f f refl
 main_on-leaves f Ended step = with_main-leaves f _ refl refl refl (omega arith)
@@ -93,6 +105,7 @@ main_core-step code f =
     core_step-step (MainActor f.memory.ranges f.main.epoch) (byte_at f.memory) f.main.registers (code_word code)
 
 module _ (code : List SegmentState) (limits : Limits) where
+  -- a step of main leaves all that beside its stores
   pub main_step-leaves : (f : Flat) → Leaves f (main_step code limits f)
   main_step-leaves f = by (is_some f.main.ending) (has_spent limits f.main) refl refl
     where

@@ -1,9 +1,10 @@
 -- Named objects: which a list has, and lists of objects of which any two that meet are one.
-use Rattle.std.proofs.Common.{◌≡◌, ◌⊎◌, ℕ, ◌+◌, ◌<◌, inl, inr, Bool, true, false, List, [], ◌∷◌, ◌++◌, refl, sym, ap, ◌∙◌, arith, nat_le, nat_lt, eq-eqb}
-use Rattle.std.specs.Prelude.{cond, ◌==◌, ◌&&◌, ◌||◌, not, max, min}
+use Rattle.std.proofs.Common.{◌≡◌, ◌⊎◌, ℕ, zero, suc, Some, ◌+◌, ◌<◌, inl, inr, Bool, true, false, List, [], ◌∷◌, ◌++◌, refl, sym, ap, ◌∙◌, arith, nat_le, nat_lt, eq-eqb}
+use Rattle.std.specs.Prelude.{cond, ◌==◌, ◌&&◌, ◌||◌, not, max, min, slice_get}
 use Rattle.std.specs.List.{list_any}
-use Rattle.std.proofs.lemmas.Bool.{and_parts, and_from, or_cases, or_left, or_right, both_ways, eqb-true, leb-true, ltb-true, lt-ltb, cases_Bool, not_from_false}
+use Rattle.std.proofs.lemmas.Bool.{and_parts, and_from, or_cases, or_left, or_right, both_ways, eqb-true, leb-true, ltb-true, lt-ltb, cases_Bool, not_from_false, false_from_ne_true, or_from, or_parts}
 use Rattle.std.proofs.lemmas.List.Folds.{list_any-append}
+use Rattle.std.proofs.lemmas.Option.{none-some, same_Some}
 use Rattle.tss_base.specs.declared.range.Range.{Range}
 use Rattle.tss_base.specs.declared.operand.Operand.{Operand}
 use Rattle.tss_base.specs.Range.{end_of, meets}
@@ -14,6 +15,7 @@ use Rattle.tss_laws.proofs.FlatLoads.{byte_range}
 
 -- ---- equal ranges
 
+-- ranges that the test calls the same are equal
 pub same_range-equal : (r s : Range) → same_range r s ≡ true → r ≡ s
 same_range-equal r s e =
     let parts = and_parts (r.base == s.base) (r.len == s.len) e in
@@ -21,6 +23,7 @@ same_range-equal r s e =
     let len = eqb-true r.len s.len parts.1 in
     λ i. record { base = base i; len = len i }
 
+-- a range is the same as itself
 pub same_range-refl : (r : Range) → same_range r r ≡ true
 same_range-refl r = and_from (r.base == r.base) (r.len == r.len) (eq-eqb r.base r.base refl) (eq-eqb r.len r.len refl)
 
@@ -30,18 +33,29 @@ same_range-refl r = and_from (r.base == r.base) (r.len == r.len) (eq-eqb r.base 
 abbrev pub Has : List Range → Range → Type 0
 Has named object = list_any (same_range object) named ≡ true
 
+-- what two lists in a row have
 pub Has-append : (xs ys : List Range) (x : Range) → Has (xs ++ ys) x → Has xs x ⊎ Has ys x
 Has-append xs ys x has =
     or_cases (list_any (same_range x) xs) (list_any (same_range x) ys)
     (sym (list_any-append (same_range x) xs ys) ∙ has)
 
+-- what the first has
 pub Has-left : (xs ys : List Range) (x : Range) → Has xs x → Has (xs ++ ys) x
 Has-left xs ys x has =
     list_any-append (same_range x) xs ys ∙ or_left (list_any (same_range x) xs) (list_any (same_range x) ys) has
 
+-- what the second has
 pub Has-right : (xs ys : List Range) (x : Range) → Has ys x → Has (xs ++ ys) x
 Has-right xs ys x has =
     list_any-append (same_range x) xs ys ∙ or_right (list_any (same_range x) xs) (list_any (same_range x) ys) has
+
+-- what stands at a place
+pub Has-at : (xs : List Range) (k : ℕ) (x : Range) → slice_get xs k ≡ Some x → Has xs x
+Has-at [] k x e = absurd (none-some x e)
+Has-at (y ∷ xs) zero x e =
+    or_left (same_range x y) (list_any (same_range x) xs)
+    (ap (same_range x) (same_Some y x e) ∙ same_range-refl x)
+Has-at (y ∷ xs) (suc k) x e = or_right (same_range x y) (list_any (same_range x) xs) (Has-at xs k x e)
 
 -- one object is itself
 pub Has-one : (x y : Range) → Has (y ∷ []) x → x ≡ y
@@ -58,6 +72,7 @@ any_has P (y ∷ xs) any = elim (or_cases (P y) (list_any P xs) any) [
   | inr later ↦ let rest = any_has P xs later in (rest.0, or_right _ _ rest.1, rest.2)
 ]
 
+-- and the other way round
 pub has_any : (P : Range → Bool) (xs : List Range) (x : Range) → Has xs x → P x ≡ true → list_any P xs ≡ true
 has_any P [] x has passes = absurd (cc)
 has_any P (y ∷ xs) x has passes = elim (or_cases (same_range x y) (list_any (same_range x) xs) has) [
@@ -93,6 +108,7 @@ name_object-keeps named object x has = by (list_any (same_range object) named)
     by true = has
     by false = Has-left named (object ∷ []) x has
 
+-- the object is named
 pub name_object-names : (named : List Range) (object : Range) → Has (name_object named object) object
 name_object-names named object = by (list_any (same_range object) named) refl
   where
@@ -113,11 +129,13 @@ name_objects-has named (object ∷ objects) x has =
       | inr later ↦ inr (or_right _ _ later)
     ]
 
+-- what was named stays
 pub name_objects-keeps : (named objects : List Range) (x : Range) → Has named x → Has (name_objects named objects) x
 name_objects-keeps named [] x has = has
 name_objects-keeps named (object ∷ objects) x has =
     name_objects-keeps (name_object named object) objects x (name_object-keeps named object x has)
 
+-- and each of them is named
 pub name_objects-names : (named objects : List Range) (x : Range) → Has objects x → Has (name_objects named objects) x
 name_objects-names named [] x has = absurd (cc)
 name_objects-names named (object ∷ objects) x has =
@@ -130,6 +148,7 @@ name_objects-names named (object ∷ objects) x has =
 
 -- ---- objects of which any two that meet are one
 
+-- any two of the objects that meet are one
 abbrev pub AreApart : List Range → Type 0
 AreApart xs = (x y : Range) → Has xs x → Has xs y → meets x y ≡ true → x ≡ y
 
@@ -196,3 +215,52 @@ covers-touch named x a has inside =
     let high = ltb-true a (end_of x) p.1 in
     has_any (λ n. meets n (byte_range a)) named x has
     (lt-ltb (max x.base a) (min (end_of x) (a + 1)) (omega (arith, low, high)))
+
+-- ---- each object once
+
+-- no object stands twice in the list
+abbrev pub AreOnce : List Range → Type 0
+AreOnce [] = Unit {0}
+AreOnce (x ∷ xs) = (list_any (same_range x) xs ≡ false) × AreOnce xs
+
+-- one that the list doesn't have can stand behind it
+absent_push : (x y : Range) (xs : List Range) → list_any (same_range x) xs ≡ false → same_range y x ≡ false
+    → list_any (same_range x) (xs ++ y ∷ []) ≡ false
+absent_push x y xs absent apart =
+    list_any-append (same_range x) xs (y ∷ [])
+    ∙ or_from (list_any (same_range x) xs) (same_range x y || false) absent
+    (or_from (same_range x y) false
+    (false_from_ne_true (same_range x y) (λ same.
+    both_ways (same_range y x) apart
+    (ap (λ z. same_range z x) (sym (same_range-equal x y same)) ∙ same_range-refl x))) refl)
+
+AreOnce-push : (xs : List Range) (y : Range) → AreOnce xs → list_any (same_range y) xs ≡ false → AreOnce (xs ++ y ∷ [])
+AreOnce-push [] y once absent = (refl, tt)
+AreOnce-push (x ∷ xs) y once absent =
+    let parts = or_parts (same_range y x) (list_any (same_range y) xs) absent in
+    (absent_push x y xs once.0 parts.0, AreOnce-push xs y once.1 parts.1)
+
+-- naming keeps it so
+pub name_object-once : (named : List Range) (object : Range) → AreOnce named → AreOnce (name_object named object)
+name_object-once named object once = by (list_any (same_range object) named) refl
+  where
+    by : (b : Bool) → list_any (same_range object) named ≡ b → AreOnce (cond b named (named ++ object ∷ []))
+    by true e = once
+    by false e = AreOnce-push named object once e
+
+-- also of several
+pub name_objects-once : (named objects : List Range) → AreOnce named → AreOnce (name_objects named objects)
+name_objects-once named [] once = once
+name_objects-once named (object ∷ objects) once =
+    name_objects-once (name_object named object) objects (name_object-once named object once)
+
+-- so that one object stands at one place
+pub AreOnce-at : (xs : List Range) (j k : ℕ) (x : Range) → AreOnce xs → slice_get xs j ≡ Some x
+    → slice_get xs k ≡ Some x → j ≡ k
+AreOnce-at [] j k x once e d = absurd (none-some x e)
+AreOnce-at (y ∷ xs) zero zero x once e d = refl
+AreOnce-at (y ∷ xs) zero (suc k) x once e d =
+    absurd (both_ways (list_any (same_range y) xs) once.0 (Has-at xs k y (d ∙ ap Some (sym (same_Some y x e)))))
+AreOnce-at (y ∷ xs) (suc j) zero x once e d =
+    absurd (both_ways (list_any (same_range y) xs) once.0 (Has-at xs j y (e ∙ ap Some (sym (same_Some y x d)))))
+AreOnce-at (y ∷ xs) (suc j) (suc k) x once e d = ap suc (AreOnce-at xs j k x once.1 e d)

@@ -19,7 +19,7 @@ use Rattle.tss_model.specs.InOrder.{Started, flat_step, flat_stepped, call_ran, 
 use Rattle.tss_laws.specs.MainInOrder.{MayLoad}
 use Rattle.tss_laws.proofs.FlatLoads.{byte_range, main_granted, same_bytes}
 use Rattle.tss_laws.proofs.FlatSteps.{flat_step-main, flat_step-call}
-use Rattle.tss_laws.proofs.FlatMain.{main_step-leaves}
+use Rattle.tss_laws.proofs.FlatMain.{NeverStored, unloaded_unstored, main_step-leaves}
 use Rattle.tss_laws.proofs.FlatTask.{is_written, task_end-changes}
 use Rattle.tss_laws.proofs.FlatOrder.{flat_stepped-next, started_at-by}
 use Rattle.tss_laws.proofs.FlatStarts.{task_started, started_at-step, started-ran, started-names}
@@ -36,26 +36,35 @@ named_not_loaded f a touched may =
     (main_granted f.memory.ranges f.main.epoch Loads (byte_range a) may).1 touched
 
 module _ (code : List SegmentState) (limits : Limits) (f : Flat) (a : ℕ)
-    (touched : touches f.main.epoch (byte_range a) ≡ true) where
-  call_ran-named : (p : MainState × Option Task) → ((t : Task) → p.1 ≡ Some t → is_written (operands_of t) a ≡ false)
+    (unstored : NeverStored f.memory.ranges f.main.epoch a) where
+  call_ran-byte : (p : MainState × Option Task) → ((t : Task) → p.1 ≡ Some t → is_written (operands_of t) a ≡ false)
       → get (call_ran code limits f.memory p).memory.bytes a ≡ get f.memory.bytes a
-  call_ran-named (main, None) unwritten = refl
-  call_ran-named (main, Some t) unwritten = (task_end-changes code limits f.memory t).bytes a (unwritten t refl)
+  call_ran-byte (main, None) unwritten = refl
+  call_ran-byte (main, Some t) unwritten = (task_end-changes code limits f.memory t).bytes a (unwritten t refl)
 
-  -- a step in program order changes a byte of a named object only where the task that it starts writes it
-  pub flat_step-named : ((t : Task) → task_called limits f (next_call code limits f) ≡ Some t
+  -- a step in program order changes a byte that main may not store only where the task that it starts writes it
+  pub flat_step-byte : ((t : Task) → task_called limits f (next_call code limits f) ≡ Some t
       → is_written (operands_of t) a ≡ false) → get (flat_step code limits f).memory.bytes a ≡ get f.memory.bytes a
-  flat_step-named unwritten = by (next_call code limits f) refl
+  flat_step-byte unwritten = by (next_call code limits f) refl
     where
       by : (c : Option Call) → next_call code limits f ≡ c
           → get (flat_step code limits f).memory.bytes a ≡ get f.memory.bytes a
       by None e =
           ap (λ (x : Flat). get x.memory.bytes a) (flat_step-main code limits f e)
-          ∙ (main_step-leaves code limits f).bytes a (named_not_loaded f a touched)
+          ∙ (main_step-leaves code limits f).bytes a unstored
       by (Some c) e =
           ap (λ (x : Flat). get x.memory.bytes a) (flat_step-call code limits f c e)
-          ∙ call_ran-named (main_call limits f.memory f.main c)
+          ∙ call_ran-byte (main_call limits f.memory f.main c)
           (λ t is. unwritten t (ap (task_called limits f) e ∙ is))
+
+-- so it is for a byte of a named object
+pub flat_step-named : (code : List SegmentState) (limits : Limits) (f : Flat) (a : ℕ)
+    → touches f.main.epoch (byte_range a) ≡ true
+    → ((t : Task) → task_called limits f (next_call code limits f) ≡ Some t → is_written (operands_of t) a ≡ false)
+    → get (flat_step code limits f).memory.bytes a ≡ get f.memory.bytes a
+flat_step-named code limits f a touched unwritten =
+    flat_step-byte code limits f a
+    (unloaded_unstored f.memory.ranges f.main.epoch a (named_not_loaded f a touched)) unwritten
 
 -- ---- steps in a row
 
@@ -138,6 +147,7 @@ module _ (i : ImageState) (limits : Limits) (x : Range) (j n : ℕ) (unbroken : 
       → get (flat_stepped i limits (j + n)).memory.bytes a ≡ get (flat_stepped i limits j).memory.bytes a
   unbroken_byte a inside = named_stays i limits a j n (stays_named a inside)
 
+  -- and so do all of them
   pub unbroken_bytes : bytes_of (flat_stepped i limits (j + n)).memory x ≡ bytes_of (flat_stepped i limits j).memory x
   unbroken_bytes =
       same_bytes (byte_at (flat_stepped i limits (j + n)).memory) (byte_at (flat_stepped i limits j).memory)

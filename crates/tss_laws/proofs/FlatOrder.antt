@@ -53,6 +53,7 @@ pub executed_on : (e : Option Ending) → is_some e ≡ false → is_executed e 
 executed_on None on = refl
 executed_on (Some e) on = absurd (cc)
 
+-- so many steps it has taken
 pub steps_taken-on : (m : MainState) → is_some m.ending ≡ false → steps_taken m ≡ m.registers.done
 steps_taken-on m on = cond-true _ _ _ (executed_on m.ending on)
 
@@ -81,6 +82,7 @@ module _ (code : List SegmentState) (limits : Limits) where
     taken = taken ∙ ap suc (sym (steps_taken-on f.main on)) ∙ sym (add-one (steps_taken f.main));
   }
 
+  -- steps after steps
   pub reaches_then : (f g h : Flat) → Reaches f g → Reaches g h → Reaches f h
   reaches_then f g h p q = record {
     steps = p.steps + q.steps;
@@ -205,6 +207,7 @@ module _ (i : ImageState) (limits : Limits) (k : ℕ) where
           let same = same_Some (record { task = t; memory = f.memory }) s e in
           (call, main, refl, d ∙ (λ j. (main, Some (same j).task)), λ j. (sym same j).memory)
 
+  -- what it comes from, where program order starts it
   pub started_at-by : (s : Started) → started_at i limits k ≡ Some s → StartedBy i limits k s
   started_at-by s e = by (main_after i limits k) refl e
     where

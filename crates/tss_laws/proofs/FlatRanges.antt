@@ -12,6 +12,7 @@ contains_parts r s h =
     let p = and_parts (nat_le r.base s.base) (nat_le (end_of s) (end_of r)) h in
     (leb-true r.base s.base p.0, leb-true (end_of s) (end_of r) p.1)
 
+-- and what it takes to contain it
 pub contains_from : (r s : Range) → r.base ≤ s.base → end_of s ≤ end_of r → contains r s ≡ true
 contains_from r s low high =
     and_from (nat_le r.base s.base) (nat_le (end_of s) (end_of r)) (le-leb r.base s.base low)

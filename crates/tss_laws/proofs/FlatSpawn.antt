@@ -103,6 +103,7 @@ module _ (limits : Limits) (m : Memory) (s : MainState) where
   spawn_on-rises (Ok t) = record { done = omega arith; spawned = omega arith; pieces = inl refl }
   spawn_on-rises (Err n) = rises_still _ refl refl refl
 
+  -- a call does so
   pub main_call-rises : (c : Call) → Rises s (main_call limits m s c).0
   main_call-rises ExitCall = rises_done _ refl refl (inl refl)
   main_call-rises Spawn = spawn_on-rises (spawn_of (spawn_call s.registers) m s.epoch limits s.spawned)
@@ -155,6 +156,7 @@ pub record IsSpawn (s main : MainState) (t : Task) : Type 0 where
   pub main_is : main ≡ spawn_done s t
   pub number : t.number ≡ suc s.spawned
 
+-- the task and main after it
 pub main_call-spawn : (limits : Limits) (m : Memory) (s : MainState) (c : Call) (main : MainState) (t : Task)
     → main_call limits m s c ≡ (main, Some t) → IsSpawn s main t
 main_call-spawn limits m s ExitCall main t e = absurd (none-some t (ap (λ (p : MainState × Option Task). p.1) e))
@@ -175,6 +177,23 @@ main_call-spawn limits m s Spawn main t e =
 main_call-spawn limits m s Barrier main t e = absurd (none-some t (ap (λ (p : MainState × Option Task). p.1) e))
 main_call-spawn limits m s Print main t e = absurd (none-some t (ap (λ (p : MainState × Option Task). p.1) e))
 main_call-spawn limits m s (Unknown n) main t e = absurd (none-some t (ap (λ (p : MainState × Option Task). p.1) e))
+
+-- whose checks have passed
+pub main_call-accepted : (limits : Limits) (m : Memory) (s : MainState) (c : Call) (main : MainState) (t : Task)
+    → main_call limits m s c ≡ (main, Some t)
+    → spawn_of (spawn_call s.registers) m s.epoch limits s.spawned ≡ Ok t
+main_call-accepted limits m s ExitCall main t e = absurd (none-some t (ap (λ (p : MainState × Option Task). p.1) e))
+main_call-accepted limits m s Spawn main t e =
+    by (spawn_of (spawn_call s.registers) m s.epoch limits s.spawned) refl e
+  where
+    by : (r : Result Task ℕ) → spawn_of (spawn_call s.registers) m s.epoch limits s.spawned ≡ r
+        → spawn_on s r ≡ (main, Some t) → spawn_of (spawn_call s.registers) m s.epoch limits s.spawned ≡ Ok t
+    by (Err n) d e = absurd (none-some t (ap (λ (p : MainState × Option Task). p.1) e))
+    by (Ok u) d e = d ∙ ap Ok (same_Some u t (ap (λ (p : MainState × Option Task). p.1) e))
+main_call-accepted limits m s Barrier main t e = absurd (none-some t (ap (λ (p : MainState × Option Task). p.1) e))
+main_call-accepted limits m s Print main t e = absurd (none-some t (ap (λ (p : MainState × Option Task). p.1) e))
+main_call-accepted limits m s (Unknown n) main t e =
+    absurd (none-some t (ap (λ (p : MainState × Option Task). p.1) e))
 
 -- ---- named objects
 

@@ -65,9 +65,11 @@ module _ (code : List SegmentState) (limits : Limits) (f : Flat) where
   pub next_call-ended : is_some f.main.ending ≡ true → next_call code limits f ≡ None
   next_call-ended ended = cond-true _ _ _ (or_left _ _ ended)
 
+  -- where the budget is spent there is none
   pub next_call-spent : has_spent limits f.main ≡ true → next_call code limits f ≡ None
   next_call-spent spent = cond-true _ _ _ (or_right _ _ spent)
 
+  -- else it is the call that main's core meets
   pub next_call-core : is_some f.main.ending ≡ false → has_spent limits f.main ≡ false
       → next_call code limits f ≡ called_by f.main.registers (main_core code f)
   next_call-core on left = cond-false _ _ _ (or_from _ _ on left)

@@ -32,9 +32,11 @@ pub record ChangesWritten (operands : List Operand) (m n : Memory) : Type 0 wher
   pub ranges : n.ranges ≡ m.ranges
   pub bytes : (a : ℕ) → is_written operands a ≡ false → get n.bytes a ≡ get m.bytes a
 
+-- a memory does so of itself
 pub ChangesWritten-same : (operands : List Operand) (m n : Memory) → n ≡ m → ChangesWritten operands m n
 ChangesWritten-same operands m n e = record { ranges = λ i. (e i).ranges; bytes = λ a out i. get (e i).bytes a }
 
+-- changes after changes
 pub ChangesWritten-then : (operands : List Operand) (m n k : Memory) → ChangesWritten operands m n
     → ChangesWritten operands n k → ChangesWritten operands m k
 ChangesWritten-then operands m n k p q =

@@ -54,6 +54,7 @@ module _ (budget : ℕ) (code : List SegmentState) (ranges : List MemoryRange) (
   on_goes s (Trapped t) on is = inr (t, refl)
   on_goes s Touched on is = absurd (never_touched ranges operands is.0 is.1 is.2)
 
+  -- each step does so
   pub task_step-goes : (s : TaskState Memory) → is_over s ≡ false
       → Goes s (task_step byte_at memory_write budget code (TaskActor ranges operands) s)
   task_step-goes s on = by (nat_le budget s.registers.done) refl
@@ -142,6 +143,7 @@ module _ (code : List SegmentState) (limits : Limits) (m : Memory) (t : Task) wh
           goes on (subst (Goes (task_stepped code limits m t n)) (sym (task_stepped-next n))
           (task_step-goes limits.task_budget code m.ranges (operands_of t) (task_stepped code limits m t n) on))
 
+  -- so it is after any number of steps
   pub task_stepped-counts : (n : ℕ) → Counts n
   unfolding repeated
   task_stepped-counts zero = record { done = λ on. refl; stands = stands_at zero (task_start m t) refl refl }

@@ -21,6 +21,9 @@ pub mod StoreBytes
 pub mod StoreRuns
 pub mod StoreStart
 pub mod StoreFollows
+pub mod FlatOperands
+pub mod FlatStarted
+pub mod FlatFixed
 pub mod RunKeeps
 pub mod MainFollows
 pub mod MainEvent

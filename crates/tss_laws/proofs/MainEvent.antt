@@ -22,7 +22,7 @@ use Rattle.tss_protocol.specs.UnitMachine.{is_enabled, IsEnabled, after_event}
 use Rattle.tss_laws.specs.MainInOrder.{MayLoad, Agrees, FollowsInOrder, FollowsAfter, IsCutOff, steps_taken, flat_beside, started_next, inbox_with, is_operand_of}
 use Rattle.tss_laws.proofs.FlatSteps.{repeated-add, flat_step-call}
 use Rattle.tss_laws.proofs.FlatLoads.{byte_range}
-use Rattle.tss_laws.proofs.FlatMain.{AreAlike, main_stretch-leaves, main_stretch-together, next_call-alike}
+use Rattle.tss_laws.proofs.FlatMain.{AreAlike, unloaded_unstored, main_stretch-leaves, main_stretch-together, next_call-alike}
 use Rattle.tss_laws.proofs.FlatCalls.{main_call-same}
 use Rattle.tss_laws.proofs.FlatTask.{task_end-changes, unwritten_beside}
 use Rattle.tss_laws.proofs.FlatOrder.{flat_stepped-ranges, steps_taken-on, Reaches, main_stretch-reaches, flat_stepped-next, trapped_after}
@@ -279,5 +279,7 @@ main_stores m S a out = by (call_next m S)
     called (main, Some t) = refl
 
     by : (c : Option Call) → get (main_by m S c).home.bytes a ≡ get S.home.bytes a
-    by None = (main_stretch-leaves S.code m.limits m.sizes.quantum (flat_of S)).bytes a out
+    by None =
+        (main_stretch-leaves S.code m.limits m.sizes.quantum (flat_of S)).bytes a
+        (unloaded_unstored S.home.ranges S.main.epoch a out)
     by (Some call) = called (main_call m.limits S.home S.main call)

@@ -67,6 +67,7 @@ pub record EndsInOrder (m : Machine) (i : ImageState) (S : State) (e : Ending) :
   pub output : (in_order i m.limits).output ≡ output_of S.main.pieces
   pub memory : (in_order i m.limits).memory ≡ (flat_beside i m.limits S.main).memory
 
+-- so program order ends where main has ended and follows it
 pub follows_to_end : (m : Machine) (i : ImageState) (S : State) (e : Ending) → FollowsInOrder m i S
     → S.main.ending ≡ Some e → EndsInOrder m i S e
 follows_to_end m i S e follows ended =

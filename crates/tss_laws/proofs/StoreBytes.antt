@@ -34,7 +34,7 @@ map_put-there m at (b ∷ bs) (suc j) q e h =
     beside_inserted nat_order (map_put m (suc at) bs) at b q (λ s. absurd (omega arith))
     ∙ map_put-there m (suc at) bs j q (omega arith) (omega arith)
 
--- the byte at an address of a write, and beside it
+-- the byte at an address of a write
 pub written_byte : (m : Memory) (w : Write) (a : ℕ) → w.at ≤ a → a < w.at + length w.bytes
     → byte_at (memory_write m w) a ≡ slice_index w.bytes (a - w.at)
 written_byte m w a low high =
@@ -42,12 +42,14 @@ written_byte m w a low high =
     (map_put-there m.bytes w.at w.bytes (a - w.at) a (omega arith) (omega arith))
     ∙ unwrap_or-slice_get w.bytes (a - w.at) 0
 
+-- and beside it, where it stays
 pub unwritten_byte : (m : Memory) (w : Write) (a : ℕ) → (w.at ≤ a → a < w.at + length w.bytes → ⊥)
     → byte_at (memory_write m w) a ≡ byte_at m a
 unwritten_byte m w a out = ap (λ (o : Option ℕ). unwrap_or o 0) (map_put-beside m.bytes w.at w.bytes a out)
 
 -- ---- bytes after a write to a buffer
 
+-- a put keeps the length
 pub length-list_put : (bs xs : List ℕ) (at : ℕ) → length (list_put xs at bs) ≡ length xs
 length-list_put [] xs at = refl
 length-list_put (b ∷ bs) xs at = length-set (list_put xs (suc at) bs) at b ∙ length-list_put bs xs (suc at)
@@ -148,11 +150,12 @@ in_write w a = elim (cases_lt a w.at) [
   ]
 ]
 
--- a buffer that is set, and another
+-- a buffer that is set
 pub buffer_put : (contents : Named (List ℕ)) (n : OpName) (bytes : List ℕ)
     → buffer_bytes (insert contents n bytes) n ≡ bytes
 buffer_put contents n bytes = ap (λ (o : Option (List ℕ)). unwrap_or o []) (at_inserted name_order contents n bytes)
 
+-- and another, which stays
 pub buffer_beside : (contents : Named (List ℕ)) (n k : OpName) (bytes : List ℕ) → (k ≡ n → ⊥)
     → buffer_bytes (insert contents n bytes) k ≡ buffer_bytes contents k
 buffer_beside contents n k bytes apart =

@@ -34,6 +34,7 @@ zero_at : (n k : ℕ) → slice_index (zeros n) k ≡ 0
 unfolding zeros
 zero_at n k = replicated_zero n k
 
+-- as many zeros as were asked for
 pub length-zeros : (n : ℕ) → length (zeros n) ≡ n
 unfolding zeros
 length-zeros n = length-replicate {A = ℕ} n 0
@@ -268,9 +269,11 @@ module _ (limits : Limits) (ranges : List MemoryRange) (t : Task) (storages : Li
     memory = record {
       room = λ k p n at is.
           let parts = placed_in-parts (operands_of t) storages k p at in
-          subst (λ (r : Range). r.len ≤ length (buffer_bytes (outputs_zeroed limits s (operands_of t) storages).contents n))
+          subst (λ (r : Range).
+          r.len ≤ length (buffer_bytes (outputs_zeroed limits s (operands_of t) storages).contents n))
           parts.3
-          (outputs_room (placed_in (operands_of t) storages) finds.separate limits s m (operands_of t) storages finds.short
+          (outputs_room (placed_in (operands_of t) storages) finds.separate limits s m (operands_of t) storages
+          finds.short
           finds.room k parts.0 n parts.1 (parts.2 ∙ ap Some is));
       bytes = λ a scope.
           outputs_agree (placed_in (operands_of t) storages) finds.separate limits s m (operands_of t) storages 0
