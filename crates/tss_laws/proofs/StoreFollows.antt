@@ -1,6 +1,6 @@
 -- A busy worker and its task in program order: at its start, through its stretches, and what it then shows.
 use Rattle.std.proofs.Common.{◌≡◌, ℕ, zero, suc, ◌+◌, inl, true, Some, List, [], ◌∷◌, length, map, refl, sym, ap, subst, ◌∙◌, arith}
-use Rattle.std.specs.Prelude.{slice_get}
+use Rattle.std.specs.Prelude.{slice_get, is_some, ◌==◌, ◌||◌}
 use Rattle.std.specs.List.{list_any}
 use Rattle.std.proofs.lemmas.Bool.{or_left, or_right}
 use Rattle.std.proofs.lemmas.Option.{none-some, same_Some}
@@ -11,18 +11,18 @@ use Rattle.tss_base.specs.declared.machine.Limits.{Limits}
 use Rattle.tss_base.specs.declared.machine.Machine.{Machine}
 use Rattle.tss_base.specs.Image.{SegmentState, ImageState}
 use Rattle.tss_model.specs.Memory.{MemoryRange, Memory, covers, frozen, byte_at, bytes_of}
-use Rattle.tss_model.specs.Registers.{Registers}
+use Rattle.tss_model.specs.Registers.{Registers, end_pc}
 use Rattle.tss_model.specs.Access.{TaskActor, operands_of}
-use Rattle.tss_model.specs.TaskRun.{TaskState, repeated, task_step, task_stretch, memory_write, task_start, task_stepped, task_after}
-use Rattle.tss_model.specs.InOrder.{started_at}
+use Rattle.tss_model.specs.TaskRun.{TaskState, repeated, task_step, task_stretch, memory_write, task_start, task_stepped, task_after, TaskEnd, is_over}
+use Rattle.tss_model.specs.InOrder.{started_at, Started, end_of_started}
 use Rattle.tss_protocol.specs.Mail.{StorageName}
 use Rattle.tss_protocol.specs.State.{State, Busy}
-use Rattle.tss_protocol.specs.Workers.{Stores, Placed, placed_in, stored_bytes, outputs_zeroed, busy_with, busy_after, task_state_of, exec_stretch}
+use Rattle.tss_protocol.specs.Workers.{Stores, Placed, placed_in, stored_bytes, outputs_zeroed, busy_with, busy_after, task_state_of, exec_stretch, has_ended, worker_byte}
 use Rattle.tss_protocol.specs.UnitMachine.{stores_of}
 use Rattle.tss_laws.specs.Refinement.{FollowsTask}
 use Rattle.tss_laws.proofs.FlatSteps.{repeated-add}
-use Rattle.tss_laws.proofs.FlatTaskEnds.{task_stepped-counts, task_after-there, task_end-trapped}
-use Rattle.tss_laws.proofs.StoreBytes.{IsPlaced, AreSeparate}
+use Rattle.tss_laws.proofs.FlatTaskEnds.{task_stepped-counts, task_after-there, task_end-trapped, task_end-over}
+use Rattle.tss_laws.proofs.StoreBytes.{IsPlaced, AreSeparate, HaveRoom}
 use Rattle.tss_laws.proofs.StoreRuns.{InScope, WorksAlike, exec_stretch-alike, stored_bytes-same}
 use Rattle.tss_laws.proofs.StoreStart.{FindsOperands, placed_in-parts, start-alike}
 
@@ -153,3 +153,57 @@ runs-follows m i S b r =
       trap = λ t has.
           task_end-trapped (frozen i) m.limits r.memory b.task r.steps t (sym r.alike.trap ∙ has);
     }
+
+-- ---- its end, and what others do
+
+-- a worker whose task is over has its end: the trap, and the bytes of its operands
+pub record HasEnd (m : Machine) (i : ImageState) (s : Stores) (b : Busy) (started : Started) : Type 0 where
+  pub trap : (end_of_started i m.limits started).trap ≡ b.trap
+  pub bytes : (k : ℕ) (p : Placed) → IsPlaced (placed_in (operands_of b.task) b.storages) k p
+      → stored_bytes s p.object p.storage ≡ bytes_of (end_of_started i m.limits started).memory p.object
+
+-- so it is when it may finish
+pub runs-end : (m : Machine) (i : ImageState) (s : Stores) (b : Busy) (r : RunsInOrder m i s b) → has_ended b ≡ true
+    → HasEnd m i s b (record { task = b.task; memory = r.memory })
+runs-end m i s b r ended =
+    let now = task_stepped (frozen i) m.limits r.memory b.task r.steps in
+    let over : is_over now ≡ true =
+    (λ j. is_some (sym r.alike.trap j) || ((sym r.alike.registers j).pc == end_pc)) ∙ ended in
+    let end = task_end-over (frozen i) m.limits r.memory b.task r.steps over in
+    record {
+      trap = ap (λ (e : TaskEnd). e.trap) end ∙ sym r.alike.trap;
+      bytes = λ k p at.
+      stored_bytes-same (placed_in (operands_of b.task) b.storages) (InScope s.home.ranges (operands_of b.task)) s
+      now.memory r.separate r.alike.memory k p at
+      (λ a inside.
+      let parts = placed_in-parts (operands_of b.task) b.storages k p at in
+      inl (object_owned (operands_of b.task) k parts.0 a parts.1 (ap (λ (x : Range). covers x a) parts.3 ∙ inside)))
+      ∙ ap (λ (e : TaskEnd). bytes_of e.memory p.object) (sym end);
+    }
+
+-- a worker stands where it stood as long as others leave what its task may load
+pub runs-beside : (m : Machine) (i : ImageState) (s x : Stores) (b : Busy) → RunsInOrder m i s b
+    → x.home.ranges ≡ s.home.ranges → HaveRoom (placed_in (operands_of b.task) b.storages) x
+    → ((a : ℕ) → InScope s.home.ranges (operands_of b.task) a
+    → worker_byte (placed_in (operands_of b.task) b.storages) x a
+    ≡ worker_byte (placed_in (operands_of b.task) b.storages) s a)
+    → RunsInOrder m i x b
+runs-beside m i s x b r ranges room same = record {
+  place = r.place;
+  memory = r.memory;
+  started = r.started;
+  count = r.count;
+  separate = r.separate;
+  steps = r.steps;
+  alike = record {
+    registers = r.alike.registers;
+    scratch = r.alike.scratch;
+    trap = r.alike.trap;
+    memory = record {
+      room = room;
+      bytes = λ a scope.
+      let before = subst (λ (rs : List MemoryRange). InScope rs (operands_of b.task) a) ranges scope in
+      same a before ∙ r.alike.memory.bytes a before;
+    };
+  };
+}
