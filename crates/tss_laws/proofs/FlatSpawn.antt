@@ -1,6 +1,6 @@
 -- What a call of main leaves of main: the steps that it has taken, the tasks that it has spawned, and the objects of a
 -- spawned task, which main may not load from then on.
-use Rattle.std.proofs.Common.{◌≡◌, ◌⊎◌, inl, inr, ℕ, suc, ◌+◌, ◌≤◌, Bool, true, false, Option, Some, Result, Ok, Err, List, [], ◌∷◌, ◌++◌, refl, sym, ap, ◌∙◌, arith, add-one, nat_le, nat_lt}
+use Rattle.std.proofs.Common.{◌≡◌, ◌⊎◌, inl, inr, ℕ, suc, ◌+◌, ◌≤◌, Bool, true, false, Option, Some, None, Result, Ok, Err, List, [], ◌∷◌, ◌++◌, refl, sym, ap, ◌∙◌, arith, add-one, nat_le, nat_lt}
 use Rattle.std.specs.Prelude.{cond, ◌==◌, ◌&&◌, length, is_some, is_none}
 use Rattle.std.specs.List.{list_any}
 use Rattle.std.proofs.lemmas.Bool.{both_ways, false_from_ne_true}
@@ -177,6 +177,39 @@ main_call-spawn limits m s Spawn main t e =
 main_call-spawn limits m s Barrier main t e = absurd (none-some t (ap (λ (p : MainState × Option Task). p.1) e))
 main_call-spawn limits m s Print main t e = absurd (none-some t (ap (λ (p : MainState × Option Task). p.1) e))
 main_call-spawn limits m s (Unknown n) main t e = absurd (none-some t (ap (λ (p : MainState × Option Task). p.1) e))
+
+print_call-spawned : (limits : Limits) (m : Memory) (s : MainState) (r : Range)
+    → (print_call limits m s r).spawned ≡ s.spawned
+print_call-spawned limits m s r =
+    by (r.len == 0) (is_none (range_of m.ranges r)) (touches s.epoch r)
+    (nat_lt limits.output_bytes (length (output_of s.pieces) + r.len))
+  where
+    by : (n b t o : Bool) → (cond n (call_done s)
+        (cond b (main_trapped s (trap_of s.registers load_denied r.base)) (cond t (main_refused s main_touch)
+        (cond o (main_refused s output_full) (print_done s (bytes_of m r)))))).spawned ≡ s.spawned
+    by true b t o = refl
+    by false true t o = refl
+    by false false true o = refl
+    by false false false true = refl
+    by false false false false = refl
+
+-- a call that spawns none leaves the number of tasks
+pub main_call-unspawned : (limits : Limits) (m : Memory) (s : MainState) (c : Call) (main : MainState)
+    → main_call limits m s c ≡ (main, None) → main.spawned ≡ s.spawned
+main_call-unspawned limits m s c main e =
+    ap (λ (p : MainState × Option Task). p.0.spawned) (sym e)
+    ∙ by c (ap (λ (p : MainState × Option Task). p.1) e)
+  where
+    refused : (r : Result Task ℕ) → (spawn_on s r).1 ≡ None → (spawn_on s r).0.spawned ≡ s.spawned
+    refused (Ok t) e = absurd (none-some t (sym e))
+    refused (Err n) e = refl
+
+    by : (c : Call) → (main_call limits m s c).1 ≡ None → (main_call limits m s c).0.spawned ≡ s.spawned
+    by ExitCall e = refl
+    by Spawn e = refused (spawn_of (spawn_call s.registers) m s.epoch limits s.spawned) e
+    by Barrier e = refl
+    by Print e = print_call-spawned limits m s (print_range s.registers)
+    by (Unknown n) e = refl
 
 -- whose checks have passed
 pub main_call-accepted : (limits : Limits) (m : Memory) (s : MainState) (c : Call) (main : MainState) (t : Task)

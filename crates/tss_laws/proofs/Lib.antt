@@ -24,6 +24,7 @@ pub mod StoreFollows
 pub mod FlatOperands
 pub mod FlatStarted
 pub mod FlatFixed
+pub mod FlatNumbers
 pub mod RunKeeps
 pub mod MainFollows
 pub mod MainEvent

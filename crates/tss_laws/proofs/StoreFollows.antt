@@ -173,12 +173,12 @@ runs-end m i s b r ended =
     record {
       trap = ap (λ (e : TaskEnd). e.trap) end ∙ sym r.alike.trap;
       bytes = λ k p at.
-      stored_bytes-same (placed_in (operands_of b.task) b.storages) (InScope s.home.ranges (operands_of b.task)) s
-      now.memory r.separate r.alike.memory k p at
-      (λ a inside.
-      let parts = placed_in-parts (operands_of b.task) b.storages k p at in
-      inl (object_owned (operands_of b.task) k parts.0 a parts.1 (ap (λ (x : Range). covers x a) parts.3 ∙ inside)))
-      ∙ ap (λ (e : TaskEnd). bytes_of e.memory p.object) (sym end);
+          stored_bytes-same (placed_in (operands_of b.task) b.storages) (InScope s.home.ranges (operands_of b.task)) s
+          now.memory r.separate r.alike.memory k p at
+          (λ a inside.
+          let parts = placed_in-parts (operands_of b.task) b.storages k p at in
+          inl (object_owned (operands_of b.task) k parts.0 a parts.1 (ap (λ (x : Range). covers x a) parts.3 ∙ inside)))
+          ∙ ap (λ (e : TaskEnd). bytes_of e.memory p.object) (sym end);
     }
 
 -- a worker stands where it stood as long as others leave what its task may load
@@ -202,8 +202,8 @@ runs-beside m i s x b r ranges room same = record {
     memory = record {
       room = room;
       bytes = λ a scope.
-      let before = subst (λ (rs : List MemoryRange). InScope rs (operands_of b.task) a) ranges scope in
-      same a before ∙ r.alike.memory.bytes a before;
+          let before = subst (λ (rs : List MemoryRange). InScope rs (operands_of b.task) a) ranges scope in
+          same a before ∙ r.alike.memory.bytes a before;
     };
   };
 }
