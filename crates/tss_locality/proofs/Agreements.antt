@@ -1,0 +1,61 @@
+-- Agreement of maps and of optional values: what an insertion or a removal leaves, two changes in turn, and agreement on
+-- less.
+use Rattle.std.proofs.Common.{◌≡◌, ℕ, Option, Some, None, refl, sym, ◌∙◌, subst, inl, inr, ◌⊎◌}
+use Rattle.std.specs.declared.cmp.Ordering.{Ordering}
+use Rattle.std.specs.FinMap.{FinMap, get, insert, remove}
+use Rattle.std.proofs.lemmas.Option.{none-some, same_Some}
+use Rattle.tss_maps.proofs.Keys.{IsKeyOrder, decide_key}
+use Rattle.tss_maps.proofs.Changes.{beside_inserted, beside_removed, at_inserted}
+use Rattle.tss_locality.specs.Agreement.{Beyond, AgreeAt, SameFor}
+
+module _ {K X : Type 0} {R : K → K → Ordering} where
+  -- a map agrees with itself
+  pub agree_same : (A : K → Type 0) (m : FinMap R X) → AgreeAt A m m
+  agree_same A m q a = refl
+
+  -- two changes in turn
+  pub agree_then : (A : K → Type 0) (l m n : FinMap R X) → AgreeAt A l m → AgreeAt A m n → AgreeAt A l n
+  agree_then A l m n first second q a = second q a ∙ first q a
+
+  -- agreement on less
+  pub agree_less : (A B : K → Type 0) (m n : FinMap R X) → ((q : K) → B q → A q) → AgreeAt A m n → AgreeAt B m n
+  agree_less A B m n less same q b = same q (less q b)
+
+module _ {K X : Type 0} {R : K → K → Ordering} (order : IsKeyOrder R) (P : K → Type 0) (m : FinMap R X) (k : K) where
+  -- an insertion at a key of P
+  pub agree_inserted : (v : X) → P k → AgreeAt (Beyond P) m (insert m k v)
+  agree_inserted v p q out = beside_inserted order m k v q (λ same. out (subst P (sym same) p))
+
+  -- a removal at a key of P
+  pub agree_removed : P k → AgreeAt (Beyond P) m (remove m k)
+  agree_removed p q out = beside_removed order m k q (λ same. out (subst P (sym same) p))
+
+module _ {X : Type 0} (A : X → Type 0) where
+  -- the same value
+  pub same_for : (a : Option X) → SameFor A a a
+  same_for a x in_a = (λ e. e, λ e. e)
+
+  -- two values that are equal
+  pub same_for_equal : (a b : Option X) → b ≡ a → SameFor A a b
+  same_for_equal a b e x in_a = (λ there. e ∙ there, λ there. sym e ∙ there)
+
+  -- two changes in turn
+  pub same_for_then : (a b c : Option X) → SameFor A a b → SameFor A b c → SameFor A a c
+  same_for_then a b c first second x in_a =
+      (λ there. (second x in_a).0 ((first x in_a).0 there), λ there. (first x in_a).1 ((second x in_a).1 there))
+
+  -- a value of another kind
+  abbrev pub IsOther : Option X → Type 0
+  IsOther a = (x : X) → A x → a ≡ Some x → ⊥
+
+  -- no value
+  pub other_none : IsOther None
+  other_none x in_a e = absurd (none-some x e)
+
+  -- a value that isn't of this kind
+  pub other_some : (y : X) → (A y → ⊥) → IsOther (Some y)
+  other_some y out x in_a e = out (subst A (sym (same_Some y x e)) in_a)
+
+  -- values of another kind both before and after
+  pub same_for_other : (a b : Option X) → IsOther a → IsOther b → SameFor A a b
+  same_for_other a b before after x in_a = (λ e. absurd (before x in_a e), λ e. absurd (after x in_a e))

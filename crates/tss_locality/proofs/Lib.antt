@@ -1,0 +1,5 @@
+pub mod Agreements
+pub mod Messages
+pub mod States
+pub mod Parts
+pub mod Flights

@@ -1,0 +1,4 @@
+pub mod Agreement
+pub mod Extents
+pub mod Scopes
+pub mod Concerns
