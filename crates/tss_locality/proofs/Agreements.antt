@@ -5,8 +5,8 @@ use Rattle.std.specs.declared.cmp.Ordering.{Ordering}
 use Rattle.std.specs.FinMap.{FinMap, get, insert, remove}
 use Rattle.std.proofs.lemmas.Option.{none-some, same_Some}
 use Rattle.tss_maps.proofs.Keys.{IsKeyOrder, decide_key}
-use Rattle.tss_maps.proofs.Changes.{beside_inserted, beside_removed, at_inserted}
-use Rattle.tss_locality.specs.Agreement.{Beyond, AgreeAt, SameFor}
+use Rattle.tss_maps.proofs.Changes.{beside_inserted, beside_removed, from_inserted, from_removed}
+use Rattle.tss_locality.specs.Agreement.{Beyond, AgreeAt, ClosedAt, SameFor}
 
 module _ {K X : Type 0} {R : K → K → Ordering} where
   -- a map agrees with itself
@@ -29,6 +29,18 @@ module _ {K X : Type 0} {R : K → K → Ordering} (order : IsKeyOrder R) (P : K
   -- a removal at a key of P
   pub agree_removed : P k → AgreeAt (Beyond P) m (remove m k)
   agree_removed p q out = beside_removed order m k q (λ same. out (subst P (sym same) p))
+
+module _ {K X : Type 0} {R : K → K → Ordering} (order : IsKeyOrder R) (P : K → Type 0) (Q : X → Type 0) (m : FinMap R X) (k : K) where
+  -- what is inserted is of the kind
+  pub closed_inserted : (v : X) → ClosedAt P Q m → Q v → ClosedAt P Q (insert m k v)
+  closed_inserted v c of_kind q x p e = elim (from_inserted order m k v q x e) [
+    | inl new ↦ subst Q (sym new.1) of_kind
+    | inr old ↦ c q x p old.1
+  ]
+
+  -- a removal
+  pub closed_removed : ClosedAt P Q m → ClosedAt P Q (remove m k)
+  closed_removed c q x p e = c q x p (from_removed order m k q x e).1
 
 module _ {X : Type 0} (A : X → Type 0) where
   -- the same value
