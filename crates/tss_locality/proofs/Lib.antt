@@ -5,3 +5,5 @@ pub mod Parts
 pub mod Flights
 pub mod VersionChanges
 pub mod VersionEvents
+pub mod Sending
+pub mod ObjectEvents
