@@ -1,11 +1,11 @@
 -- Agreement of maps and of optional values: what an insertion or a removal leaves, two changes in turn, and agreement on
 -- less.
-use Rattle.std.proofs.Common.{◌≡◌, ℕ, Option, Some, None, refl, sym, ◌∙◌, subst, inl, inr, ◌⊎◌}
+use Rattle.std.proofs.Common.{◌≡◌, ℕ, Option, Some, None, refl, sym, ap, ◌∙◌, subst, inl, inr, ◌⊎◌}
 use Rattle.std.specs.declared.cmp.Ordering.{Ordering}
 use Rattle.std.specs.FinMap.{FinMap, get, insert, remove}
 use Rattle.std.proofs.lemmas.Option.{none-some, same_Some}
 use Rattle.tss_maps.proofs.Keys.{IsKeyOrder, decide_key}
-use Rattle.tss_maps.proofs.Changes.{beside_inserted, beside_removed, from_inserted, from_removed}
+use Rattle.tss_maps.proofs.Changes.{beside_inserted, beside_removed, at_inserted, at_removed, from_inserted, from_removed}
 use Rattle.tss_locality.specs.Agreement.{Beyond, AgreeAt, ClosedAt, SameFor}
 
 module _ {K X : Type 0} {R : K → K → Ordering} where
@@ -71,3 +71,24 @@ module _ {X : Type 0} (A : X → Type 0) where
   -- values of another kind both before and after
   pub same_for_other : (a b : Option X) → IsOther a → IsOther b → SameFor A a b
   same_for_other a b before after x in_a = (λ e. absurd (before x in_a e), λ e. absurd (after x in_a e))
+
+module _ {K X : Type 0} {R : K → K → Ordering} (order : IsKeyOrder R) (A : X → Type 0) (m : FinMap R X) (k : K) (other : IsOther A (get m k)) where
+  -- where a value of another kind stood, another such value is put
+  pub same_for_inserted : (v : X) → (A v → ⊥) → (q : K) → SameFor A (get m q) (get (insert m k v) q)
+  same_for_inserted v out q = elim (decide_key order q k) [
+    | inl same ↦
+        same_for_other A (get m q) (get (insert m k v) q)
+        (subst (IsOther A) (ap (get m) (sym same)) other)
+        (subst (IsOther A) (sym (ap (get (insert m k v)) same ∙ at_inserted order m k v)) (other_some A v out))
+    | inr apart ↦ same_for_equal A (get m q) (get (insert m k v) q) (beside_inserted order m k v q apart)
+  ]
+
+  -- or it is removed
+  pub same_for_removed : (q : K) → SameFor A (get m q) (get (remove m k) q)
+  same_for_removed q = elim (decide_key order q k) [
+    | inl same ↦
+        same_for_other A (get m q) (get (remove m k) q)
+        (subst (IsOther A) (ap (get m) (sym same)) other)
+        (subst (IsOther A) (sym (ap (get (remove m k)) same ∙ at_removed order m k)) (other_none A))
+    | inr apart ↦ same_for_equal A (get m q) (get (remove m k) q) (beside_removed order m k q apart)
+  ]

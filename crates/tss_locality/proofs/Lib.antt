@@ -7,3 +7,4 @@ pub mod VersionChanges
 pub mod VersionEvents
 pub mod Sending
 pub mod ObjectEvents
+pub mod Tasks

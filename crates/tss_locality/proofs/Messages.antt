@@ -10,7 +10,7 @@ use Rattle.tss_maps.proofs.Keys.{name_order}
 use Rattle.tss_maps.proofs.Changes.{beside_inserted, beside_removed}
 use Rattle.tss_protocol.specs.Mail.{Source, OpenContents, ReleaseContents, IdleContents, GoneContents, Message, Decode, Ack, Open, Use, Ready, Link, Release, Bye, Idle, Nack, Retire, Gone, Mail, posted, posted_all, taken}
 use Rattle.tss_locality.specs.Agreement.{Beyond, AgreeAt, MailAgrees}
-use Rattle.tss_locality.specs.Scopes.{Scope, IsOwn, MessageIn, MessagesIn}
+use Rattle.tss_locality.specs.Scopes.{Scope, IsOwn, MessageIn, MessagesIn, IsSentIn, AreSentIn}
 use Rattle.tss_locality.proofs.Agreements.{agree_same, agree_then, agree_less, agree_inserted, agree_removed}
 
 module _ (names own : OpName → Type 0) where
@@ -162,34 +162,34 @@ module _ (c : Scope) where
 
   module _ (m n : Mail) (f : MailOnly m n) where
     -- a message of the scope is sent
-    pub mail_posted : (x : Message) → MessageIn c x → MailOnly m (posted n x)
+    pub mail_posted : (x : Message) → IsSentIn c x → MailOnly m (posted n x)
     mail_posted (Decode o operand) p =
-        mail_decodes Names Own m n f (insert n.decodes o operand) (agree_inserted name_order (IsOwn c) n.decodes o operand p.0)
+        mail_decodes Names Own m n f (insert n.decodes o operand) (agree_inserted name_order (IsOwn c) n.decodes o operand p)
     mail_posted (Ack o) p =
         mail_acks Names Own m n f (insert n.acks o tt) (agree_inserted name_order (IsOwn c) n.acks o tt p)
     mail_posted (Open o x) p =
-        mail_opens Names Own m n f (insert n.opens o x) (agree_inserted name_order (IsOwn c) n.opens o x p.0)
+        mail_opens Names Own m n f (insert n.opens o x) (agree_inserted name_order (IsOwn c) n.opens o x p)
     mail_posted (Use o v) p =
-        mail_uses Names Own m n f (insert n.uses o v) (agree_inserted name_order (IsOwn c) n.uses o v p.0)
+        mail_uses Names Own m n f (insert n.uses o v) (agree_inserted name_order (IsOwn c) n.uses o v p)
     mail_posted (Ready o s) p =
-        mail_readies Names Own m n f (insert n.readies o s) (agree_inserted name_order c.names n.readies o s p.0)
+        mail_readies Names Own m n f (insert n.readies o s) (agree_inserted name_order c.names n.readies o s p)
     mail_posted (Link o next) p =
-        mail_links Names Own m n f (insert n.links o next) (agree_inserted name_order c.names n.links o next p.0)
+        mail_links Names Own m n f (insert n.links o next) (agree_inserted name_order c.names n.links o next p)
     mail_posted (Release o r) p =
-        mail_releases Names Own m n f (insert n.releases o r) (agree_inserted name_order (IsOwn c) n.releases o r p.0)
+        mail_releases Names Own m n f (insert n.releases o r) (agree_inserted name_order (IsOwn c) n.releases o r p)
     mail_posted (Bye o promised) p =
         mail_byes Names Own m n f (insert n.byes o promised) (agree_inserted name_order (IsOwn c) n.byes o promised p)
     mail_posted (Idle v i) p =
-        mail_idles Names Own m n f (insert n.idles v i) (agree_inserted name_order c.names n.idles v i p.0)
+        mail_idles Names Own m n f (insert n.idles v i) (agree_inserted name_order c.names n.idles v i p)
     mail_posted (Nack v) p =
         mail_nacks Names Own m n f (insert n.nacks v tt) (agree_inserted name_order c.names n.nacks v tt p)
     mail_posted (Retire v) p =
         mail_retires Names Own m n f (insert n.retires v tt) (agree_inserted name_order c.names n.retires v tt p)
     mail_posted (Gone v g) p =
-        mail_gones Names Own m n f (insert n.gones v g) (agree_inserted name_order c.names n.gones v g p.0)
+        mail_gones Names Own m n f (insert n.gones v g) (agree_inserted name_order c.names n.gones v g p)
 
   -- messages of the scope are sent
-  pub mail_posted_all : (m n : Mail) → MailOnly m n → (xs : List Message) → MessagesIn c xs → MailOnly m (posted_all n xs)
+  pub mail_posted_all : (m n : Mail) → MailOnly m n → (xs : List Message) → AreSentIn c xs → MailOnly m (posted_all n xs)
   mail_posted_all m n f [] p = f
   mail_posted_all m n f (x ∷ xs) p = mail_posted_all m (posted n x) (mail_posted m n f x p.0) xs p.1
 
@@ -246,3 +246,23 @@ module _ (c : Scope) where
   mail_taken m (event.Exec n) p = mail_same Names Own m
   mail_taken m (event.Finish n) p = mail_same Names Own m
   mail_taken m (event.Copy n) p = mail_same Names Own m
+
+  -- the name of a message of the scope
+  pub named_from_in : (x : Message) → MessageIn c x → IsSentIn c x
+  named_from_in (Decode o operand) p = p.0
+  named_from_in (Ack o) p = p
+  named_from_in (Open o x) p = p.0
+  named_from_in (Use o v) p = p.0
+  named_from_in (Ready o s) p = p.0
+  named_from_in (Link o next) p = p.0
+  named_from_in (Release o r) p = p.0
+  named_from_in (Bye o promised) p = p
+  named_from_in (Idle v i) p = p.0
+  named_from_in (Nack v) p = p
+  named_from_in (Retire v) p = p
+  named_from_in (Gone v g) p = p.0
+
+  -- of each message
+  pub named_from_all_in : (xs : List Message) → MessagesIn c xs → AreSentIn c xs
+  named_from_all_in [] p = tt
+  named_from_all_in (x ∷ xs) p = (named_from_in x p.0, named_from_all_in xs p.1)

@@ -21,6 +21,7 @@ use Rattle.tss_protocol.specs.UnitMachine.{tables_of, with_tables, without, with
 use Rattle.tss_locality.specs.Agreement.{Beyond, AgreeAt}
 use Rattle.tss_locality.specs.Scopes.{Scope, IsOwn, IsBase, beyond, ChangesOnly, NameIn, GoingIn, MessageIn, MessagesIn, Closed}
 use Rattle.tss_locality.proofs.Agreements.{agree_same, agree_inserted, agree_removed}
+use Rattle.tss_locality.proofs.Messages.{named_from_in}
 use Rattle.tss_locality.proofs.States.{state_gateway, state_entries, state_places, state_buffers, state_contents}
 use Rattle.tss_locality.proofs.Sending.{changes_none, changes_taken, changes_sent, changes_versioned}
 use Rattle.tss_locality.proofs.VersionEvents.{stays_open, stays_use, stays_release, stays_nack}
@@ -113,7 +114,7 @@ module _ (c : Scope) (m : Machine) (S : State) (closed : Closed c S) where
           state_places (beyond c) S A in_entries d.part.places (places_if o bank (takes_place e p.mode) own.0) in
       changes_sent c S (record B { buffers = d.part.buffers })
       (state_buffers (beyond c) S B in_places d.part.buffers (buffers_if o bank (takes_buffer e p.mode) own.0))
-      d.sent (decode_message_in o p e there own object, (own, tt))
+      d.sent (named_from_in c (decode_message o p e) (decode_message_in o p e there own object), (own, tt))
 
   decode_taken : (o : OpName) → IsOwn c o → (p : Option Operand) → get S.mail.decodes o ≡ p →
       ChangesOnly c S (decode_message_taken m (without S (event.Decode o)) o p)

@@ -24,6 +24,14 @@ pub record FlightOn (e : Extent) (x y : Numbered Flying) : Type 0 where
   pub shapes : (n : ℕ) → SameShape (get x n) (get y n)
   pub operands : (o : OpName) → e.names o → SameOperand (operand_at x o) (operand_at y o)
 
+-- the same tasks
+pub same_flight : (e : Extent) (x : Numbered Flying) → FlightOn e x x
+same_flight e x = record {
+  flight = agree_same e.tasks x;
+  shapes = λ n. shape_same (get x n);
+  operands = λ o p. inl refl;
+}
+
 -- what they agree on of home
 pub record HomeOn (e : Extent) (x y : Memory) : Type 0 where
   pub ranges : y.ranges ≡ x.ranges

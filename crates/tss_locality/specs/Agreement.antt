@@ -1,5 +1,5 @@
 -- Where maps, optional values, messages and tasks agree.
-use Rattle.std.specs.Prelude.{◌≡◌, ◌↔◌, ◌⊎◌, ℕ, ◌==◌, ◌+◌, Bool, true, cond, List, [], ◌∷◌, length, slice_get, Option, Some, None}
+use Rattle.std.specs.Prelude.{◌≡◌, ◌↔◌, ◌⊎◌, ℕ, suc, ◌==◌, Bool, true, cond, List, [], ◌∷◌, length, slice_get, Option, Some, None}
 use Rattle.std.specs.declared.cmp.Ordering.{Ordering}
 use Rattle.std.specs.FinMap.{FinMap, get}
 use Rattle.tss_base.specs.declared.operand.OpName.{OpName}
@@ -65,4 +65,4 @@ operand_in (Some t) o = cond (t.number == o.task) (slice_get (operands_of t) o.p
 -- how often a number stands in a list
 abbrev pub times_in : ℕ → List ℕ → ℕ
 times_in n [] = 0
-times_in n (q ∷ qs) = cond (q == n) 1 0 + times_in n qs
+times_in n (q ∷ qs) = cond (q == n) (suc (times_in n qs)) (times_in n qs)

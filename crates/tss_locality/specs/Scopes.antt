@@ -143,6 +143,26 @@ abbrev pub MessagesIn : Scope → List Message → Type 0
 MessagesIn c [] = Unit {0}
 MessagesIn c (m ∷ ms) = MessageIn c m × MessagesIn c ms
 
+-- a message, by its name alone
+abbrev pub IsSentIn : Scope → Message → Type 0
+IsSentIn c (Decode o operand) = IsOwn c o
+IsSentIn c (Ack o) = IsOwn c o
+IsSentIn c (Open o x) = IsOwn c o
+IsSentIn c (Use o v) = IsOwn c o
+IsSentIn c (Ready o s) = c.names o
+IsSentIn c (Link o next) = c.names o
+IsSentIn c (Release o r) = IsOwn c o
+IsSentIn c (Bye o promised) = IsOwn c o
+IsSentIn c (Idle v i) = c.names v
+IsSentIn c (Nack v) = c.names v
+IsSentIn c (Retire v) = c.names v
+IsSentIn c (Gone v g) = c.names v
+
+-- each message of a list
+abbrev pub AreSentIn : Scope → List Message → Type 0
+AreSentIn c [] = Unit {0}
+AreSentIn c (m ∷ ms) = IsSentIn c m × AreSentIn c ms
+
 -- ---- closed
 
 -- what the versions under names of the scope name
