@@ -8,3 +8,6 @@ pub mod VersionEvents
 pub mod Sending
 pub mod ObjectEvents
 pub mod Tasks
+pub mod Stores
+pub mod StoreSteps
+pub mod Stretches
