@@ -10,7 +10,7 @@ use Rattle.tss_base.specs.declared.operand.Operand.{Operand}
 use Rattle.tss_base.specs.Range.{end_of, contains, Covers}
 use Rattle.tss_base.specs.Image.{SegmentState}
 use Rattle.tss_model.specs.Memory.{MemoryRange, scratch_range, covers, list_put, put_bytes, code_word}
-use Rattle.tss_model.specs.Access.{TaskActor, writes, task_may_store}
+use Rattle.tss_model.specs.Access.{Granted, Denied, TaskActor, writes, task_may_store}
 use Rattle.tss_model.specs.Registers.{trap_of}
 use Rattle.tss_model.specs.Causes.{budget_spent}
 use Rattle.tss_model.specs.Core.{Write, Stepped, Executed, Called, Ended, Trapped, Touched, core_step}
@@ -52,7 +52,8 @@ module _ (c : Scope) where
 
   -- a store that doesn't go to the scratch lies inside the objects of the operands
   store_inside : (os : List Operand) (w : Write) → ((k : ℕ) (o : Operand) → slice_get os k ≡ Some o → c.objects o.object) →
-      MayWrite os w → covers scratch_range w.at ≡ false → IsWrittenIn c w.at w.bytes
+      task_may_store os (record { base = w.at; len = length w.bytes }) ≡ true → covers scratch_range w.at ≡ false →
+      IsWrittenIn c w.at w.bytes
   store_inside os w objects may beside a low high =
       let n = length w.bytes in
       let r : Range = record { base = w.at; len = n } in
@@ -95,7 +96,12 @@ module _ (c : Scope) where
 
   -- ---- a stretch
 
-  module _ (s : Stores) (os : List Operand) (ts : List StorageName) (placed : PlacedIn c os ts) where
+  may_store : (os : List Operand) (r : Range) (may : Bool) → task_may_store os r ≡ may → cond may Granted Denied ≡ Granted →
+      task_may_store os r ≡ true
+  may_store os r true e granted = e
+  may_store os r false e granted = absurd (cc)
+
+  module _ (s : Stores) (os : List Operand) (ts : List StorageName) (placed : PlacedIn c os ts) (ranges : List MemoryRange) where
     -- its memory is changed in the scope alone
     abbrev pub TaskOnly : TaskState Stores → Type 0
     TaskOnly x = StoresOnly c s x.memory
@@ -104,19 +110,20 @@ module _ (c : Scope) where
     task_if true x y p q = p
     task_if false x y p q = q
 
-    write_by : (x : TaskState Stores) → TaskOnly x → (w : Write) → MayWrite os w → (b : Bool) → covers scratch_range w.at ≡ b →
+    write_by : (x : TaskState Stores) → TaskOnly x → (w : Write) → MayWrite (TaskActor ranges os) w → (b : Bool) → covers scratch_range w.at ≡ b →
         TaskOnly (cond b (record x { scratch = list_put x.scratch (w.at - scratch_range.base) w.bytes })
         (record x { memory = worker_write (placed_in os ts) x.memory w }))
     write_by x f w may true e = f
     write_by x f w may false e =
-        write_only s x.memory f w (store_inside os w placed.objects may e) (placed_at (placed_in os ts) w.at)
+        let r : Range = record { base = w.at; len = length w.bytes } in
+        write_only s x.memory f w (store_inside os w placed.objects (may_store os r (task_may_store os r) refl may) e) (placed_at (placed_in os ts) w.at)
         (found_in (placed_in os ts) w.at (stored_in os ts placed))
 
-    write_task : (x : TaskState Stores) → TaskOnly x → (w : Write) → MayWrite os w →
+    write_task : (x : TaskState Stores) → TaskOnly x → (w : Write) → MayWrite (TaskActor ranges os) w →
         TaskOnly (task_write (worker_write (placed_in os ts)) x (Some w))
     write_task x f w may = write_by x f w may (covers scratch_range w.at) refl
 
-    on_only : (x : TaskState Stores) → TaskOnly x → (y : Stepped) → StoresWithin os y →
+    on_only : (x : TaskState Stores) → TaskOnly x → (y : Stepped) → StoresWithin (TaskActor ranges os) y →
         TaskOnly (task_on (worker_write (placed_in os ts)) x y)
     on_only x f (Executed r None) within = f
     on_only x f (Executed r (Some w)) within = write_task x f w within
@@ -125,7 +132,7 @@ module _ (c : Scope) where
     on_only x f (Trapped t) within = f
     on_only x f Touched within = f
 
-    module _ (byte : Stores → ℕ → ℕ) (budget : ℕ) (code : List SegmentState) (ranges : List MemoryRange) where
+    module _ (byte : Stores → ℕ → ℕ) (budget : ℕ) (code : List SegmentState) where
       step_only : (x : TaskState Stores) → TaskOnly x →
           TaskOnly (task_step byte (worker_write (placed_in os ts)) budget code (TaskActor ranges os) x)
       unfolding task_step
@@ -135,7 +142,7 @@ module _ (c : Scope) where
           let on = task_on (worker_write (placed_in os ts)) x stepped in
           task_if (is_over x) x (cond (nat_le budget x.registers.done) trapped on) f
           (task_if (nat_le budget x.registers.done) trapped on f
-          (on_only x f stepped (core_step_within ranges os (task_byte byte x) (code_word code) x.registers)))
+          (on_only x f stepped (core_step_within (TaskActor ranges os) (task_byte byte x) (code_word code) x.registers)))
 
       -- so many steps
       pub stretch_only : (n : ℕ) (x : TaskState Stores) → TaskOnly x →
