@@ -11,3 +11,6 @@ pub mod Tasks
 pub mod Stores
 pub mod StoreSteps
 pub mod Stretches
+pub mod TaskEvents
+pub mod TakeEvent
+pub mod WorkerEvents
