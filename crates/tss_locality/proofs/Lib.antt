@@ -14,3 +14,8 @@ pub mod Stretches
 pub mod TaskEvents
 pub mod TakeEvent
 pub mod WorkerEvents
+pub mod CopyEvents
+pub mod MainStores
+pub mod SpawnNumbers
+pub mod MainEventLemmas
+pub mod EachEvent

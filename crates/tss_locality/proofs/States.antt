@@ -5,6 +5,7 @@ use Rattle.tss_base.specs.declared.operand.OpName.{OpName}
 use Rattle.tss_base.specs.declared.operand.Task.{Task}
 use Rattle.tss_base.specs.Names.{Named, Numbered}
 use Rattle.tss_model.specs.Memory.{Memory, byte_at}
+use Rattle.tss_model.specs.MainStep.{MainState}
 use Rattle.tss_protocol.specs.Mail.{Mail}
 use Rattle.tss_protocol.specs.State.{Flying, Busy, Entry, Version, CopyState, HeldTrap, State}
 use Rattle.tss_protocol.specs.Stations.{operand_at}
@@ -113,6 +114,13 @@ module _ (e : Extent) (S : State) where
 
   -- a change of one field after others
   module _ (T : State) (f : SameOn e S T) where
+    pub state_main : (x : MainState) → SameOn e S (record T { main = x })
+    state_main x =
+        state_by (record T { main = x })
+        f.code f.ranges f.home f.inbox f.arrivals f.gateway f.flight
+        f.shapes f.operands f.queue f.workers f.entries f.places f.buffers
+        f.contents f.versions f.mail f.copies f.trap
+
     pub state_home : (x : Memory) → HomeOn e S.home x → SameOn e S (record T { home = x })
     state_home x p =
         state_by (record T { home = x })
