@@ -1,6 +1,6 @@
--- Agreement of maps and of optional values: what an insertion or a removal leaves, two changes in turn, and agreement on
--- less.
-use Rattle.std.proofs.Common.{◌≡◌, ℕ, Option, Some, None, refl, sym, ap, ◌∙◌, subst, inl, inr, ◌⊎◌}
+-- Agreement of maps and of optional values: what an insertion or a removal leaves, two changes in turn, and agreement
+-- on less.
+use Rattle.std.proofs.Common.{◌≡◌, Option, Some, None, refl, sym, ap, ◌∙◌, subst, inl, inr}
 use Rattle.std.specs.declared.cmp.Ordering.{Ordering}
 use Rattle.std.specs.FinMap.{FinMap, get, insert, remove}
 use Rattle.std.proofs.lemmas.Option.{none-some, same_Some}
@@ -30,7 +30,8 @@ module _ {K X : Type 0} {R : K → K → Ordering} (order : IsKeyOrder R) (P : K
   pub agree_removed : P k → AgreeAt (Beyond P) m (remove m k)
   agree_removed p q out = beside_removed order m k q (λ same. out (subst P (sym same) p))
 
-module _ {K X : Type 0} {R : K → K → Ordering} (order : IsKeyOrder R) (P : K → Type 0) (Q : X → Type 0) (m : FinMap R X) (k : K) where
+module _ {K X : Type 0} {R : K → K → Ordering} (order : IsKeyOrder R) (P : K → Type 0) (Q : X → Type 0)
+    (m : FinMap R X) (k : K) where
   -- what is inserted is of the kind
   pub closed_inserted : (v : X) → ClosedAt P Q m → Q v → ClosedAt P Q (insert m k v)
   closed_inserted v c of_kind q x p e = elim (from_inserted order m k v q x e) [
@@ -72,7 +73,8 @@ module _ {X : Type 0} (A : X → Type 0) where
   pub same_for_other : (a b : Option X) → IsOther a → IsOther b → SameFor A a b
   same_for_other a b before after x in_a = (λ e. absurd (before x in_a e), λ e. absurd (after x in_a e))
 
-module _ {K X : Type 0} {R : K → K → Ordering} (order : IsKeyOrder R) (A : X → Type 0) (m : FinMap R X) (k : K) (other : IsOther A (get m k)) where
+module _ {K X : Type 0} {R : K → K → Ordering} (order : IsKeyOrder R) (A : X → Type 0) (m : FinMap R X) (k : K)
+    (other : IsOther A (get m k)) where
   -- where a value of another kind stood, another such value is put
   pub same_for_inserted : (v : X) → (A v → ⊥) → (q : K) → SameFor A (get m q) (get (insert m k v) q)
   same_for_inserted v out q = elim (decide_key order q k) [

@@ -1,14 +1,13 @@
 -- Retire and copy concern their version and its object alone.
-use Rattle.std.proofs.Common.{◌≡◌, ℕ, ◌+◌, ◌-◌, ◌<◌, ◌≤◌, Bool, true, false, List, [], ◌∷◌, length, Option, Some, None, refl, sym, subst, arith}
-use Rattle.std.specs.Prelude.{◌&&◌, is_none, is_some, take, drop, min}
-use Rattle.std.specs.FinMap.{get, insert, remove}
+use Rattle.std.proofs.Common.{◌≡◌, ℕ, ◌+◌, ◌-◌, ◌<◌, ◌≤◌, Bool, true, false, List, length, Option, Some, None, refl, sym, subst, arith}
+use Rattle.std.specs.Prelude.{is_none, is_some, drop, min}
+use Rattle.std.specs.FinMap.{get}
 use Rattle.std.proofs.lemmas.Bool.{and_parts}
 use Rattle.std.proofs.lemmas.List.{length-take}
 use Rattle.tss_base.specs.declared.range.Range.{Range}
 use Rattle.tss_base.specs.declared.operand.OpName.{OpName}
 use Rattle.tss_base.specs.declared.machine.Machine.{Machine}
 use Rattle.tss_base.specs.declared.event.Event.TheVariants as event
-use Rattle.tss_base.specs.Names.{Numbered}
 use Rattle.tss_maps.proofs.Keys.{nat_order, name_order}
 use Rattle.tss_protocol.specs.Names.{bank_of}
 use Rattle.tss_protocol.specs.Mail.{StorageName, Home, Buffer}
@@ -19,12 +18,13 @@ use Rattle.tss_protocol.specs.UnitMachine.{without, can_retire, retire_version, 
 use Rattle.tss_locality.specs.Agreement.{Beyond, SameFor}
 use Rattle.tss_locality.specs.Scopes.{Scope, beyond, ChangesOnly, VersionIn, AreSentIn, Closed}
 use Rattle.tss_locality.proofs.Agreements.{IsOther, other_none, other_some, same_for, same_for_inserted, same_for_removed, agree_removed}
-use Rattle.tss_locality.proofs.States.{HomeOn, state_home, state_versions, state_copies}
+use Rattle.tss_locality.proofs.States.{state_home, state_versions, state_copies}
 use Rattle.tss_locality.proofs.Sending.{changes_none, changes_taken, changes_sent}
 use Rattle.tss_locality.proofs.Stores.{IsWrittenIn, home_written}
 
 -- a piece ends with its object at the latest
-piece_ends : (base len moved left n a : ℕ) → n ≡ min (min 64 (len - moved)) left → base + moved ≤ a → a < base + moved + n →
+piece_ends : (base len moved left n a : ℕ) → n ≡ min (min 64 (len - moved)) left → base + moved ≤ a →
+    a < base + moved + n →
     a < base + len
 piece_ends base len moved left n a short low high = omega (arith, short)
 
@@ -35,7 +35,8 @@ module _ (c : Scope) (m : Machine) (S : State) (closed : Closed c S) where
 
   -- ---- retire
 
-  nothing_copied : (b : ℕ) (k : Option CopyState) → get S.copies b ≡ k → is_none k ≡ true → IsOther IsCopiedElsewhere (get S.copies b)
+  nothing_copied : (b : ℕ) (k : Option CopyState) → get S.copies b ≡ k → is_none k ≡ true →
+      IsOther IsCopiedElsewhere (get S.copies b)
   nothing_copied b None there free = subst (IsOther IsCopiedElsewhere) (sym there) (other_none IsCopiedElsewhere)
   nothing_copied b (Some k) there free = absurd (cc)
 
@@ -45,7 +46,8 @@ module _ (c : Scope) (m : Machine) (S : State) (closed : Closed c S) where
   copies_only b v x None p on q = same_for IsCopiedElsewhere (get S.copies q)
   copies_only b v x (Some Home) p on q = same_for IsCopiedElsewhere (get S.copies q)
   copies_only b v x (Some (Buffer n)) p on q =
-      same_for_inserted nat_order IsCopiedElsewhere S.copies b (nothing_copied b (get S.copies b) refl on) (new_copy v x n) (λ out. out p) q
+      same_for_inserted nat_order IsCopiedElsewhere S.copies b (nothing_copied b (get S.copies b) refl on)
+          (new_copy v x n) (λ out. out p) q
 
   retire_sent : (v : OpName) (x : Range) (s : Option StorageName) → c.names v → AreSentIn c (sent_by_retire v x s)
   retire_sent v x None p = tt
@@ -72,19 +74,24 @@ module _ (c : Scope) (m : Machine) (S : State) (closed : Closed c S) where
       ChangesOnly c S (after_event m S (event.Retire v))
   unfolding after_event is_enabled
   ChangesOnly-retire v on p =
-      retired v p (get S.versions v) refl (and_parts (is_some (get S.mail.retires v)) (can_retire m S (get S.versions v)) on).1
+      retired v p (get S.versions v) refl
+          (and_parts (is_some (get S.mail.retires v)) (can_retire m S (get S.versions v)) on).1
 
   -- ---- copy
 
-  copied_here : (b : ℕ) (k : CopyState) → get S.copies b ≡ Some k → c.objects k.object → IsOther IsCopiedElsewhere (get S.copies b)
-  copied_here b k there p = subst (IsOther IsCopiedElsewhere) (sym there) (other_some IsCopiedElsewhere k (λ out. out p))
+  copied_here : (b : ℕ) (k : CopyState) → get S.copies b ≡ Some k → c.objects k.object →
+      IsOther IsCopiedElsewhere (get S.copies b)
+  copied_here b k there p = subst (IsOther IsCopiedElsewhere) (sym there)
+      (other_some IsCopiedElsewhere k (λ out. out p))
 
   -- a piece lies inside the object that is copied
-  piece_inside : (k : CopyState) (bytes : List ℕ) → c.objects k.object → IsWrittenIn c (k.object.base + k.moved) (piece_of k bytes)
+  piece_inside : (k : CopyState) (bytes : List ℕ) → c.objects k.object →
+      IsWrittenIn c (k.object.base + k.moved) (piece_of k bytes)
   piece_inside k bytes p a low high =
       let short = length-take (piece_len k) (drop k.moved bytes) in
       let start : k.object.base ≤ a = omega (arith, low) in
-      (k.object, p, (start, piece_ends k.object.base k.object.len k.moved (length (drop k.moved bytes)) (length (piece_of k bytes)) a short low high))
+      (k.object, p, (start, piece_ends k.object.base k.object.len k.moved (length (drop k.moved bytes))
+          (length (piece_of k bytes)) a short low high))
 
   copies_moved : (b : ℕ) (k : CopyState) → get S.copies b ≡ Some k → c.objects k.object → (last : Bool) → (q : ℕ) →
       SameFor IsCopiedElsewhere (get S.copies q) (get (copies_after_copy S.copies b k last) q)
@@ -97,7 +104,8 @@ module _ (c : Scope) (m : Machine) (S : State) (closed : Closed c S) where
   copy_sent k true p = (p, tt)
   copy_sent k false p = tt
 
-  copied : (b : ℕ) (k : Option CopyState) → get S.copies b ≡ k → ((k : CopyState) → get S.copies b ≡ Some k → c.objects k.object) →
+  copied : (b : ℕ) (k : Option CopyState) → get S.copies b ≡ k →
+      ((k : CopyState) → get S.copies b ≡ Some k → c.objects k.object) →
       ChangesOnly c S (after_copy S b k)
   copied b None there p = changes_none c S
   copied b (Some k) there p =

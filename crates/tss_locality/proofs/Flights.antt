@@ -1,6 +1,6 @@
 -- What a change of one task in flight leaves of the others, and of the records of its operands beyond the scope.
 use Rattle.std.proofs.Common.{◌≡◌, ◌≢◌, ℕ, zero, suc, Bool, true, false, cond, List, [], ◌∷◌, length, Option, Some, None, refl, sym, ap, ◌∙◌, subst, inl, inr, ◌⊎◌}
-use Rattle.std.specs.Prelude.{◌&&◌, slice_get, slice_set, option_and_then}
+use Rattle.std.specs.Prelude.{slice_get, slice_set, option_and_then}
 use Rattle.std.specs.List.{list_all}
 use Rattle.std.specs.FinMap.{get, insert, remove}
 use Rattle.std.proofs.lemmas.Bool.{and_parts}
@@ -12,13 +12,14 @@ use Rattle.tss_maps.proofs.Changes.{at_inserted, beside_inserted, at_removed, be
 use Rattle.tss_protocol.specs.Names.{operand_name}
 use Rattle.tss_protocol.specs.State.{OperandState, Flying}
 use Rattle.tss_protocol.specs.Stations.{operand_at, has_left, has_finished, is_gone, remaining_tasks, with_operand}
-use Rattle.tss_locality.specs.Agreement.{Beyond, AgreeAt, SameOperand, SameShape, IsOut}
+use Rattle.tss_locality.specs.Agreement.{Beyond, SameShape, IsOut}
 use Rattle.tss_locality.specs.Scopes.{Scope, beyond}
 use Rattle.tss_locality.proofs.Agreements.{agree_inserted, agree_removed}
 use Rattle.tss_locality.proofs.States.{FlightOn, shape_same}
 
 -- what stands beside the place of a list that is set
-pub slice_get-set_other : {X : Type 0} (xs : List X) (i j : ℕ) (v : X) → j ≢ i → slice_get (slice_set xs i v) j ≡ slice_get xs j
+pub slice_get-set_other : {X : Type 0} (xs : List X) (i j : ℕ) (v : X) → j ≢ i →
+    slice_get (slice_set xs i v) j ≡ slice_get xs j
 slice_get-set_other [] i j v apart = refl
 slice_get-set_other (x ∷ xs) zero zero v apart = absurd (apart refl)
 slice_get-set_other (x ∷ xs) zero (suc j) v apart = refl
@@ -60,7 +61,8 @@ keeps_with_operand c o x r p = record {
 abbrev record_in : ℕ → Option Flying → Option OperandState
 record_in k x = option_and_then (λ x. slice_get x.operands k) x
 
-module _ (c : Scope) (f : Numbered Flying) (n : ℕ) (x y : Flying) (own : c.tasks n) (there : get f n ≡ Some x) (kept : KeepsTask c n x y) where
+module _ (c : Scope) (f : Numbered Flying) (n : ℕ) (x y : Flying) (own : c.tasks n) (there : get f n ≡ Some x)
+    (kept : KeepsTask c n x y) where
   shape_between : (a b : Option Flying) → a ≡ Some x → b ≡ Some y → SameShape a b
   shape_between a b ea eb =
       subst (λ a. SameShape a b) (sym ea) (subst (λ b. SameShape (Some x) b) (sym eb) (kept.task, kept.operands))
@@ -94,7 +96,8 @@ module _ (c : Scope) (f : Numbered Flying) (n : ℕ) (x y : Flying) (own : c.tas
   left_at o same out gone =
       subst (λ r. (r ≡ None) ⊎ IsOut r)
       (kept.records o.place (beyond_at o same out) ∙ sym (old_record o same))
-      (all_out y.operands o.place (and_parts (has_finished y.stage) (list_all (λ r. has_left r.farewell) y.operands) gone).1)
+      (all_out y.operands o.place (and_parts (has_finished y.stage) (list_all (λ r. has_left r.farewell) y.operands)
+          gone).1)
 
   no_record : (o : OpName) → o.task ≡ n → operand_at (remove f n) o ≡ None
   no_record o same = ap (record_in o.place) (ap (get (remove f n)) same ∙ at_removed nat_order f n)
@@ -108,7 +111,8 @@ module _ (c : Scope) (f : Numbered Flying) (n : ℕ) (x y : Flying) (own : c.tas
   flight_removed gone = record {
     flight = agree_removed nat_order c.tasks f n own;
     shapes = λ q. elim (decide_key nat_order q n) [
-      | inl same ↦ subst (SameShape (get f q)) (sym (ap (get (remove f n)) same ∙ at_removed nat_order f n)) (shape_none (get f q))
+      | inl same ↦ subst (SameShape (get f q)) (sym (ap (get (remove f n)) same ∙ at_removed nat_order f n))
+          (shape_none (get f q))
       | inr apart ↦ subst (SameShape (get f q)) (sym (beside_removed nat_order f n q apart)) (shape_same (get f q))
     ];
     operands = λ o out. elim (decide_key nat_order o.task n) [

@@ -1,22 +1,21 @@
 -- Main's event concerns the task that it spawns, and the addresses of no object that it has named.
-use Rattle.std.proofs.Common.{◌≡◌, ℕ, suc, Bool, true, false, Option, Some, None, refl, subst, sym}
+use Rattle.std.proofs.Common.{◌≡◌, ℕ, suc, true, Option, Some, None, refl, subst, sym}
 use Rattle.std.specs.Prelude.{Result, Ok, Err, ◌&&◌, is_none}
 use Rattle.std.proofs.lemmas.Bool.{and_parts}
-use Rattle.tss_base.specs.declared.operand.OpName.{OpName}
 use Rattle.tss_base.specs.declared.operand.Task.{Task}
 use Rattle.tss_base.specs.declared.machine.Machine.{Machine}
 use Rattle.tss_base.specs.declared.event.Event.TheVariants as event
-use Rattle.tss_model.specs.MainStep.{MainState, Flat, Call, ExitCall, Spawn, Barrier, Print, Unknown, spawn_call, spawn_on, main_call, main_stretch}
+use Rattle.tss_model.specs.MainStep.{MainState, Call, ExitCall, Spawn, Barrier, Print, Unknown, spawn_call, spawn_on, main_call, main_stretch}
 use Rattle.tss_model.specs.Spawn.{spawn_of}
 use Rattle.tss_protocol.specs.State.{State}
-use Rattle.tss_protocol.specs.MainEvent.{flat_of, with_flat, call_next, may_call, can_main, after_call, main_by, after_main}
+use Rattle.tss_protocol.specs.MainEvent.{flat_of, call_next, may_call, after_call, main_by}
 use Rattle.tss_protocol.specs.UnitMachine.{is_enabled, IsEnabled, after_event}
 use Rattle.tss_locality.specs.Scopes.{Scope, beyond, ChangesOnly}
 use Rattle.tss_locality.specs.Concerns.{WholeTask, ConcernsMain}
 use Rattle.tss_locality.proofs.States.{InboxOn, state_main, state_home, state_inbox}
 use Rattle.tss_locality.proofs.Sending.{changes_none}
 use Rattle.tss_locality.proofs.TakeEvent.{inbox_arrived}
-use Rattle.tss_locality.proofs.MainStores.{FlatOnly, main_stretch_only}
+use Rattle.tss_locality.proofs.MainStores.{main_stretch_only}
 use Rattle.tss_locality.proofs.SpawnNumbers.{IsNumbered, spawn_of-numbered}
 
 module _ (c : Scope) (m : Machine) (S : State) (p : ConcernsMain c S) where
@@ -39,10 +38,12 @@ module _ (c : Scope) (m : Machine) (S : State) (p : ConcernsMain c S) where
   none_from_test None e = refl
   none_from_test (Some t) e = absurd (cc)
 
-  call_only : (call : Call) → may_call S (Some call) ≡ true → ChangesOnly c S (after_call S (main_call m.limits S.home S.main call))
+  call_only : (call : Call) → may_call S (Some call) ≡ true →
+      ChangesOnly c S (after_call S (main_call m.limits S.home S.main call))
   call_only ExitCall on = main_changed (main_call m.limits S.home S.main ExitCall).0
   call_only Spawn on =
-      spawn_only (none_from_test S.inbox on) (spawn_of (spawn_call S.main.registers) S.home S.main.epoch m.limits S.main.spawned)
+      spawn_only (none_from_test S.inbox on)
+          (spawn_of (spawn_call S.main.registers) S.home S.main.epoch m.limits S.main.spawned)
       (spawn_of-numbered (spawn_call S.main.registers) S.home S.main.epoch m.limits S.main.spawned)
   call_only Barrier on = main_changed (main_call m.limits S.home S.main Barrier).0
   call_only Print on = main_changed (main_call m.limits S.home S.main Print).0
@@ -52,7 +53,7 @@ module _ (c : Scope) (m : Machine) (S : State) (p : ConcernsMain c S) where
   by_only None on =
       let f = main_stretch S.code m.limits m.sizes.quantum (flat_of S) in
       let only = main_stretch_only c S.home S.main.epoch p.addresses S.code m.limits m.sizes.quantum (flat_of S)
-          (record { epoch = refl; home = record { ranges = refl; bytes = λ a out. refl } }) in
+      (record { epoch = refl; home = record { ranges = refl; bytes = λ a out. refl } }) in
       state_home (beyond c) S (record S { main = f.main }) (main_changed f.main) f.memory only.home
   by_only (Some call) on = call_only call on
 

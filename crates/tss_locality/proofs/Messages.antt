@@ -1,5 +1,5 @@
 -- Messages agree: a change of one kind, what is sent and what is taken.
-use Rattle.std.proofs.Common.{◌≡◌, ℕ, Bool, List, [], ◌∷◌, refl, ◌∙◌}
+use Rattle.std.proofs.Common.{Bool, List, [], ◌∷◌}
 use Rattle.std.specs.FinMap.{insert, remove}
 use Rattle.tss_base.specs.declared.operand.OpName.{OpName}
 use Rattle.tss_base.specs.declared.operand.Operand.{Operand}
@@ -7,7 +7,6 @@ use Rattle.tss_base.specs.declared.event.Event.{Event}
 use Rattle.tss_base.specs.declared.event.Event.TheVariants as event
 use Rattle.tss_base.specs.Names.{Named}
 use Rattle.tss_maps.proofs.Keys.{name_order}
-use Rattle.tss_maps.proofs.Changes.{beside_inserted, beside_removed}
 use Rattle.tss_protocol.specs.Mail.{Source, OpenContents, ReleaseContents, IdleContents, GoneContents, Message, Decode, Ack, Open, Use, Ready, Link, Release, Bye, Idle, Nack, Retire, Gone, Mail, posted, posted_all, taken}
 use Rattle.tss_locality.specs.Agreement.{Beyond, AgreeAt, MailAgrees}
 use Rattle.tss_locality.specs.Scopes.{Scope, IsOwn, MessageIn, MessagesIn, IsSentIn, AreSentIn}
@@ -73,7 +72,8 @@ module _ (names own : OpName → Type 0) where
   module _ (m n : Mail) (f : MailAgrees names own m n) where
     mail_decodes : (x : Named Operand) → AgreeAt own n.decodes x → MailAgrees names own m (record n { decodes = x })
     mail_decodes x p =
-        mail_by m (record n { decodes = x }) (agree_then own m.decodes n.decodes x f.decodes p) f.acks f.opens f.uses f.releases
+        mail_by m (record n { decodes = x }) (agree_then own m.decodes n.decodes x f.decodes p) f.acks f.opens f.uses
+            f.releases
         f.byes f.readies f.links f.idles f.nacks f.retires f.gones
 
     mail_acks : (x : Named (Unit {0})) → AgreeAt own n.acks x → MailAgrees names own m (record n { acks = x })
@@ -83,7 +83,8 @@ module _ (names own : OpName → Type 0) where
 
     mail_opens : (x : Named OpenContents) → AgreeAt own n.opens x → MailAgrees names own m (record n { opens = x })
     mail_opens x p =
-        mail_by m (record n { opens = x }) f.decodes f.acks (agree_then own m.opens n.opens x f.opens p) f.uses f.releases
+        mail_by m (record n { opens = x }) f.decodes f.acks (agree_then own m.opens n.opens x f.opens p) f.uses
+            f.releases
         f.byes f.readies f.links f.idles f.nacks f.retires f.gones
 
     mail_uses : (x : Named OpName) → AgreeAt own n.uses x → MailAgrees names own m (record n { uses = x })
@@ -91,9 +92,11 @@ module _ (names own : OpName → Type 0) where
         mail_by m (record n { uses = x }) f.decodes f.acks f.opens (agree_then own m.uses n.uses x f.uses p) f.releases
         f.byes f.readies f.links f.idles f.nacks f.retires f.gones
 
-    mail_releases : (x : Named ReleaseContents) → AgreeAt own n.releases x → MailAgrees names own m (record n { releases = x })
+    mail_releases : (x : Named ReleaseContents) → AgreeAt own n.releases x →
+        MailAgrees names own m (record n { releases = x })
     mail_releases x p =
-        mail_by m (record n { releases = x }) f.decodes f.acks f.opens f.uses (agree_then own m.releases n.releases x f.releases p)
+        mail_by m (record n { releases = x }) f.decodes f.acks f.opens f.uses
+            (agree_then own m.releases n.releases x f.releases p)
         f.byes f.readies f.links f.idles f.nacks f.retires f.gones
 
     mail_byes : (x : Named Bool) → AgreeAt own n.byes x → MailAgrees names own m (record n { byes = x })
@@ -121,7 +124,8 @@ module _ (names own : OpName → Type 0) where
         mail_by m (record n { nacks = x }) f.decodes f.acks f.opens f.uses f.releases
         f.byes f.readies f.links f.idles (agree_then names m.nacks n.nacks x f.nacks p) f.retires f.gones
 
-    mail_retires : (x : Named (Unit {0})) → AgreeAt names n.retires x → MailAgrees names own m (record n { retires = x })
+    mail_retires : (x : Named (Unit {0})) → AgreeAt names n.retires x →
+        MailAgrees names own m (record n { retires = x })
     mail_retires x p =
         mail_by m (record n { retires = x }) f.decodes f.acks f.opens f.uses f.releases
         f.byes f.readies f.links f.idles f.nacks (agree_then names m.retires n.retires x f.retires p) f.gones
@@ -132,7 +136,8 @@ module _ (names own : OpName → Type 0) where
         f.byes f.readies f.links f.idles f.nacks f.retires (agree_then names m.gones n.gones x f.gones p)
 
 -- agreement on less
-pub mail_less : (names own names_less own_less : OpName → Type 0) (m n : Mail) → ((o : OpName) → names_less o → names o) →
+pub mail_less : (names own names_less own_less : OpName → Type 0) (m n : Mail) →
+    ((o : OpName) → names_less o → names o) →
     ((o : OpName) → own_less o → own o) → MailAgrees names own m n → MailAgrees names_less own_less m n
 mail_less names own names_less own_less m n less less_own f = record {
   decodes = agree_less own own_less m.decodes n.decodes less_own f.decodes;
@@ -164,7 +169,8 @@ module _ (c : Scope) where
     -- a message of the scope is sent
     pub mail_posted : (x : Message) → IsSentIn c x → MailOnly m (posted n x)
     mail_posted (Decode o operand) p =
-        mail_decodes Names Own m n f (insert n.decodes o operand) (agree_inserted name_order (IsOwn c) n.decodes o operand p)
+        mail_decodes Names Own m n f (insert n.decodes o operand)
+            (agree_inserted name_order (IsOwn c) n.decodes o operand p)
     mail_posted (Ack o) p =
         mail_acks Names Own m n f (insert n.acks o tt) (agree_inserted name_order (IsOwn c) n.acks o tt p)
     mail_posted (Open o x) p =
@@ -189,7 +195,8 @@ module _ (c : Scope) where
         mail_gones Names Own m n f (insert n.gones v g) (agree_inserted name_order c.names n.gones v g p)
 
   -- messages of the scope are sent
-  pub mail_posted_all : (m n : Mail) → MailOnly m n → (xs : List Message) → AreSentIn c xs → MailOnly m (posted_all n xs)
+  pub mail_posted_all : (m n : Mail) → MailOnly m n → (xs : List Message) → AreSentIn c xs →
+      MailOnly m (posted_all n xs)
   mail_posted_all m n f [] p = f
   mail_posted_all m n f (x ∷ xs) p = mail_posted_all m (posted n x) (mail_posted m n f x p.0) xs p.1
 
@@ -217,19 +224,23 @@ module _ (c : Scope) where
   -- a message of the scope is taken
   pub mail_taken : (m : Mail) (e : Event) → TakesIn e → MailOnly m (taken m e)
   mail_taken m (event.Decode o) p =
-      mail_decodes Names Own m m (mail_same Names Own m) (remove m.decodes o) (agree_removed name_order (IsOwn c) m.decodes o p)
+      mail_decodes Names Own m m (mail_same Names Own m) (remove m.decodes o)
+          (agree_removed name_order (IsOwn c) m.decodes o p)
   mail_taken m (event.Ack o) p =
       mail_acks Names Own m m (mail_same Names Own m) (remove m.acks o) (agree_removed name_order (IsOwn c) m.acks o p)
   mail_taken m (event.Open o) p =
-      mail_opens Names Own m m (mail_same Names Own m) (remove m.opens o) (agree_removed name_order (IsOwn c) m.opens o p)
+      mail_opens Names Own m m (mail_same Names Own m) (remove m.opens o)
+          (agree_removed name_order (IsOwn c) m.opens o p)
   mail_taken m (event.Use o) p =
       mail_uses Names Own m m (mail_same Names Own m) (remove m.uses o) (agree_removed name_order (IsOwn c) m.uses o p)
   mail_taken m (event.Ready o) p =
-      mail_readies Names Own m m (mail_same Names Own m) (remove m.readies o) (agree_removed name_order c.names m.readies o p)
+      mail_readies Names Own m m (mail_same Names Own m) (remove m.readies o)
+          (agree_removed name_order c.names m.readies o p)
   mail_taken m (event.Link o) p =
       mail_links Names Own m m (mail_same Names Own m) (remove m.links o) (agree_removed name_order c.names m.links o p)
   mail_taken m (event.Release o) p =
-      mail_releases Names Own m m (mail_same Names Own m) (remove m.releases o) (agree_removed name_order (IsOwn c) m.releases o p)
+      mail_releases Names Own m m (mail_same Names Own m) (remove m.releases o)
+          (agree_removed name_order (IsOwn c) m.releases o p)
   mail_taken m (event.Bye o) p =
       mail_byes Names Own m m (mail_same Names Own m) (remove m.byes o) (agree_removed name_order (IsOwn c) m.byes o p)
   mail_taken m (event.Idle o) p =
@@ -237,7 +248,8 @@ module _ (c : Scope) where
   mail_taken m (event.Nack o) p =
       mail_nacks Names Own m m (mail_same Names Own m) (remove m.nacks o) (agree_removed name_order c.names m.nacks o p)
   mail_taken m (event.Retire o) p =
-      mail_retires Names Own m m (mail_same Names Own m) (remove m.retires o) (agree_removed name_order c.names m.retires o p)
+      mail_retires Names Own m m (mail_same Names Own m) (remove m.retires o)
+          (agree_removed name_order c.names m.retires o p)
   mail_taken m (event.Gone o) p =
       mail_gones Names Own m m (mail_same Names Own m) (remove m.gones o) (agree_removed name_order c.names m.gones o p)
   mail_taken m event.Main p = mail_same Names Own m

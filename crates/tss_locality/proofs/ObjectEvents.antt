@@ -1,29 +1,28 @@
 -- Each event of the versioning and renaming tables, and of the gateway, concerns its operand or version alone.
-use Rattle.std.proofs.Common.{◌≡◌, ℕ, Bool, true, false, cond, List, [], ◌∷◌, Option, Some, None, refl, sym, ap, ◌∙◌, subst}
-use Rattle.std.specs.FinMap.{get, insert, remove}
-use Rattle.tss_base.specs.declared.range.Range.{Range}
+use Rattle.std.proofs.Common.{◌≡◌, ℕ, Bool, true, false, cond, Option, Some, None, refl}
+use Rattle.std.specs.FinMap.{get, remove}
 use Rattle.tss_base.specs.declared.operand.OpName.{OpName}
 use Rattle.tss_base.specs.declared.operand.Mode.{Mode}
 use Rattle.tss_base.specs.declared.operand.Mode.TheVariants.{Input, Output, Inout}
 use Rattle.tss_base.specs.declared.operand.Operand.{Operand}
 use Rattle.tss_base.specs.declared.machine.Machine.{Machine}
 use Rattle.tss_base.specs.declared.event.Event.TheVariants as event
-use Rattle.tss_base.specs.Names.{Named, Numbered}
+use Rattle.tss_base.specs.Names.{Numbered}
 use Rattle.tss_maps.proofs.Keys.{nat_order, name_order}
 use Rattle.tss_protocol.specs.Names.{bank_of}
-use Rattle.tss_protocol.specs.Mail.{OpenContents, ReleaseContents, IdleContents, GoneContents, Message}
-use Rattle.tss_protocol.specs.State.{Entry, State, Outcome}
+use Rattle.tss_protocol.specs.Mail.{OpenContents, ReleaseContents, IdleContents, GoneContents}
+use Rattle.tss_protocol.specs.State.{Entry, State}
 use Rattle.tss_protocol.specs.Gateway.{gateway_after_ack}
-use Rattle.tss_protocol.specs.Renaming.{Tables, entry_after_decode, takes_place, takes_buffer, places_after_decode, buffers_after_decode, live_message, decode_message, sent_by_decode, decoded_by, may_retire, retiring_entry, idle_by, buffers_after_gone}
+use Rattle.tss_protocol.specs.Renaming.{entry_after_decode, takes_place, takes_buffer, places_after_decode, buffers_after_decode, live_message, decode_message, decoded_by, may_retire, retiring_entry, idle_by, buffers_after_gone}
 use Rattle.tss_protocol.specs.Versions.{after_open, after_use, after_release, after_nack}
 use Rattle.tss_protocol.specs.Buffers.{contents_after_gone}
-use Rattle.tss_protocol.specs.UnitMachine.{tables_of, with_tables, without, with_entries, with_decoded, decode_message_taken, open_message_taken, use_message_taken, release_message_taken, idle_message_taken, gone_message_taken, after_event}
+use Rattle.tss_protocol.specs.UnitMachine.{tables_of, without, with_entries, with_decoded, decode_message_taken, open_message_taken, use_message_taken, release_message_taken, idle_message_taken, gone_message_taken, after_event}
 use Rattle.tss_locality.specs.Agreement.{Beyond, AgreeAt}
-use Rattle.tss_locality.specs.Scopes.{Scope, IsOwn, IsBase, beyond, ChangesOnly, NameIn, GoingIn, MessageIn, MessagesIn, Closed}
+use Rattle.tss_locality.specs.Scopes.{Scope, IsOwn, IsBase, beyond, ChangesOnly, NameIn, GoingIn, MessageIn, Closed}
 use Rattle.tss_locality.proofs.Agreements.{agree_same, agree_inserted, agree_removed}
 use Rattle.tss_locality.proofs.Messages.{named_from_in}
 use Rattle.tss_locality.proofs.States.{state_gateway, state_entries, state_places, state_buffers, state_contents}
-use Rattle.tss_locality.proofs.Sending.{changes_none, changes_taken, changes_sent, changes_versioned}
+use Rattle.tss_locality.proofs.Sending.{changes_taken, changes_sent, changes_versioned}
 use Rattle.tss_locality.proofs.VersionEvents.{stays_open, stays_use, stays_release, stays_nack}
 
 module _ (c : Scope) (m : Machine) (S : State) (closed : Closed c S) where
@@ -32,7 +31,8 @@ module _ (c : Scope) (m : Machine) (S : State) (closed : Closed c S) where
   pub ChangesOnly-ack : (o : OpName) → IsOwn c o → ChangesOnly c S (after_event m S (event.Ack o))
   unfolding after_event
   ChangesOnly-ack o own =
-      state_gateway (beyond c) S (without S (event.Ack o)) (changes_taken c S (event.Ack o) own) (gateway_after_ack S.gateway o)
+      state_gateway (beyond c) S (without S (event.Ack o)) (changes_taken c S (event.Ack o) own)
+          (gateway_after_ack S.gateway o)
       (agree_removed name_order (IsOwn c) S.gateway o own)
 
   -- ---- open, use, release, nack
@@ -109,9 +109,9 @@ module _ (c : Scope) (m : Machine) (S : State) (closed : Closed c S) where
       let B : State = record A { places = d.part.places } in
       let base : IsBase c p.object.base = (p.object, object, refl) in
       let in_entries = state_entries (beyond c) S T (changes_taken c S (event.Decode o) own) d.part.entries
-          (agree_inserted nat_order (IsBase c) S.entries p.object.base (entry_after_decode o p e) base) in
+      (agree_inserted nat_order (IsBase c) S.entries p.object.base (entry_after_decode o p e) base) in
       let in_places =
-          state_places (beyond c) S A in_entries d.part.places (places_if o bank (takes_place e p.mode) own.0) in
+      state_places (beyond c) S A in_entries d.part.places (places_if o bank (takes_place e p.mode) own.0) in
       changes_sent c S (record B { buffers = d.part.buffers })
       (state_buffers (beyond c) S B in_places d.part.buffers (buffers_if o bank (takes_buffer e p.mode) own.0))
       d.sent (named_from_in c (decode_message o p e) (decode_message_in o p e there own object), (own, tt))
@@ -120,7 +120,8 @@ module _ (c : Scope) (m : Machine) (S : State) (closed : Closed c S) where
       ChangesOnly c S (decode_message_taken m (without S (event.Decode o)) o p)
   decode_taken o own None there = changes_taken c S (event.Decode o) own
   decode_taken o own (Some p) there =
-      decoded o p (bank_of m.sizes p.object) (get S.entries p.object.base) refl own (closed.mail.decodes o p own.0 there)
+      decoded o p (bank_of m.sizes p.object) (get S.entries p.object.base) refl own
+          (closed.mail.decodes o p own.0 there)
 
   pub ChangesOnly-decode : (o : OpName) → IsOwn c o → ChangesOnly c S (after_event m S (event.Decode o))
   unfolding after_event
@@ -163,7 +164,8 @@ module _ (c : Scope) (m : Machine) (S : State) (closed : Closed c S) where
   entries_if base true p = agree_removed nat_order (IsBase c) S.entries base p
   entries_if base false p = agree_same (Beyond (IsBase c)) S.entries
 
-  contents_freed : (b : Option OpName) → NameIn c b → AgreeAt (Beyond c.names) S.contents (contents_after_gone S.contents b)
+  contents_freed : (b : Option OpName) → NameIn c b →
+      AgreeAt (Beyond c.names) S.contents (contents_after_gone S.contents b)
   contents_freed None p = agree_same (Beyond c.names) S.contents
   contents_freed (Some b) p = agree_removed name_order c.names S.contents b p
 
@@ -182,11 +184,11 @@ module _ (c : Scope) (m : Machine) (S : State) (closed : Closed c S) where
       let B : State = record A { entries = entries } in
       let C : State = record B { places = remove S.places v } in
       let in_contents = state_contents (beyond c) S T (changes_taken c S (event.Gone v) p)
-          (contents_after_gone S.contents g.buffer) (contents_freed g.buffer i.buffer) in
+      (contents_after_gone S.contents g.buffer) (contents_freed g.buffer i.buffer) in
       let in_entries = state_entries (beyond c) S A in_contents entries
-          (entries_if g.object.base g.retired (g.object, i.object, refl)) in
+      (entries_if g.object.base g.retired (g.object, i.object, refl)) in
       let in_places = state_places (beyond c) S B in_entries (remove S.places v)
-          (agree_removed name_order c.names S.places v p) in
+      (agree_removed name_order c.names S.places v p) in
       state_buffers (beyond c) S C in_places (buffers_after_gone S.buffers g.buffer) (buffers_freed g.buffer i.buffer)
 
   pub ChangesOnly-gone : (v : OpName) → c.names v → ChangesOnly c S (after_event m S (event.Gone v))

@@ -1,13 +1,10 @@
 -- Agreement on less, and what a change leaves of the parts of other objects and of other tasks.
-use Rattle.std.proofs.Common.{◌≡◌, ℕ, sym, ap, ◌∙◌, subst}
-use Rattle.std.specs.FinMap.{get}
+use Rattle.std.proofs.Common.{ℕ, sym, ap, ◌∙◌, subst}
 use Rattle.tss_base.specs.declared.range.Range.{Range}
 use Rattle.tss_base.specs.declared.operand.OpName.{OpName}
-use Rattle.tss_base.specs.Range.{Covers}
 use Rattle.tss_protocol.specs.State.{State}
-use Rattle.tss_locality.specs.Agreement.{SameFor}
 use Rattle.tss_locality.specs.Extents.{Extent, SameOn, object_part, task_part}
-use Rattle.tss_locality.specs.Scopes.{Scope, IsOwn, IsBase, IsInside, ChangesOnly, IsApart}
+use Rattle.tss_locality.specs.Scopes.{Scope, ChangesOnly, IsApart}
 use Rattle.tss_locality.proofs.Agreements.{agree_less}
 use Rattle.tss_locality.proofs.Messages.{mail_less}
 
@@ -45,7 +42,8 @@ same_less d e S T less f = record {
 }
 
 -- an object that a change doesn't concern has the same part after it
-pub same_object : (c : Scope) (names : OpName → Type 0) (x : Range) (S T : State) → IsApart c names x → ChangesOnly c S T
+pub same_object : (c : Scope) (names : OpName → Type 0) (x : Range) (S T : State) → IsApart c names x →
+    ChangesOnly c S T
     → SameOn (object_part names x) S T
 same_object c names x S T apart only = same_less (object_part names x) _ S T (record {
   names = apart.names;

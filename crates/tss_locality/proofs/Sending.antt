@@ -1,5 +1,5 @@
 -- A message is taken, and messages are sent: nothing beyond the scope is changed.
-use Rattle.std.proofs.Common.{◌≡◌, List}
+use Rattle.std.proofs.Common.{List}
 use Rattle.tss_base.specs.declared.event.Event.{Event}
 use Rattle.tss_protocol.specs.Mail.{Message, posted_all, taken}
 use Rattle.tss_protocol.specs.State.{State}
@@ -30,4 +30,5 @@ module _ (c : Scope) (S : State) where
       ChangesOnly c S (with_versioned (without S e) d)
   changes_versioned e p d s =
       changes_sent (record (without S e) { versions = d.part })
-      (state_versions (beyond c) S (without S e) (changes_taken e p) d.part s.versions.same) d.sent (named_from_all_in c d.sent s.sent)
+      (state_versions (beyond c) S (without S e) (changes_taken e p) d.part s.versions.same) d.sent
+          (named_from_all_in c d.sent s.sent)

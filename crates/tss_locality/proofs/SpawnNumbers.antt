@@ -1,5 +1,5 @@
 -- A spawned task has the next number.
-use Rattle.std.proofs.Common.{◌≡◌, ℕ, suc, Bool, true, false, cond, List, Option, Some, None, refl}
+use Rattle.std.proofs.Common.{◌≡◌, ℕ, suc, Bool, true, false, cond, List, refl}
 use Rattle.std.specs.Prelude.{Result, Ok, Err, ◌&&◌, nat_lt, nat_le, length}
 use Rattle.tss_base.specs.declared.range.Range.{Range}
 use Rattle.tss_base.specs.declared.operand.Operand.{Operand}
@@ -19,7 +19,8 @@ numbered_if : (n e : ℕ) (b : Bool) (r : Result Task ℕ) → IsNumbered n r �
 numbered_if n e true r p = tt
 numbered_if n e false r p = p
 
-checked_numbered : (limits : Limits) (call : SpawnCall) (named : List Range) (spawned : ℕ) (r : Result (List Operand) ℕ) →
+checked_numbered : (limits : Limits) (call : SpawnCall) (named : List Range) (spawned : ℕ)
+    (r : Result (List Operand) ℕ) →
     IsNumbered (suc spawned) (task_checked limits call named spawned r)
 checked_numbered limits call named spawned (Err e) = tt
 checked_numbered limits call named spawned (Ok listed) =
@@ -34,7 +35,8 @@ pub spawn_of-numbered : (call : SpawnCall) (m : Memory) (named : List Range) (li
 unfolding spawn_of
 spawn_of-numbered call m named limits spawned =
     let n = suc spawned in
-    let last = task_checked limits call named spawned (entries_checked limits m named (entries_at m call.list call.count)) in
+    let last = task_checked limits call named spawned
+        (entries_checked limits m named (entries_at m call.list call.count)) in
     let touching = cond (nat_lt 0 call.count && touches named (list_range call)) (Err main_touch) last in
     let misplaced = cond (nat_lt 0 call.count && is_misplaced m call) (Err list_place) touching in
     numbered_if n too_many_operands (nat_lt limits.max_operands call.count) misplaced

@@ -149,14 +149,17 @@ module _ (e : Extent) (S : State) where
         p.shapes p.operands f.queue f.workers f.entries f.places f.buffers
         f.contents f.versions f.mail f.copies f.trap
 
-    pub state_queue : (x : List ℕ) → ((n : ℕ) → e.tasks n → times_in n x ≡ times_in n S.queue) → SameOn e S (record T { queue = x })
+    pub state_queue : (x : List ℕ) → ((n : ℕ) → e.tasks n → times_in n x ≡ times_in n S.queue) →
+        SameOn e S (record T { queue = x })
     state_queue x p =
         state_by (record T { queue = x })
         f.code f.ranges f.home f.inbox f.arrivals f.gateway f.flight
         f.shapes f.operands p f.workers f.entries f.places f.buffers
         f.contents f.versions f.mail f.copies f.trap
 
-    pub state_workers : (x : Numbered Busy) → ((w : ℕ) → SameFor (λ b. e.tasks b.task.number) (get S.workers w) (get x w)) → SameOn e S (record T { workers = x })
+    pub state_workers : (x : Numbered Busy) →
+        ((w : ℕ) → SameFor (λ b. e.tasks b.task.number) (get S.workers w) (get x w)) → SameOn e S
+            (record T { workers = x })
     state_workers x p =
         state_by (record T { workers = x })
         f.code f.ranges f.home f.inbox f.arrivals f.gateway f.flight
@@ -205,14 +208,16 @@ module _ (e : Extent) (S : State) where
         f.shapes f.operands f.queue f.workers f.entries f.places f.buffers
         f.contents f.versions p f.copies f.trap
 
-    pub state_copies : (x : Numbered CopyState) → ((b : ℕ) → SameFor (λ k. e.objects k.object) (get S.copies b) (get x b)) → SameOn e S (record T { copies = x })
+    pub state_copies : (x : Numbered CopyState) →
+        ((b : ℕ) → SameFor (λ k. e.objects k.object) (get S.copies b) (get x b)) → SameOn e S (record T { copies = x })
     state_copies x p =
         state_by (record T { copies = x })
         f.code f.ranges f.home f.inbox f.arrivals f.gateway f.flight
         f.shapes f.operands f.queue f.workers f.entries f.places f.buffers
         f.contents f.versions f.mail p f.trap
 
-    pub state_trap : (x : Option HeldTrap) → ((h : HeldTrap) → e.tasks h.task → x ≡ Some h → S.trap ≡ Some h) → SameOn e S (record T { trap = x })
+    pub state_trap : (x : Option HeldTrap) → ((h : HeldTrap) → e.tasks h.task → x ≡ Some h → S.trap ≡ Some h) →
+        SameOn e S (record T { trap = x })
     state_trap x p =
         state_by (record T { trap = x })
         f.code f.ranges f.home f.inbox f.arrivals f.gateway f.flight

@@ -1,19 +1,16 @@
 -- A step of an actor stores only where the actor may store.
-use Rattle.std.proofs.Common.{◌≡◌, ℕ, ◌+◌, Bool, true, false, cond, List, length, Option, Some, None, refl}
+use Rattle.std.proofs.Common.{◌≡◌, ℕ, Bool, true, false, cond, length, Option, Some, None, refl}
 use Rattle.std.specs.Prelude.{◌==◌, ◌%◌}
-use Rattle.tss_base.specs.declared.range.Range.{Range}
-use Rattle.tss_base.specs.declared.operand.Operand.{Operand}
 use Rattle.tss_isa.specs.declared.instr.LoadKind.{LoadKind}
 use Rattle.tss_isa.specs.declared.instr.StoreKind.{StoreKind}
 use Rattle.tss_isa.specs.declared.instr.StoreKind.TheVariants.{Sb, Sh, Sw}
 use Rattle.tss_isa.specs.declared.instr.Instr.{Instr}
 use Rattle.tss_isa.specs.declared.instr.Instr.TheVariants.{Lui, Auipc, Jal, Jalr, Branch, Load, Store, OpImm, Op, Fence, Ecall, Ebreak}
 use Rattle.tss_isa.specs.InstrTable.{instr_of}
-use Rattle.tss_model.specs.Memory.{MemoryRange, range_of}
-use Rattle.tss_model.specs.Access.{Actor, TaskActor, Loads, Stores, Access, Granted, Denied, Touch, task_may_store, task_access, access_of}
+use Rattle.tss_model.specs.Access.{Actor, Loads, Stores, Access, Granted, Denied, Touch, access_of}
 use Rattle.tss_model.specs.Registers.{Registers, register_at, with_register, next_pc, completed, onward, end_pc, trap_of}
 use Rattle.tss_model.specs.Causes.{jump_misaligned, load_misaligned, store_misaligned}
-use Rattle.tss_model.specs.Core.{Write, Stepped, Executed, Called, Ended, Trapped, Touched, load_width, store_width, low_bytes, jump_to, branch_if, load_on, loaded_value, load_range, load_from, store_on, stored_value, store_range, store_to, passes, moved, execute, execute_word, execute_fetched, core_step}
+use Rattle.tss_model.specs.Core.{Write, Stepped, Executed, Called, Ended, Trapped, Touched, load_width, store_width, jump_to, branch_if, load_on, loaded_value, load_range, load_from, store_on, stored_value, store_range, store_to, passes, moved, execute, execute_word, execute_fetched, core_step}
 
 -- an actor may store these bytes
 abbrev pub MayWrite : Actor → Write → Type 0
@@ -40,7 +37,8 @@ module _ (actor : Actor) where
       (Trapped (trap_of r jump_misaligned target)) tt tt
 
   branch_within : (taken : Bool) (r : Registers) (target : ℕ) → StoresWithin actor (branch_if taken r target)
-  branch_within taken r target = within_if taken (jump_to r 0 target) (Executed (onward r) None) (jump_within r 0 target) tt
+  branch_within taken r target = within_if taken (jump_to r 0 target) (Executed (onward r) None)
+      (jump_within r 0 target) tt
 
   load_on_within : (a : Access) (r : Registers) (rd at v : ℕ) → StoresWithin actor (load_on a r rd at v)
   load_on_within Granted r rd at v = tt
@@ -61,7 +59,8 @@ module _ (actor : Actor) where
   may_write Sh at v granted = granted
   may_write Sw at v granted = granted
 
-  store_on_within : (r : Registers) (kind : StoreKind) (at v : ℕ) (a : Access) → access_of actor Stores (store_range kind at) ≡ a →
+  store_on_within : (r : Registers) (kind : StoreKind) (at v : ℕ) (a : Access) →
+      access_of actor Stores (store_range kind at) ≡ a →
       StoresWithin actor (store_on a r (stored_value kind at v))
   store_on_within r kind at v Granted granted = may_write kind at v granted
   store_on_within r kind at v Denied granted = tt

@@ -1,5 +1,5 @@
 -- What is written to storages of a scope leaves home beyond its objects and the contents of every other buffer.
-use Rattle.std.proofs.Common.{◌≡◌, ℕ, suc, ◌+◌, ◌<◌, ◌≤◌, Bool, true, false, cond, List, [], ◌∷◌, length, Some, refl, sym, ap, ◌∙◌, subst, inl, inr, ◌⊎◌, arith}
+use Rattle.std.proofs.Common.{◌≡◌, ℕ, suc, ◌+◌, ◌<◌, ◌≤◌, Bool, true, false, cond, List, [], ◌∷◌, length, Some, refl, ap, ◌∙◌, subst, inl, inr, ◌⊎◌, arith}
 use Rattle.std.specs.Prelude.{unwrap_or, slice_get}
 use Rattle.std.specs.FinMap.{get, insert}
 use Rattle.std.proofs.lemmas.Bool.{cases_lt}
@@ -8,13 +8,13 @@ use Rattle.tss_base.specs.declared.range.Range.{Range}
 use Rattle.tss_base.specs.declared.operand.OpName.{OpName}
 use Rattle.tss_base.specs.declared.operand.Operand.{Operand}
 use Rattle.tss_base.specs.declared.machine.Limits.{Limits}
-use Rattle.tss_base.specs.Names.{Named, Numbered}
+use Rattle.tss_base.specs.Names.{Numbered}
 use Rattle.tss_maps.proofs.Keys.{nat_order, name_order}
 use Rattle.tss_maps.proofs.Changes.{beside_inserted}
-use Rattle.tss_model.specs.Memory.{Memory, zeros, byte_at, map_put, put_bytes, zeroed}
+use Rattle.tss_model.specs.Memory.{Memory, zeros, byte_at, map_put, put_bytes}
 use Rattle.tss_model.specs.Access.{reads}
 use Rattle.tss_protocol.specs.Mail.{StorageName, Home, Buffer}
-use Rattle.tss_protocol.specs.Workers.{Stores, storage_zeroed, output_zeroed, outputs_zeroed}
+use Rattle.tss_protocol.specs.Workers.{Stores, storage_zeroed, outputs_zeroed}
 use Rattle.tss_locality.specs.Agreement.{Beyond, AgreeAt}
 use Rattle.tss_locality.specs.Scopes.{Scope, IsInside, beyond, StorageIn}
 use Rattle.tss_locality.proofs.Agreements.{agree_same, agree_then, agree_inserted}
@@ -44,7 +44,8 @@ put_bytes-beside m at bs a out = ap (λ o. unwrap_or o 0) (map_put-beside bs m.b
 abbrev pub IsWrittenIn : Scope → ℕ → List ℕ → Type 0
 IsWrittenIn c at bs = (a : ℕ) → at ≤ a → a < at + length bs → IsInside c a
 
-beside_from_beyond : (c : Scope) (at : ℕ) (bs : List ℕ) (a : ℕ) → IsWrittenIn c at bs → Beyond (IsInside c) a → IsBeside at bs a
+beside_from_beyond : (c : Scope) (at : ℕ) (bs : List ℕ) (a : ℕ) → IsWrittenIn c at bs → Beyond (IsInside c) a →
+    IsBeside at bs a
 beside_from_beyond c at bs a inside out =
     elim (cases_lt a at) [
       | inl low ↦ inl low
@@ -71,15 +72,18 @@ pub record StoresOnly (c : Scope) (s u : Stores) : Type 0 where
 
 -- storages as they stand
 pub stores_same : (c : Scope) (s : Stores) → StoresOnly c s s
-stores_same c s = record { home = record { ranges = refl; bytes = λ a out. refl }; contents = agree_same (Beyond c.names) s.contents }
+stores_same c s = record { home = record { ranges = refl; bytes = λ a out. refl }; contents = agree_same
+    (Beyond c.names) s.contents }
 
 module _ (c : Scope) (s u : Stores) (f : StoresOnly c s u) where
   -- bytes are written at home
-  pub stores_home : (at : ℕ) (bs : List ℕ) → IsWrittenIn c at bs → StoresOnly c s (record u { home = put_bytes u.home at bs })
+  pub stores_home : (at : ℕ) (bs : List ℕ) → IsWrittenIn c at bs →
+      StoresOnly c s (record u { home = put_bytes u.home at bs })
   stores_home at bs inside = record { home = home_written c s.home u.home at bs f.home inside; contents = f.contents }
 
   -- a buffer gets other bytes
-  pub stores_buffer : (n : OpName) (bs : List ℕ) → c.names n → StoresOnly c s (record u { contents = insert u.contents n bs })
+  pub stores_buffer : (n : OpName) (bs : List ℕ) → c.names n →
+      StoresOnly c s (record u { contents = insert u.contents n bs })
   stores_buffer n bs p = record {
     home = f.home;
     contents = agree_then (Beyond c.names) s.contents u.contents (insert u.contents n bs) f.contents

@@ -1,45 +1,29 @@
 -- Each event of the stations and of the workers concerns its task alone, and with it the operand, or the operands'
 -- storages.
-use Rattle.std.proofs.Common.{◌≡◌, ℕ, suc, Bool, true, false, cond, List, [], ◌∷◌, Option, Some, None, refl, sym, ap, ◌∙◌, subst, inl, inr}
-use Rattle.std.specs.Prelude.{◌==◌, ◌&&◌, nat_lt, is_none, map, slice_get, option_and_then}
-use Rattle.std.specs.FinMap.{get, insert, remove}
-use Rattle.std.proofs.lemmas.Bool.{and_parts}
-use Rattle.std.proofs.lemmas.Option.{none-some, same_Some}
+use Rattle.std.proofs.Common.{◌≡◌, Bool, Option, Some, None, refl}
+use Rattle.std.specs.FinMap.{get}
 use Rattle.tss_base.specs.declared.operand.OpName.{OpName}
-use Rattle.tss_base.specs.declared.operand.Task.{Task}
-use Rattle.tss_base.specs.declared.ending.Trap.{Trap}
 use Rattle.tss_base.specs.declared.machine.Machine.{Machine}
 use Rattle.tss_base.specs.declared.event.Event.TheVariants as event
-use Rattle.tss_base.specs.declared.event.Stage.TheVariants as stage
-use Rattle.tss_base.specs.Names.{Named, Numbered}
-use Rattle.tss_maps.proofs.Keys.{nat_order}
-use Rattle.tss_model.specs.Access.{operands_of}
-use Rattle.tss_model.specs.TaskRun.{TaskState}
-use Rattle.tss_protocol.specs.Names.{operand_name}
-use Rattle.tss_protocol.specs.Mail.{StorageName, Source}
-use Rattle.tss_protocol.specs.State.{OperandState, Flying, Busy, HeldTrap, State}
-use Rattle.tss_protocol.specs.Gateway.{gateway_after_take, sent_by_take}
-use Rattle.tss_protocol.specs.Stations.{operand_at, entered, flight_after_take, after_ready, after_link, after_bye, flight_after_start, flight_after_finish, storage_of}
-use Rattle.tss_protocol.specs.Workers.{Stores, placed_in, worker_byte, busy_at_start, stores_after_start, exec_stretch, task_state_of, busy_after, lower_trap, trap_after_finish}
-use Rattle.tss_protocol.specs.UnitMachine.{stores_of, with_stores, without, queue_with, is_queued, take_task, after_take, ready_message_taken, link_message_taken, bye_message_taken, start_task, after_start, with_executed, after_exec, finish_task, after_finish, is_enabled, IsEnabled, after_event}
-use Rattle.tss_locality.specs.Agreement.{Beyond, SameFor, operand_in, times_in}
-use Rattle.tss_locality.specs.Scopes.{Scope, IsOwn, beyond, ChangesOnly, StorageIn, MaybeSourceIn, AreSentIn, Closed}
-use Rattle.tss_locality.specs.Concerns.{WholeTask, OperandsIn, ConcernsTake, ConcernsStart, ConcernsExec}
-use Rattle.tss_locality.proofs.Agreements.{IsOther, other_none, other_some, same_for_other, same_for_inserted, same_for_removed, agree_same}
+use Rattle.tss_protocol.specs.Mail.{Source}
+use Rattle.tss_protocol.specs.State.{State}
+use Rattle.tss_protocol.specs.Stations.{after_ready, after_link, after_bye}
+use Rattle.tss_protocol.specs.Workers.{Stores}
+use Rattle.tss_protocol.specs.UnitMachine.{stores_of, with_stores, without, queue_with, ready_message_taken, link_message_taken, bye_message_taken, after_event}
+use Rattle.tss_locality.specs.Scopes.{Scope, IsOwn, beyond, ChangesOnly, Closed}
 use Rattle.tss_locality.proofs.Messages.{named_from_all_in}
-use Rattle.tss_locality.proofs.States.{state_home, state_inbox, state_gateway, state_flight, state_queue, state_workers, state_contents, state_trap}
-use Rattle.tss_locality.proofs.Flights.{keeps_records, flight_inserted}
-use Rattle.tss_locality.proofs.Sending.{changes_none, changes_taken, changes_sent}
-use Rattle.tss_locality.proofs.Tasks.{other_number, times_in_front, times_queued, ready_only, link_only, bye_only, finish_only, finish_sent, decodes_sent, gateway_held, flight_entered}
-use Rattle.tss_locality.proofs.Stores.{StoresOnly, stores_same, PlacedIn, outputs_only}
-use Rattle.tss_locality.proofs.Stretches.{stretch_only}
+use Rattle.tss_locality.proofs.States.{state_home, state_flight, state_queue, state_contents}
+use Rattle.tss_locality.proofs.Sending.{changes_taken, changes_sent}
+use Rattle.tss_locality.proofs.Tasks.{times_queued, ready_only, link_only, bye_only}
+use Rattle.tss_locality.proofs.Stores.{StoresOnly}
 
 module _ (c : Scope) (S : State) where
   -- storages are written after other changes
   pub changes_stores : (T : State) → ChangesOnly c S T → (u : Stores) → StoresOnly c (stores_of S) u →
       ChangesOnly c S (with_stores T u)
   changes_stores T f u p =
-      state_contents (beyond c) S (record T { home = u.home }) (state_home (beyond c) S T f u.home p.home) u.contents p.contents
+      state_contents (beyond c) S (record T { home = u.home }) (state_home (beyond c) S T f u.home p.home) u.contents
+          p.contents
 
 module _ (c : Scope) (m : Machine) (S : State) (closed : Closed c S) where
   -- ---- ready, link, bye

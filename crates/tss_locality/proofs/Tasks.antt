@@ -1,11 +1,10 @@
 -- What the stations do to a task's records stays in a scope: ready, link, bye and finish, and a task that enters.
-use Rattle.std.proofs.Common.{◌≡◌, ℕ, suc, Bool, true, false, cond, List, [], ◌∷◌, ◌++◌, Option, Some, None, refl, sym, ap, ◌∙◌, subst, inl, inr, ◌⊎◌, arith}
+use Rattle.std.proofs.Common.{◌≡◌, ℕ, suc, Bool, true, false, cond, List, [], ◌∷◌, ◌++◌, Option, Some, None, refl, sym, ap, ◌∙◌, subst, inl, inr, arith}
 use Rattle.std.specs.Prelude.{◌==◌, slice_get, option_and_then}
 use Rattle.std.proofs.lemmas.Bool.Decides.{nat_tests}
 use Rattle.std.specs.FinMap.{get, insert}
 use Rattle.tss_base.specs.declared.operand.OpName.{OpName}
 use Rattle.tss_base.specs.declared.operand.Operand.{Operand}
-use Rattle.tss_base.specs.declared.operand.Task.{Task}
 use Rattle.tss_base.specs.declared.event.Stage.TheVariants as stage
 use Rattle.tss_base.specs.declared.event.LinkState.{LinkState}
 use Rattle.tss_base.specs.declared.event.LinkState.TheVariants as link
@@ -16,7 +15,7 @@ use Rattle.tss_protocol.specs.Names.{operand_name}
 use Rattle.tss_protocol.specs.Mail.{Source, Message}
 use Rattle.tss_protocol.specs.State.{OperandState, Flying, Outcome}
 use Rattle.tss_protocol.specs.Gateway.{names_from, held_with, decodes_from}
-use Rattle.tss_protocol.specs.Stations.{operand_at, with_operand, is_complete, task_after_ready, operand_after_ready, sent_by_ready, Woken, woken_by, woken_in, after_ready, sent_by_link, operand_after_link, linked_by, linked_in, after_link, release_of, releases_from, finished_in, flight_after_finish, operand_after_bye, parted_by, parted_in, after_bye}
+use Rattle.tss_protocol.specs.Stations.{with_operand, is_complete, task_after_ready, operand_after_ready, sent_by_ready, Woken, woken_by, woken_in, after_ready, sent_by_link, operand_after_link, linked_by, linked_in, after_link, release_of, releases_from, finished_in, flight_after_finish, operand_after_bye, parted_by, parted_in, after_bye}
 use Rattle.tss_protocol.specs.UnitMachine.{queue_with}
 use Rattle.tss_locality.specs.Agreement.{Beyond, AgreeAt, SameShape, times_in}
 use Rattle.tss_locality.specs.Scopes.{Scope, IsOwn, beyond, SourceIn, MaybeSourceIn, LinkIn, RecordIn, MessagesIn, AreSentIn, ClosedFlight}
@@ -61,7 +60,8 @@ module _ (c : Scope) (f : Numbered Flying) (closed : ClosedFlight c f) where
   -- the record of an operand of the scope
   recorded : (o : OpName) (x : Flying) (r : OperandState) → c.names o → get f o.task ≡ Some x →
       slice_get x.operands o.place ≡ Some r → RecordIn c r
-  recorded o x r p there here = closed o r p (ap (λ x. option_and_then (λ x. slice_get x.operands o.place) x) there ∙ here)
+  recorded o x r p there here = closed o r p
+      (ap (λ x. option_and_then (λ x. slice_get x.operands o.place) x) there ∙ here)
 
   -- ---- ready
 
@@ -102,7 +102,8 @@ module _ (c : Scope) (f : Numbered Flying) (closed : ClosedFlight c f) where
 
   -- ---- link
 
-  link_sent : (s : Option Source) (next : OpName) → MaybeSourceIn c s → c.names next → MessagesIn c (sent_by_link s next)
+  link_sent : (s : Option Source) (next : OpName) → MaybeSourceIn c s → c.names next →
+      MessagesIn c (sent_by_link s next)
   link_sent None next i p = tt
   link_sent (Some s) next i p = ((p, i), tt)
 
@@ -191,7 +192,8 @@ module _ (c : Scope) (f : Numbered Flying) where
     gateway_held g h same k (o ∷ os) =
         let more = insert h (operand_name n k) tt in
         gateway_held g more
-        (agree_then (Beyond (IsOwn c)) g h more same (agree_inserted name_order (IsOwn c) h (operand_name n k) tt (own_name k)))
+        (agree_then (Beyond (IsOwn c)) g h more same
+            (agree_inserted name_order (IsOwn c) h (operand_name n k) tt (own_name k)))
         (suc k) os
 
     shape_from_none : (a b : Option Flying) → a ≡ None → SameShape a b
@@ -207,6 +209,7 @@ module _ (c : Scope) (f : Numbered Flying) where
       ];
       operands = λ o out. elim (decide_key nat_order o.task n) [
         | inl same ↦ absurd (out (all o same))
-        | inr apart ↦ inl (ap (λ x. option_and_then (λ x. slice_get x.operands o.place) x) (beside_inserted nat_order f n y o.task apart))
+        | inr apart ↦ inl (ap (λ x. option_and_then (λ x. slice_get x.operands o.place) x)
+            (beside_inserted nat_order f n y o.task apart))
       ];
     }

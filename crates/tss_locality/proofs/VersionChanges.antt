@@ -6,14 +6,13 @@ use Rattle.tss_base.specs.declared.operand.OpName.{OpName}
 use Rattle.tss_base.specs.declared.event.How.{How}
 use Rattle.tss_base.specs.declared.event.How.TheVariants.{Beside, Over}
 use Rattle.tss_base.specs.declared.event.Follow.{Follow}
-use Rattle.tss_base.specs.declared.range.Range.{Range}
 use Rattle.tss_base.specs.Names.{Named}
 use Rattle.tss_maps.proofs.Keys.{name_order}
 use Rattle.tss_protocol.specs.Mail.{StorageName, Home, Buffer, Message}
 use Rattle.tss_protocol.specs.State.{Version}
-use Rattle.tss_protocol.specs.Versions.{Versioned, Settling, sending, put_version, drop_version, version_changed, change_version, change_named, ready_with, buffer_of, died, may_die, may_ask, followed_by, unlinked, settle_beside, settle_over, settle_how, settle_asking, unchanged, settle_by, settle_at, settle, settled}
+use Rattle.tss_protocol.specs.Versions.{Versioned, Settling, sending, put_version, drop_version, version_changed, change_version, change_named, ready_with, buffer_of, died, may_die, may_ask, followed_by, unlinked, settle_how, settle_asking, unchanged, settle_by, settle_at, settle, settled}
 use Rattle.tss_locality.specs.Agreement.{Beyond, AgreeAt}
-use Rattle.tss_locality.specs.Scopes.{Scope, NameIn, MaybeStorageIn, FollowIn, VersionIn, MessageIn, MessagesIn, ClosedVersions}
+use Rattle.tss_locality.specs.Scopes.{Scope, NameIn, MaybeStorageIn, FollowIn, VersionIn, MessagesIn, ClosedVersions}
 use Rattle.tss_locality.proofs.Agreements.{agree_same, agree_then, agree_inserted, agree_removed, closed_inserted, closed_removed}
 
 -- no version beyond the scope is changed, and those of the scope are closed
@@ -127,7 +126,8 @@ module _ (c : Scope) (vs : Named Version) where
   abbrev pub SettlesIn : Settling → Type 0
   SettlesIn go = (ws : Named Version) (v : OpName) → VersionsOnly c vs ws → c.names v → StaysIn c vs (go ws v)
 
-  module _ (ws : Named Version) (f : VersionsOnly c vs ws) (v : OpName) (p : c.names v) (go : Settling) (next : SettlesIn go) where
+  module _ (ws : Named Version) (f : VersionsOnly c vs ws) (v : OpName) (p : c.names v) (go : Settling)
+      (next : SettlesIn go) where
     stays_asking : (x : Version) → VersionIn c x → StaysIn c vs (settle_asking ws v x)
     stays_asking x i = record {
       versions = versions_put ws f v (record x { asked = Some x.registered }) p (record {

@@ -1,5 +1,5 @@
 -- What each event of the versioning tables does to versions of a scope stays in the scope.
-use Rattle.std.proofs.Common.{◌≡◌, Bool, true, false, List, [], ◌∷◌, ◌++◌, Option, Some, None, refl, cond}
+use Rattle.std.proofs.Common.{◌≡◌, Bool, true, false, [], ◌∷◌, ◌++◌, Option, Some, None, refl, cond}
 use Rattle.std.specs.Prelude.{not}
 use Rattle.std.specs.FinMap.{get}
 use Rattle.tss_base.specs.declared.range.Range.{Range}
@@ -12,7 +12,7 @@ use Rattle.tss_base.specs.declared.event.Follow.{Follow}
 use Rattle.tss_base.specs.Names.{Named}
 use Rattle.tss_protocol.specs.Mail.{StorageName, OpenContents, ReleaseContents, Bye}
 use Rattle.tss_protocol.specs.State.{Version}
-use Rattle.tss_protocol.specs.Versions.{Versioned, put_version, ready_with, settled, new_version, first_version, opened_first, followed, opened_how, opened_by, after_open, enlisted, used_alone, used_behind, used_at, after_use, head_ready, produced_now, released_by_producer, is_last, tail_without, released_once, released_by_reader, released_by, released_at, after_release, refused_once, nacked_at, after_nack}
+use Rattle.tss_protocol.specs.Versions.{put_version, ready_with, settled, new_version, first_version, followed, opened_how, opened_by, after_open, enlisted, used_alone, used_behind, used_at, after_use, head_ready, produced_now, released_by_producer, is_last, tail_without, released_once, released_by_reader, released_by, released_at, after_release, refused_once, nacked_at, after_nack}
 use Rattle.tss_locality.specs.Scopes.{Scope, IsOwn, NameIn, MaybeStorageIn, FollowIn, VersionIn, OpeningIn, MessagesIn, ClosedVersions}
 use Rattle.tss_locality.proofs.VersionChanges.{VersionsOnly, StaysIn, messages_append, ready_in, stays_sending, versions_none, versions_put, versions_change, stays_unchanged, stays_settled}
 
@@ -22,7 +22,8 @@ module _ (c : Scope) (vs : Named Version) (closed : ClosedVersions c vs) where
 
   -- ---- open
 
-  new_in : (object : Range) (s : Option StorageName) → c.objects object → MaybeStorageIn c s → VersionIn c (new_version object s)
+  new_in : (object : Range) (s : Option StorageName) → c.objects object → MaybeStorageIn c s →
+      VersionIn c (new_version object s)
   new_in object s i j = record { object = i; storage = j; head = tt; tail = tt; predecessor = tt; successor = tt }
 
   first_in : (o : OpName) (object : Range) (s : Option StorageName) (m : Mode) → c.names o → c.objects object →
@@ -60,7 +61,8 @@ module _ (c : Scope) (vs : Named Version) (closed : ClosedVersions c vs) where
   opened_how_in : (o : OpName) (x : OpenContents) (f : Follow) (how : How) → c.names o → OpeningIn c x →
       c.names f.version → StaysIn c vs (opened_how vs o x f how)
   opened_how_in o x f Beside p i q =
-      stays_sending c vs (ready_with o o x.storage) (settled (followed vs o x f) f.version) (ready_in c o o x.storage p p i.storage)
+      stays_sending c vs (ready_with o o x.storage) (settled (followed vs o x f) f.version)
+          (ready_in c o o x.storage p p i.storage)
       (stays_settled c vs (followed vs o x f) f.version (followed_only o x f p i q) q)
   opened_how_in o x f Over p i q = stays_settled c vs (followed vs o x f) f.version (followed_only o x f p i q) q
 
@@ -89,7 +91,8 @@ module _ (c : Scope) (vs : Named Version) (closed : ClosedVersions c vs) where
     successor = i.successor;
   }
 
-  headed_in : (x : Version) (o : OpName) → VersionIn c x → c.names o → VersionIn c (record (enlisted x o) { head = Some o })
+  headed_in : (x : Version) (o : OpName) → VersionIn c x → c.names o →
+      VersionIn c (record (enlisted x o) { head = Some o })
   headed_in x o i p = record {
     object = i.object;
     storage = i.storage;
@@ -110,7 +113,8 @@ module _ (c : Scope) (vs : Named Version) (closed : ClosedVersions c vs) where
     sent = tt;
   }
 
-  used_behind_in : (o v : OpName) (x : Version) (last : Option OpName) → c.names o → c.names v → VersionIn c x → NameIn c last →
+  used_behind_in : (o v : OpName) (x : Version) (last : Option OpName) → c.names o → c.names v → VersionIn c x →
+      NameIn c last →
       StaysIn c vs (used_behind vs o v x last)
   used_behind_in o v x None p q i l = used_alone_in o v x x.produced p q i
   used_behind_in o v x (Some last) p q i l = record {
@@ -118,7 +122,8 @@ module _ (c : Scope) (vs : Named Version) (closed : ClosedVersions c vs) where
     sent = ((l, p), tt);
   }
 
-  used_at_in : (o v : OpName) (x : Option Version) → get vs v ≡ x → c.names o → c.names v → StaysIn c vs (used_at vs o v x)
+  used_at_in : (o v : OpName) (x : Option Version) → get vs v ≡ x → c.names o → c.names v →
+      StaysIn c vs (used_at vs o v x)
   used_at_in o v None there p q = stays_unchanged c vs vs none
   used_at_in o v (Some x) there p q = let i = closed v x q there in used_behind_in o v x x.tail p q i i.tail
 
@@ -159,7 +164,8 @@ module _ (c : Scope) (vs : Named Version) (closed : ClosedVersions c vs) where
   by_reader_in : (o v : OpName) (x : Version) → IsOwn c o → c.names v → VersionIn c x →
       StaysIn c vs (released_by_reader vs o v x)
   by_reader_in o v x p q i =
-      stays_sending c vs (Bye o (not (is_last o x.tail)) ∷ []) (settled (put_version vs v (released_once x o)) v) (p, tt)
+      stays_sending c vs (Bye o (not (is_last o x.tail)) ∷ []) (settled (put_version vs v (released_once x o)) v)
+          (p, tt)
       (stays_settled c vs (put_version vs v (released_once x o)) v
       (versions_put c vs vs none v (released_once x o) q (record {
         object = i.object;
@@ -182,7 +188,8 @@ module _ (c : Scope) (vs : Named Version) (closed : ClosedVersions c vs) where
   released_at_in o v producer (Some x) there p q = released_by_in o v x producer p q (closed v x q there)
 
   -- a release of a version of the scope by an operand of its own
-  pub stays_release : (o : OpName) (r : ReleaseContents) → IsOwn c o → c.names r.version → StaysIn c vs (after_release vs o r)
+  pub stays_release : (o : OpName) (r : ReleaseContents) → IsOwn c o → c.names r.version →
+      StaysIn c vs (after_release vs o r)
   stays_release o r p q = released_at_in o r.version r.producer (get vs r.version) refl p q
 
   -- ---- nack
