@@ -19,3 +19,4 @@ pub mod MainStores
 pub mod SpawnNumbers
 pub mod MainEventLemmas
 pub mod EachEvent
+pub mod LeftFields

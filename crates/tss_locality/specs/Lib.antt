@@ -2,3 +2,4 @@ pub mod Agreement
 pub mod Extents
 pub mod Scopes
 pub mod Concerns
+pub mod Leaves
