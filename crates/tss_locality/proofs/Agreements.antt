@@ -32,12 +32,16 @@ module _ {K X : Type 0} {R : K → K → Ordering} (order : IsKeyOrder R) (P : K
 
 module _ {K X : Type 0} {R : K → K → Ordering} (order : IsKeyOrder R) (P : K → Type 0) (Q : X → Type 0)
     (m : FinMap R X) (k : K) where
-  -- what is inserted is of the kind
-  pub closed_inserted : (v : X) → ClosedAt P Q m → Q v → ClosedAt P Q (insert m k v)
-  closed_inserted v c of_kind q x p e = elim (from_inserted order m k v q x e) [
-    | inl new ↦ subst Q (sym new.1) of_kind
+  -- what is inserted is of the kind, where its key is one of these
+  pub closed_put : (v : X) → ClosedAt P Q m → (P k → Q v) → ClosedAt P Q (insert m k v)
+  closed_put v c of_kind q x p e = elim (from_inserted order m k v q x e) [
+    | inl new ↦ subst Q (sym new.1) (of_kind (subst P new.0 p))
     | inr old ↦ c q x p old.1
   ]
+
+  -- what is inserted is of the kind
+  pub closed_inserted : (v : X) → ClosedAt P Q m → Q v → ClosedAt P Q (insert m k v)
+  closed_inserted v c of_kind = closed_put v c (λ p. of_kind)
 
   -- a removal
   pub closed_removed : ClosedAt P Q m → ClosedAt P Q (remove m k)

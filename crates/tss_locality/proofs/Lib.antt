@@ -20,3 +20,8 @@ pub mod SpawnNumbers
 pub mod MainEventLemmas
 pub mod EachEvent
 pub mod LeftFields
+pub mod ClosedMessages
+pub mod ClosedStates
+pub mod ClosedFlights
+pub mod ClosedObjectEvents
+pub mod ClosedTaskEvents

@@ -93,7 +93,8 @@ module _ (c : Scope) (m : Machine) (S : State) (closed : Closed c S) where
   live_in o p e Output own object latest = (own, record { object = object; storage = own.0; follows = latest })
   live_in o p e Inout own object latest = (own, record { object = object; storage = tt; follows = latest })
 
-  decode_message_in : (o : OpName) (p : Operand) (e : Option Entry) → get S.entries p.object.base ≡ e → IsOwn c o →
+  -- what a decode sends
+  pub decode_message_in : (o : OpName) (p : Operand) (e : Option Entry) → get S.entries p.object.base ≡ e → IsOwn c o →
       c.objects p.object → MessageIn c (decode_message o p e)
   decode_message_in o p None there own object = (own, record { object = object; storage = tt; follows = tt })
   decode_message_in o p (Some e) there own object =
