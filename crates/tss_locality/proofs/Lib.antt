@@ -25,3 +25,6 @@ pub mod ClosedStates
 pub mod ClosedFlights
 pub mod ClosedObjectEvents
 pub mod ClosedTaskEvents
+pub mod ApartScopes
+pub mod KeptLinks
+pub mod FamilyScopes

@@ -3,3 +3,4 @@ pub mod Extents
 pub mod Scopes
 pub mod Concerns
 pub mod Leaves
+pub mod Objects
