@@ -1,8 +1,8 @@
 -- The records of operands stay closed under what the stations do.
-use Rattle.std.proofs.Common.{◌≡◌, ℕ, zero, suc, ◌+◌, ◌++◌, add-zero, arith, Bool, true, false, cond, List, [], ◌∷◌, Option, Some, None, refl, sym, ap, ◌∙◌, subst, inl, inr, ◌⊎◌}
-use Rattle.std.specs.Prelude.{slice_get, slice_set, option_and_then, map}
+use Rattle.std.proofs.Common.{◌≡◌, ℕ, suc, ◌+◌, ◌++◌, add-zero, Bool, true, false, cond, List, [], ◌∷◌, Option, Some, None, refl, sym, ap, ◌∙◌, subst, inl, inr}
+use Rattle.std.specs.Prelude.{slice_get, option_and_then}
 use Rattle.std.specs.FinMap.{get, insert, remove}
-use Rattle.std.proofs.lemmas.Option.{none-some, same_Some}
+use Rattle.std.proofs.lemmas.Option.{none-some}
 use Rattle.tss_base.specs.declared.operand.OpName.{OpName}
 use Rattle.tss_base.specs.declared.operand.Task.{Task}
 use Rattle.tss_base.specs.declared.event.Stage.TheVariants as stage
@@ -17,26 +17,9 @@ use Rattle.tss_protocol.specs.Mail.{Source, Message}
 use Rattle.tss_protocol.specs.State.{OperandState, Flying}
 use Rattle.tss_protocol.specs.Stations.{is_gone, remaining_tasks, new_operand, with_operand, is_complete, task_after_ready, link_after_ready, operand_after_ready, woken_by, woken_in, after_ready, link_after_link, operand_after_link, linked_by, linked_in, after_link, release_of, releases_from, finished_in, flight_after_finish, operand_after_bye, parted_by, parted_in, after_bye, entered}
 use Rattle.tss_locality.specs.Scopes.{Scope, MaybeSourceIn, SourceIn, LinkIn, RecordIn, ClosedFlight}
+use Rattle.tss_locality.proofs.Flights.{from_set, from_mapped}
+use Rattle.tss_locality.proofs.Tasks.{shifted, from_zero}
 use Rattle.tss_locality.proofs.ClosedMessages.{KeepAllIn}
-
--- what stands in a list that is set was put there, or stood there before
-pub from_set : {X : Type 0} (xs : List X) (i j : ℕ) (v y : X) → slice_get (slice_set xs i v) j ≡ Some y →
-    ((j ≡ i) × (y ≡ v)) ⊎ (slice_get xs j ≡ Some y)
-from_set [] i j v y e = absurd (none-some y e)
-from_set (x ∷ xs) zero zero v y e = inl (refl, sym (same_Some v y e))
-from_set (x ∷ xs) zero (suc j) v y e = inr e
-from_set (x ∷ xs) (suc i) zero v y e = inr e
-from_set (x ∷ xs) (suc i) (suc j) v y e = elim (from_set xs i j v y e) [
-  | inl new ↦ inl (ap suc new.0, new.1)
-  | inr old ↦ inr old
-]
-
--- what stands in a list that is mapped
-pub from_mapped : {X Y : Type 0} (f : X → Y) (xs : List X) (k : ℕ) (y : Y) → slice_get (map f xs) k ≡ Some y →
-    (x : X) × (slice_get xs k ≡ Some x) × (f x ≡ y)
-from_mapped f [] k y e = absurd (none-some y e)
-from_mapped f (x ∷ xs) zero y e = (x, refl, same_Some (f x) y e)
-from_mapped f (x ∷ xs) (suc k) y e = from_mapped f xs k y e
 
 -- the record of an operand in its task
 abbrev record_in : ℕ → Option Flying → Option OperandState
@@ -170,17 +153,11 @@ module _ (c : Scope) (f : Numbered Flying) (closed : ClosedFlight c f) where
   pub closed_finish : (n : ℕ) → ClosedFlight c (flight_after_finish f n).part
   closed_finish n = finished_closed n (get f n) refl
 
-  from_zero : (j : ℕ) → 0 + j ≡ j
-  from_zero j = omega arith
-
   release_keeps : (n k : ℕ) (r : OperandState) (s : Option Source) (rest : List Message) →
       (c.names (operand_name n k) → MaybeSourceIn c s) → KeepAllIn c rest →
       KeepAllIn c (release_of (operand_name n k) r s ++ rest)
   release_keeps n k r None rest i more = more
   release_keeps n k r (Some s) rest i more = (λ p. (i p).0, more)
-
-  shifted : (k j : ℕ) → suc k + j ≡ k + suc j
-  shifted k j = omega arith
 
   releases_keep : (n k : ℕ) (rs : List OperandState) →
       ((j : ℕ) (r : OperandState) → c.names (operand_name n (k + j)) → slice_get rs j ≡ Some r → RecordIn c r) →

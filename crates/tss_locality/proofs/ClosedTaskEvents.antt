@@ -1,8 +1,7 @@
 -- Every closed scope stays closed after take, ack, start, exec, finish, bye, and an event of main whose new task's
 -- operands agree with it.
-use Rattle.std.proofs.Common.{◌≡◌, ℕ, suc, ◌+◌, Bool, true, cond, List, [], ◌∷◌, Option, Some, None, refl, sym, ap, ◌∙◌, subst, inl, inr, arith}
-use Rattle.std.specs.Prelude.{◌==◌, slice_get}
-use Rattle.std.proofs.lemmas.Bool.Decides.{nat_tests}
+use Rattle.std.proofs.Common.{◌≡◌, ℕ, suc, ◌+◌, add-zero, Bool, List, [], ◌∷◌, Option, Some, None, refl, sym, ap, ◌∙◌, subst, inl, inr}
+use Rattle.std.specs.Prelude.{slice_get}
 use Rattle.std.specs.FinMap.{get, insert}
 use Rattle.std.proofs.lemmas.Option.{none-some}
 use Rattle.tss_base.specs.declared.operand.OpName.{OpName}
@@ -25,9 +24,12 @@ use Rattle.tss_protocol.specs.MainEvent.{call_next, after_call, main_by}
 use Rattle.tss_protocol.specs.UnitMachine.{stores_of, without, take_task, after_take, bye_message_taken, start_task, after_start, after_exec, finish_task, after_finish, after_event}
 use Rattle.tss_locality.specs.Agreement.{operand_in}
 use Rattle.tss_locality.specs.Scopes.{Scope, StorageIn, MaybeSourceIn, ClosedWorker, ClosedWorkers, Closed}
+use Rattle.tss_locality.proofs.Flights.{from_mapped}
+use Rattle.tss_locality.proofs.Tasks.{shifted, from_zero}
 use Rattle.tss_locality.proofs.ClosedMessages.{KeepAllIn}
 use Rattle.tss_locality.proofs.ClosedStates.{ClosedInbox, closed_by}
-use Rattle.tss_locality.proofs.ClosedFlights.{from_mapped, task_in, closed_flight_put, closed_bye, closed_finish, finish_keeps, closed_entered}
+use Rattle.tss_locality.proofs.ClosedFlights.{task_in, closed_flight_put, closed_bye, closed_finish, finish_keeps, closed_entered}
+use Rattle.tss_locality.proofs.TakeEvent.{own_arrival}
 use Rattle.tss_locality.proofs.ClosedObjectEvents.{closed_without, closed_sent}
 
 module _ (c : Scope) (m : Machine) (S : State) (closed : Closed c S) where
@@ -52,31 +54,16 @@ module _ (c : Scope) (m : Machine) (S : State) (closed : Closed c S) where
 
   -- ---- take
 
-  same_number : (n : ℕ) → (n == n) ≡ true
-  same_number n = grind (arith, nat_tests)
-
   none_arrives : ClosedInbox c None
   none_arrives o p in_c e = absurd (none-some p e)
-
-  own_arrival : (t : Task) (k : ℕ) → operand_in (Some t) (operand_name t.number k) ≡ slice_get (operands_of t) k
-  own_arrival t k = ap (λ b. cond b (slice_get (operands_of t) k) None) (same_number t.number)
-
-  shifted : (k j : ℕ) → suc k + j ≡ k + suc j
-  shifted k j = omega arith
-
-  from_zero : (j : ℕ) → 0 + j ≡ j
-  from_zero j = omega arith
 
   decodes_keep : (n k : ℕ) (os : List Operand) →
       ((j : ℕ) (p : Operand) → c.names (operand_name n (k + j)) → slice_get os j ≡ Some p → c.objects p.object) →
       KeepAllIn c (decodes_from n k os)
   decodes_keep n k [] i = tt
   decodes_keep n k (o ∷ os) i =
-      (λ p. i 0 o (subst (λ j. c.names (operand_name n j)) (sym (from_none k)) p) refl,
+      (λ p. i 0 o (subst (λ j. c.names (operand_name n j)) (sym (add-zero k)) p) refl,
       decodes_keep n (suc k) os (λ j q p e. i (suc j) q (subst (λ j. c.names (operand_name n j)) (shifted k j) p) e))
-    where
-      from_none : (k : ℕ) → k + 0 ≡ k
-      from_none k = omega arith
 
   take_closed : (t : Option Task) → S.inbox ≡ t → Closed c (after_take S t)
   take_closed None there = closed

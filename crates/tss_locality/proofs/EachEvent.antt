@@ -15,7 +15,7 @@ use Rattle.tss_locality.proofs.MainEventLemmas.{ChangesOnly-main}
 
 module _ (c : Scope) (m : Machine) (S : State) (closed : Closed c S) where
   -- an enabled event changes nothing beyond a closed scope in which lies what it concerns
-  pub ChangesOnly-after_event : (e : Event) → IsEnabled m S e → Concerns c S e → ChangesOnly c S (after_event m S e)
+  pub ChangesOnly-after_event : (e : Event) → IsEnabled m S e → Concerns c m S e → ChangesOnly c S (after_event m S e)
   ChangesOnly-after_event event.Main on p = ChangesOnly-main c m S p on
   ChangesOnly-after_event event.Take on p = ChangesOnly-take c m S p
   ChangesOnly-after_event (event.Decode o) on p = ChangesOnly-decode c m S closed o p

@@ -1,8 +1,9 @@
 -- What a change of one task in flight leaves of the others, and of the records of its operands beyond the scope.
 use Rattle.std.proofs.Common.{◌≡◌, ◌≢◌, ℕ, zero, suc, Bool, true, false, cond, List, [], ◌∷◌, length, Option, Some, None, refl, sym, ap, ◌∙◌, subst, inl, inr, ◌⊎◌}
-use Rattle.std.specs.Prelude.{slice_get, slice_set, option_and_then}
+use Rattle.std.specs.Prelude.{slice_get, slice_set, option_and_then, map}
 use Rattle.std.specs.List.{list_all}
 use Rattle.std.specs.FinMap.{get, insert, remove}
+use Rattle.std.proofs.lemmas.Option.{none-some, same_Some}
 use Rattle.std.proofs.lemmas.Bool.{and_parts}
 use Rattle.std.proofs.lemmas.List.{length-set}
 use Rattle.tss_base.specs.declared.operand.OpName.{OpName}
@@ -25,6 +26,25 @@ slice_get-set_other (x ∷ xs) zero zero v apart = absurd (apart refl)
 slice_get-set_other (x ∷ xs) zero (suc j) v apart = refl
 slice_get-set_other (x ∷ xs) (suc i) zero v apart = refl
 slice_get-set_other (x ∷ xs) (suc i) (suc j) v apart = slice_get-set_other xs i j v (λ e. apart (ap suc e))
+
+-- what stands in a list that is set was put there, or stood there before
+pub from_set : {X : Type 0} (xs : List X) (i j : ℕ) (v y : X) → slice_get (slice_set xs i v) j ≡ Some y →
+    ((j ≡ i) × (y ≡ v)) ⊎ (slice_get xs j ≡ Some y)
+from_set [] i j v y e = absurd (none-some y e)
+from_set (x ∷ xs) zero zero v y e = inl (refl, sym (same_Some v y e))
+from_set (x ∷ xs) zero (suc j) v y e = inr e
+from_set (x ∷ xs) (suc i) zero v y e = inr e
+from_set (x ∷ xs) (suc i) (suc j) v y e = elim (from_set xs i j v y e) [
+  | inl new ↦ inl (ap suc new.0, new.1)
+  | inr old ↦ inr old
+]
+
+-- what stands in a list that is mapped
+pub from_mapped : {X Y : Type 0} (f : X → Y) (xs : List X) (k : ℕ) (y : Y) → slice_get (map f xs) k ≡ Some y →
+    (x : X) × (slice_get xs k ≡ Some x) × (f x ≡ y)
+from_mapped f [] k y e = absurd (none-some y e)
+from_mapped f (x ∷ xs) zero y e = (x, refl, same_Some (f x) y e)
+from_mapped f (x ∷ xs) (suc k) y e = from_mapped f xs k y e
 
 -- where all have left, each that is there is out
 all_out : (rs : List OperandState) (k : ℕ) → list_all (λ r. has_left r.farewell) rs ≡ true →

@@ -16,7 +16,6 @@ pub mod TakeEvent
 pub mod WorkerEvents
 pub mod CopyEvents
 pub mod MainStores
-pub mod SpawnNumbers
 pub mod MainEventLemmas
 pub mod EachEvent
 pub mod LeftFields

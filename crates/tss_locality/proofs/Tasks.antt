@@ -1,5 +1,5 @@
 -- What the stations do to a task's records stays in a scope: ready, link, bye and finish, and a task that enters.
-use Rattle.std.proofs.Common.{◌≡◌, ℕ, suc, Bool, true, false, cond, List, [], ◌∷◌, ◌++◌, Option, Some, None, refl, sym, ap, ◌∙◌, subst, inl, inr, arith}
+use Rattle.std.proofs.Common.{◌≡◌, ℕ, suc, ◌+◌, add-zero, Bool, true, false, cond, List, [], ◌∷◌, ◌++◌, Option, Some, None, refl, sym, ap, ◌∙◌, subst, inl, inr, arith}
 use Rattle.std.specs.Prelude.{◌==◌, slice_get, option_and_then}
 use Rattle.std.proofs.lemmas.Bool.Decides.{nat_tests}
 use Rattle.std.specs.FinMap.{get, insert}
@@ -10,12 +10,12 @@ use Rattle.tss_base.specs.declared.event.LinkState.{LinkState}
 use Rattle.tss_base.specs.declared.event.LinkState.TheVariants as link
 use Rattle.tss_base.specs.Names.{Named, Numbered}
 use Rattle.tss_maps.proofs.Keys.{nat_order, name_order, decide_key}
-use Rattle.tss_maps.proofs.Changes.{beside_inserted}
+use Rattle.tss_maps.proofs.Changes.{at_inserted, beside_inserted}
 use Rattle.tss_protocol.specs.Names.{operand_name}
 use Rattle.tss_protocol.specs.Mail.{Source, Message}
 use Rattle.tss_protocol.specs.State.{OperandState, Flying, Outcome}
 use Rattle.tss_protocol.specs.Gateway.{names_from, held_with, decodes_from}
-use Rattle.tss_protocol.specs.Stations.{with_operand, is_complete, task_after_ready, operand_after_ready, sent_by_ready, Woken, woken_by, woken_in, after_ready, sent_by_link, operand_after_link, linked_by, linked_in, after_link, release_of, releases_from, finished_in, flight_after_finish, operand_after_bye, parted_by, parted_in, after_bye}
+use Rattle.tss_protocol.specs.Stations.{operand_at, with_operand, is_complete, task_after_ready, operand_after_ready, sent_by_ready, Woken, woken_by, woken_in, after_ready, sent_by_link, operand_after_link, linked_by, linked_in, after_link, release_of, releases_from, finished_in, flight_after_finish, operand_after_bye, parted_by, parted_in, after_bye}
 use Rattle.tss_protocol.specs.UnitMachine.{queue_with}
 use Rattle.tss_locality.specs.Agreement.{Beyond, AgreeAt, SameShape, times_in}
 use Rattle.tss_locality.specs.Scopes.{Scope, IsOwn, beyond, SourceIn, MaybeSourceIn, LinkIn, RecordIn, MessagesIn, AreSentIn, ClosedFlight}
@@ -50,6 +50,14 @@ pub times_queued : (P : ℕ → Type 0) (queue : List ℕ) (t : ℕ) (queued : B
     times_in n (queue_with queue t queued) ≡ times_in n queue
 times_queued P queue t true p n out = times_behind n t (λ same. out (subst P same p)) queue
 times_queued P queue t false p n out = refl
+
+-- places counted on
+pub shifted : (k j : ℕ) → suc k + j ≡ k + suc j
+shifted k j = omega arith
+
+-- and from the first on
+pub from_zero : (j : ℕ) → 0 + j ≡ j
+from_zero j = omega arith
 
 -- what becomes of the tasks in flight, and the messages with it
 pub record TasksOnly (c : Scope) (f : Numbered Flying) (d : Outcome (Numbered Flying)) : Type 0 where
@@ -142,74 +150,93 @@ module _ (c : Scope) (f : Numbered Flying) where
   pub bye_only : (o : OpName) (promised : Bool) → IsOwn c o → FlightOn (beyond c) f (after_bye f o promised)
   bye_only o promised own = parted_in_only o promised own (get f o.task) refl
 
-  -- ---- take and finish: all names of a task
+module _ (c : Scope) (f : Numbered Flying) (n : ℕ) (own : c.tasks n) where
+  -- ---- finish
 
-  module _ (n : ℕ) (own : c.tasks n) (all : (o : OpName) → o.task ≡ n → c.names o) where
-    -- a name of the task
-    own_name : (k : ℕ) → IsOwn c (operand_name n k)
-    own_name k = (all (operand_name n k) refl, own)
+  release_sent : (k : ℕ) (r : OperandState) (s : Option Source) (rest : List Message) → c.names (operand_name n k) →
+      AreSentIn c rest → AreSentIn c (release_of (operand_name n k) r s ++ rest)
+  release_sent k r None rest p more = more
+  release_sent k r (Some s) rest p more = ((p, own), more)
 
-    release_sent : (k : ℕ) (r : OperandState) (s : Option Source) → AreSentIn c (release_of (operand_name n k) r s)
-    release_sent k r None = tt
-    release_sent k r (Some s) = (own_name k, tt)
+  releases_sent : (k : ℕ) (rs : List OperandState) →
+      ((j : ℕ) (r : OperandState) → slice_get rs j ≡ Some r → c.names (operand_name n (k + j))) →
+      AreSentIn c (releases_from n k rs)
+  releases_sent k [] names = tt
+  releases_sent k (r ∷ rs) names =
+      release_sent k r r.source (releases_from n (suc k) rs)
+      (subst (λ j. c.names (operand_name n j)) (add-zero k) (names 0 r refl))
+      (releases_sent (suc k) rs (λ j q e. subst (λ j. c.names (operand_name n j)) (sym (shifted k j)) (names (suc j) q e)))
 
-    releases_before : (k : ℕ) (r : OperandState) (s : Option Source) (rs : List Message) → AreSentIn c rs →
-        AreSentIn c (release_of (operand_name n k) r s ++ rs)
-    releases_before k r None rs p = p
-    releases_before k r (Some s) rs p = (own_name k, p)
+  finished_only : (x : Option Flying) → get f n ≡ x → FlightOn (beyond c) f (finished_in f n x).part
+  finished_only None there = same_flight (beyond c) f
+  finished_only (Some x) there =
+      flight_remaining c f n x (record x { stage = stage.Finished }) own there
+      (keeps_records c n x (record x { stage = stage.Finished }) refl refl)
 
-    -- the releases of a task's operands
-    pub releases_sent : (k : ℕ) (rs : List OperandState) → AreSentIn c (releases_from n k rs)
-    releases_sent k [] = tt
-    releases_sent k (r ∷ rs) = releases_before k r r.source (releases_from n (suc k) rs) (releases_sent (suc k) rs)
+  -- a task that finishes is changed alone
+  pub finish_only : FlightOn (beyond c) f (flight_after_finish f n).part
+  finish_only = finished_only (get f n) refl
 
-    -- what is left of the tasks in flight
-    finished_only : (x : Option Flying) → get f n ≡ x → FlightOn (beyond c) f (finished_in f n x).part
-    finished_only None there = same_flight (beyond c) f
-    finished_only (Some x) there =
-        flight_remaining c f n x (record x { stage = stage.Finished }) own there
-        (keeps_records c n x (record x { stage = stage.Finished }) refl refl)
+  finished_sent : (x : Option Flying) → get f n ≡ x →
+      ((k : ℕ) (r : OperandState) → operand_at f (operand_name n k) ≡ Some r → c.names (operand_name n k)) →
+      AreSentIn c (finished_in f n x).sent
+  finished_sent None there names = tt
+  finished_sent (Some x) there names =
+      releases_sent 0 x.operands (λ j r e. subst (λ j. c.names (operand_name n j)) (sym (from_zero j))
+      (names j r (ap (λ x. option_and_then (λ x. slice_get x.operands j) x) there ∙ e)))
 
-    finished_sent : (x : Option Flying) → AreSentIn c (finished_in f n x).sent
-    finished_sent None = tt
-    finished_sent (Some x) = releases_sent 0 x.operands
+  -- and its operands' releases are sent
+  pub finish_sent : ((k : ℕ) (r : OperandState) → operand_at f (operand_name n k) ≡ Some r → c.names (operand_name n k)) →
+      AreSentIn c (flight_after_finish f n).sent
+  finish_sent names = finished_sent (get f n) refl names
 
-    pub finish_only : FlightOn (beyond c) f (flight_after_finish f n).part
-    finish_only = finished_only (get f n) refl
+  -- ---- take
 
-    pub finish_sent : AreSentIn c (flight_after_finish f n).sent
-    finish_sent = finished_sent (get f n)
+  -- a decode for each operand
+  pub decodes_sent : (k : ℕ) (os : List Operand) →
+      ((j : ℕ) (o : Operand) → slice_get os j ≡ Some o → c.names (operand_name n (k + j))) →
+      AreSentIn c (decodes_from n k os)
+  decodes_sent k [] names = tt
+  decodes_sent k (o ∷ os) names =
+      ((subst (λ j. c.names (operand_name n j)) (add-zero k) (names 0 o refl), own),
+      decodes_sent (suc k) os (λ j q e. subst (λ j. c.names (operand_name n j)) (sym (shifted k j)) (names (suc j) q e)))
 
-    -- a decode for each operand
-    pub decodes_sent : (k : ℕ) (os : List Operand) → AreSentIn c (decodes_from n k os)
-    decodes_sent k [] = tt
-    decodes_sent k (o ∷ os) = (own_name k, decodes_sent (suc k) os)
+  -- the gateway holds them
+  pub gateway_held : (g h : Named (Unit {0})) → AgreeAt (Beyond (IsOwn c)) g h → (k : ℕ) (os : List Operand) →
+      ((j : ℕ) (o : Operand) → slice_get os j ≡ Some o → c.names (operand_name n (k + j))) →
+      AgreeAt (Beyond (IsOwn c)) g (held_with h (names_from n k os))
+  gateway_held g h same k [] names = same
+  gateway_held g h same k (o ∷ os) names =
+      let p : IsOwn c (operand_name n k) = (subst (λ j. c.names (operand_name n j)) (add-zero k) (names 0 o refl), own) in
+      let more = insert h (operand_name n k) tt in
+      gateway_held g more
+      (agree_then (Beyond (IsOwn c)) g h more same (agree_inserted name_order (IsOwn c) h (operand_name n k) tt p))
+      (suc k) os (λ j q e. subst (λ j. c.names (operand_name n j)) (sym (shifted k j)) (names (suc j) q e))
 
-    -- the gateway holds them
-    pub gateway_held : (g h : Named (Unit {0})) → AgreeAt (Beyond (IsOwn c)) g h → (k : ℕ) (os : List Operand) →
-        AgreeAt (Beyond (IsOwn c)) g (held_with h (names_from n k os))
-    gateway_held g h same k [] = same
-    gateway_held g h same k (o ∷ os) =
-        let more = insert h (operand_name n k) tt in
-        gateway_held g more
-        (agree_then (Beyond (IsOwn c)) g h more same
-            (agree_inserted name_order (IsOwn c) h (operand_name n k) tt (own_name k)))
-        (suc k) os
+  shape_from_none : (a b : Option Flying) → a ≡ None → SameShape a b
+  shape_from_none a b e = subst (λ a. SameShape a b) (sym e) tt
 
-    shape_from_none : (a b : Option Flying) → a ≡ None → SameShape a b
-    shape_from_none a b e = subst (λ a. SameShape a b) (sym e) tt
+  no_record : (x y : Option OperandState) → x ≡ None → ((r : OperandState) → y ≡ Some r → ⊥) → y ≡ x
+  no_record x None e none = sym e
+  no_record x (Some r) e none = absurd (none r refl)
 
-    -- a new task enters
-    pub flight_entered : (y : Flying) → get f n ≡ None → FlightOn (beyond c) f (insert f n y)
-    flight_entered y new = record {
-      flight = agree_inserted nat_order c.tasks f n y own;
-      shapes = λ q. elim (decide_key nat_order q n) [
-        | inl same ↦ shape_from_none (get f q) (get (insert f n y) q) (ap (get f) same ∙ new)
-        | inr apart ↦ subst (SameShape (get f q)) (sym (beside_inserted nat_order f n y q apart)) (shape_same (get f q))
-      ];
-      operands = λ o out. elim (decide_key nat_order o.task n) [
-        | inl same ↦ absurd (out (all o same))
-        | inr apart ↦ inl (ap (λ x. option_and_then (λ x. slice_get x.operands o.place) x)
-            (beside_inserted nat_order f n y o.task apart))
-      ];
-    }
+  -- a new task with operands of the scope enters
+  pub flight_entered : (y : Flying) → get f n ≡ None →
+      ((k : ℕ) (r : OperandState) → slice_get y.operands k ≡ Some r → c.names (operand_name n k)) →
+      FlightOn (beyond c) f (insert f n y)
+  flight_entered y new names = record {
+    flight = agree_inserted nat_order c.tasks f n y own;
+    shapes = λ q. elim (decide_key nat_order q n) [
+      | inl same ↦ shape_from_none (get f q) (get (insert f n y) q) (ap (get f) same ∙ new)
+      | inr apart ↦ subst (SameShape (get f q)) (sym (beside_inserted nat_order f n y q apart)) (shape_same (get f q))
+    ];
+    operands = λ o out. inl (elim (decide_key nat_order o.task n) [
+      | inl same ↦
+          no_record (operand_at f o) (operand_at (insert f n y) o)
+          (ap (λ x. option_and_then (λ x. slice_get x.operands o.place) x) (ap (get f) same ∙ new))
+          (λ r e. out (subst (λ n. c.names (operand_name n o.place)) (sym same) (names o.place r
+          (sym (ap (λ x. option_and_then (λ x. slice_get x.operands o.place) x) (ap (get (insert f n y)) same ∙ at_inserted nat_order f n y)) ∙ e))))
+      | inr apart ↦
+          ap (λ x. option_and_then (λ x. slice_get x.operands o.place) x) (beside_inserted nat_order f n y o.task apart)
+    ]);
+  }

@@ -19,7 +19,7 @@ use Rattle.tss_protocol.specs.Workers.{placed_in, worker_byte, can_start, busy_a
 use Rattle.tss_protocol.specs.UnitMachine.{stores_of, start_task, after_start, after_exec, finish_task, after_finish, is_enabled, IsEnabled, after_event}
 use Rattle.tss_locality.specs.Agreement.{Beyond, times_in}
 use Rattle.tss_locality.specs.Scopes.{Scope, beyond, ChangesOnly, StorageIn, MaybeSourceIn, Closed}
-use Rattle.tss_locality.specs.Concerns.{WholeTask, ConcernsStart, ConcernsExec}
+use Rattle.tss_locality.specs.Concerns.{ConcernsFinish, ConcernsStart, ConcernsExec}
 use Rattle.tss_locality.proofs.Agreements.{IsOther, other_none, other_some, same_for_inserted, same_for_removed}
 use Rattle.tss_locality.proofs.States.{state_flight, state_queue, state_workers, state_trap}
 use Rattle.tss_locality.proofs.Flights.{keeps_records, flight_inserted}
@@ -155,7 +155,7 @@ module _ (c : Scope) (m : Machine) (S : State) where
   held_before None n (Some t) k other e = absurd (other (ap (λ (k : HeldTrap). k.task) (same_Some _ k e)))
   held_before (Some h) n (Some t) k other e = lower_held n t h k (nat_lt n h.task) other e
 
-  finished : (w : ℕ) (b : Busy) → get S.workers w ≡ Some b → WholeTask c b.task.number →
+  finished : (w : ℕ) (b : Busy) → get S.workers w ≡ Some b → ConcernsFinish c S b →
       ChangesOnly c S (finish_task S w b)
   finished w b there p =
       let n = b.task.number in
@@ -165,19 +165,19 @@ module _ (c : Scope) (m : Machine) (S : State) where
       let A : State = record S { workers = workers } in
       let B : State = record A { trap = trap } in
       let in_workers = state_workers (beyond c) S S (changes_none c S) workers
-      (same_for_removed nat_order (IsElsewhere c) S.workers w (here c S w b there p.0)) in
+      (same_for_removed nat_order (IsElsewhere c) S.workers w (here c S w b there p.task)) in
       let in_trap = state_trap (beyond c) S A in_workers trap
-      (λ h out e. held_before S.trap n b.trap h (λ same. out (subst c.tasks same p.0)) e) in
+      (λ h out e. held_before S.trap n b.trap h (λ same. out (subst c.tasks same p.task)) e) in
       changes_sent c S (record B { flight = d.part })
-      (state_flight (beyond c) S B in_trap d.part (finish_only c S.flight n p.0 p.1))
-      d.sent (finish_sent c S.flight n p.0 p.1)
+      (state_flight (beyond c) S B in_trap d.part (finish_only c S.flight n p.task))
+      d.sent (finish_sent c S.flight n p.task (λ k r e. p.names (operand_name n k) r refl e))
 
   finished_by : (w : ℕ) (b : Option Busy) → get S.workers w ≡ b →
-      ((b : Busy) → get S.workers w ≡ Some b → WholeTask c b.task.number) → ChangesOnly c S (after_finish S w b)
+      ((b : Busy) → get S.workers w ≡ Some b → ConcernsFinish c S b) → ChangesOnly c S (after_finish S w b)
   finished_by w None there p = changes_none c S
   finished_by w (Some b) there p = finished w b there (p b there)
 
-  pub ChangesOnly-finish : (w : ℕ) → ((b : Busy) → get S.workers w ≡ Some b → WholeTask c b.task.number) →
+  pub ChangesOnly-finish : (w : ℕ) → ((b : Busy) → get S.workers w ≡ Some b → ConcernsFinish c S b) →
       ChangesOnly c S (after_event m S (event.Finish w))
   unfolding after_event
   ChangesOnly-finish w p = finished_by w (get S.workers w) refl p
