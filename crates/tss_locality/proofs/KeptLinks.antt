@@ -15,7 +15,7 @@ use Rattle.tss_maps.proofs.Keys.{nat_order, decide_key}
 use Rattle.tss_protocol.specs.State.{CopyState, State, initial_state}
 use Rattle.tss_protocol.specs.UnitMachine.{IsEnabled, after_event}
 use Rattle.tss_locality.specs.Scopes.{Scope, ChangesOnly, Closed}
-use Rattle.tss_locality.specs.Objects.{Objects, object_scope, Every, LinksStay, AreApartNamed, IsKnown}
+use Rattle.tss_locality.specs.Objects.{Objects, object_scope, Every, LinksStay, AreApartNamed, HasObject, SpawnsWith, StandNumbered}
 use Rattle.tss_locality.proofs.EachEvent.{ChangesOnly-after_event}
 use Rattle.tss_locality.proofs.LeftFields.{Leaves-after_event}
 use Rattle.tss_locality.proofs.ClosedObjectEvents.{Closed-decode, Closed-open, Closed-use, Closed-ready, Closed-link, Closed-release, Closed-idle, Closed-nack, Closed-retire, Closed-copy, Closed-gone}
@@ -42,6 +42,27 @@ LinksStay-initial_state f i o x named = record {
   };
   copies = λ b k in_c e. absurd (none-some k (sym (get-empty nat_cmp b) ∙ e));
 }
+
+-- the operand or version of an event has an object, and a task that starts stands under its number
+abbrev pub IsKnown : Objects → Machine → State → Event → Type 0
+IsKnown f m S event.Main = SpawnsWith f m S
+IsKnown f m S event.Take = Unit {0}
+IsKnown f m S (event.Decode o) = HasObject f o
+IsKnown f m S (event.Ack o) = HasObject f o
+IsKnown f m S (event.Open o) = HasObject f o
+IsKnown f m S (event.Use o) = HasObject f o
+IsKnown f m S (event.Ready o) = HasObject f o
+IsKnown f m S (event.Link o) = HasObject f o
+IsKnown f m S (event.Start w) = StandNumbered S
+IsKnown f m S (event.Exec w) = Unit {0}
+IsKnown f m S (event.Finish w) = Unit {0}
+IsKnown f m S (event.Release o) = HasObject f o
+IsKnown f m S (event.Bye o) = HasObject f o
+IsKnown f m S (event.Idle v) = HasObject f v
+IsKnown f m S (event.Nack v) = HasObject f v
+IsKnown f m S (event.Retire v) = HasObject f v
+IsKnown f m S (event.Copy b) = (k : CopyState) → get S.copies b ≡ Some k → f k.version ≡ Some k.object
+IsKnown f m S (event.Gone v) = HasObject f v
 
 module _ (f : Objects) (m : Machine) (S : State) (stay : LinksStay f S) (apart : AreApartNamed f) where
   -- the scope of an object that is named
@@ -84,7 +105,7 @@ module _ (f : Objects) (m : Machine) (S : State) (stay : LinksStay f S) (apart :
   -- links stay within each object after an enabled event
   pub LinksStay-after_event : (e : Event) → IsEnabled m S e → IsKnown f m S e → LinksStay f (after_event m S e)
   LinksStay-after_event event.Main on known = λ o x fo.
-      Closed-main (of_object x) m S (stay o x fo) (λ call next t spawned q p in_x e. known call next t spawned q p x in_x e)
+      Closed-main (of_object x) m S (stay o x fo) (λ call next t spawned q p in_x e. same_Some p.object x (sym (known call next t spawned q p e) ∙ in_x))
   LinksStay-after_event event.Take on known = λ o x fo. Closed-take (of_object x) m S (stay o x fo)
   LinksStay-after_event (event.Ack a) on known = λ o x fo. Closed-ack (of_object x) m S (stay o x fo) a
   LinksStay-after_event (event.Start w) on known = λ o x fo. Closed-start (of_object x) m S (stay o x fo) w known

@@ -27,3 +27,5 @@ pub mod ClosedTaskEvents
 pub mod ApartScopes
 pub mod KeptLinks
 pub mod FamilyScopes
+pub mod NamedStates
+pub mod NamedEvents

@@ -1,5 +1,5 @@
--- Objects with the names of their operands: the scope of one object, that links stay within an object, and of which
--- object an event is.
+-- Objects with the names of their operands: the scope of one object, that links stay within an object, and that each
+-- name has its object.
 use Rattle.std.specs.Prelude.{◌≡◌, ℕ, Option, Some}
 use Rattle.std.specs.FinMap.{get}
 use Rattle.tss_base.specs.declared.range.Range.{Range}
@@ -9,8 +9,11 @@ use Rattle.tss_base.specs.declared.operand.Task.{Task}
 use Rattle.tss_base.specs.declared.machine.Machine.{Machine}
 use Rattle.tss_base.specs.declared.event.Event.{Event}
 use Rattle.tss_base.specs.declared.event.Event.TheVariants as event
+use Rattle.tss_base.specs.Names.{Named}
 use Rattle.tss_model.specs.MainStep.{Call, main_call}
-use Rattle.tss_protocol.specs.State.{Flying, CopyState, State}
+use Rattle.tss_protocol.specs.Mail.{Mail}
+use Rattle.tss_protocol.specs.State.{OperandState, Flying, CopyState, State}
+use Rattle.tss_protocol.specs.Stations.{operand_at}
 use Rattle.tss_protocol.specs.MainEvent.{call_next}
 use Rattle.tss_locality.specs.Agreement.{operand_in}
 use Rattle.tss_locality.specs.Scopes.{Scope, Closed}
@@ -39,32 +42,70 @@ AreApartNamed f = (o q : OpName) (x y : Range) → f o ≡ Some x → f q ≡ So
 abbrev pub HasObject : Objects → OpName → Type 0
 HasObject f o = (x : Range) × (f o ≡ Some x)
 
--- the operands of a task have these objects
-abbrev pub HasObjects : Objects → Task → Type 0
-HasObjects f t = (o : OpName) (p : Operand) (x : Range) → f o ≡ Some x → operand_in (Some t) o ≡ Some p → p.object ≡ x
+-- the operands of a spawned task have these objects
+abbrev pub HasObjects : Objects → Option Task → Type 0
+HasObjects f inbox = (o : OpName) (p : Operand) → operand_in inbox o ≡ Some p → f o ≡ Some p.object
 
 -- a task that main's next call spawns has these objects
 abbrev pub SpawnsWith : Objects → Machine → State → Type 0
 SpawnsWith f m S =
-    (x : Call) → call_next m S ≡ Some x → (t : Task) → (main_call m.limits S.home S.main x).1 ≡ Some t → HasObjects f t
+    (x : Call) → call_next m S ≡ Some x → (t : Task) → (main_call m.limits S.home S.main x).1 ≡ Some t →
+    HasObjects f (Some t)
 
--- the operand or version of an event has an object, and a task that starts stands under its number
-abbrev pub IsKnown : Objects → Machine → State → Event → Type 0
-IsKnown f m S event.Main = SpawnsWith f m S
-IsKnown f m S event.Take = Unit {0}
-IsKnown f m S (event.Decode o) = HasObject f o
-IsKnown f m S (event.Ack o) = Unit {0}
-IsKnown f m S (event.Open o) = HasObject f o
-IsKnown f m S (event.Use o) = HasObject f o
-IsKnown f m S (event.Ready o) = HasObject f o
-IsKnown f m S (event.Link o) = HasObject f o
-IsKnown f m S (event.Start w) = (t : ℕ) (x : Flying) → get S.flight t ≡ Some x → x.task.number ≡ t
-IsKnown f m S (event.Exec w) = Unit {0}
-IsKnown f m S (event.Finish w) = Unit {0}
-IsKnown f m S (event.Release o) = HasObject f o
-IsKnown f m S (event.Bye o) = Unit {0}
-IsKnown f m S (event.Idle v) = HasObject f v
-IsKnown f m S (event.Nack v) = HasObject f v
-IsKnown f m S (event.Retire v) = HasObject f v
-IsKnown f m S (event.Copy b) = (k : CopyState) → get S.copies b ≡ Some k → f k.version ≡ Some k.object
-IsKnown f m S (event.Gone v) = HasObject f v
+-- each task in flight stands under its number
+abbrev pub StandNumbered : State → Type 0
+StandNumbered S = (n : ℕ) (x : Flying) → get S.flight n ≡ Some x → x.task.number ≡ n
+
+-- what an event needs of the tasks
+abbrev pub IsFitting : Objects → Machine → State → Event → Type 0
+IsFitting f m S event.Main = SpawnsWith f m S
+IsFitting f m S event.Take = Unit {0}
+IsFitting f m S (event.Decode o) = Unit {0}
+IsFitting f m S (event.Ack o) = Unit {0}
+IsFitting f m S (event.Open o) = Unit {0}
+IsFitting f m S (event.Use o) = Unit {0}
+IsFitting f m S (event.Ready o) = Unit {0}
+IsFitting f m S (event.Link o) = Unit {0}
+IsFitting f m S (event.Start w) = StandNumbered S
+IsFitting f m S (event.Exec w) = Unit {0}
+IsFitting f m S (event.Finish w) = Unit {0}
+IsFitting f m S (event.Release o) = Unit {0}
+IsFitting f m S (event.Bye o) = Unit {0}
+IsFitting f m S (event.Idle v) = Unit {0}
+IsFitting f m S (event.Nack v) = Unit {0}
+IsFitting f m S (event.Retire v) = Unit {0}
+IsFitting f m S (event.Copy b) = Unit {0}
+IsFitting f m S (event.Gone v) = Unit {0}
+
+-- ---- names
+
+-- each name under which something stands has an object
+abbrev pub AreNamed : {X : Type 0} → Objects → Named X → Type 0
+AreNamed {X} f m = (o : OpName) (x : X) → get m o ≡ Some x → HasObject f o
+
+-- in each kind of messages
+pub record MailNamed (f : Objects) (m : Mail) : Type 0 where
+  pub decodes : AreNamed f m.decodes
+  pub acks : AreNamed f m.acks
+  pub opens : AreNamed f m.opens
+  pub uses : AreNamed f m.uses
+  pub readies : AreNamed f m.readies
+  pub links : AreNamed f m.links
+  pub releases : AreNamed f m.releases
+  pub byes : AreNamed f m.byes
+  pub idles : AreNamed f m.idles
+  pub nacks : AreNamed f m.nacks
+  pub retires : AreNamed f m.retires
+  pub gones : AreNamed f m.gones
+
+-- each operand in the inbox, in flight or of a message has its object, and so has what is copied
+pub record IsNamed (f : Objects) (S : State) : Type 0 where
+  pub arrivals : HasObjects f S.inbox
+  pub records : (o : OpName) (r : OperandState) → operand_at S.flight o ≡ Some r → HasObject f o
+  pub mail : MailNamed f S.mail
+  pub copies : (b : ℕ) (k : CopyState) → get S.copies b ≡ Some k → f k.version ≡ Some k.object
+
+-- each name has its object, and links stay within it
+pub record IsWithinObjects (f : Objects) (S : State) : Type 0 where
+  pub named : IsNamed f S
+  pub links : LinksStay f S
