@@ -29,3 +29,4 @@ pub mod KeptLinks
 pub mod FamilyScopes
 pub mod NamedStates
 pub mod NamedEvents
+pub mod OtherParts
