@@ -39,7 +39,8 @@ module _ (c d : Scope) (S T : State) (apart : AreApart c d) (f : ChangesOnly c S
           decodes = closed_agree _ d.names _ S.mail.decodes T.mail.decodes own f.mail.decodes closed.mail.decodes;
           opens = closed_agree _ d.names (OpeningIn d) S.mail.opens T.mail.opens own f.mail.opens closed.mail.opens;
           uses = closed_agree _ d.names d.names S.mail.uses T.mail.uses own f.mail.uses closed.mail.uses;
-          readies = closed_agree _ d.names (SourceIn d) S.mail.readies T.mail.readies out f.mail.readies closed.mail.readies;
+          readies = closed_agree _ d.names (SourceIn d) S.mail.readies T.mail.readies out f.mail.readies
+              closed.mail.readies;
           links = closed_agree _ d.names d.names S.mail.links T.mail.links out f.mail.links closed.mail.links;
           releases = closed_agree _ d.names _ S.mail.releases T.mail.releases own f.mail.releases closed.mail.releases;
           idles = closed_agree _ d.names _ S.mail.idles T.mail.idles out f.mail.idles closed.mail.idles;

@@ -1,6 +1,6 @@
 -- The records of operands stay closed under what the stations do.
 use Rattle.std.proofs.Common.{◌≡◌, ℕ, suc, ◌+◌, ◌++◌, add-zero, Bool, true, false, cond, List, [], ◌∷◌, Option, Some, None, refl, sym, ap, ◌∙◌, subst, inl, inr}
-use Rattle.std.specs.Prelude.{slice_get, option_and_then}
+use Rattle.std.specs.Prelude.{slice_get}
 use Rattle.std.specs.FinMap.{get, insert, remove}
 use Rattle.std.proofs.lemmas.Option.{none-some}
 use Rattle.tss_base.specs.declared.operand.OpName.{OpName}
@@ -17,13 +17,9 @@ use Rattle.tss_protocol.specs.Mail.{Source, Message}
 use Rattle.tss_protocol.specs.State.{OperandState, Flying}
 use Rattle.tss_protocol.specs.Stations.{is_gone, remaining_tasks, new_operand, with_operand, is_complete, task_after_ready, link_after_ready, operand_after_ready, woken_by, woken_in, after_ready, link_after_link, operand_after_link, linked_by, linked_in, after_link, release_of, releases_from, finished_in, flight_after_finish, operand_after_bye, parted_by, parted_in, after_bye, entered}
 use Rattle.tss_locality.specs.Scopes.{Scope, MaybeSourceIn, SourceIn, LinkIn, RecordIn, ClosedFlight}
-use Rattle.tss_locality.proofs.Flights.{from_set, from_mapped}
+use Rattle.tss_locality.proofs.Flights.{record_in, from_set, from_mapped}
 use Rattle.tss_locality.proofs.Tasks.{shifted, from_zero}
 use Rattle.tss_locality.proofs.ClosedMessages.{KeepAllIn}
-
--- the record of an operand in its task
-abbrev record_in : ℕ → Option Flying → Option OperandState
-record_in k x = option_and_then (λ x. slice_get x.operands k) x
 
 -- the records of a task under a number are of the scope
 abbrev pub TaskIn : Scope → ℕ → Flying → Type 0
@@ -75,7 +71,8 @@ module _ (c : Scope) (f : Numbered Flying) (closed : ClosedFlight c f) where
   passed_in (link.Held next) = tt
   passed_in link.Passed = tt
 
-  awaited_in : (n : ℕ) (y : Flying) → TaskIn c n y → (b : Bool) → TaskIn c n (cond b (record y { stage = stage.Queued }) y)
+  awaited_in : (n : ℕ) (y : Flying) → TaskIn c n y → (b : Bool) →
+      TaskIn c n (cond b (record y { stage = stage.Queued }) y)
   awaited_in n y i true = i
   awaited_in n y i false = i
 
@@ -85,7 +82,8 @@ module _ (c : Scope) (f : Numbered Flying) (closed : ClosedFlight c f) where
   woken_by_closed o s x there i (Some r) =
       let y = task_after_ready x o.place r s in
       closed_flight_put o.task (cond (is_complete y) (record y { stage = stage.Queued }) y)
-      (awaited_in o.task y (task_in_with o x (operand_after_ready r s) there (λ p. record { source = i; link = passed_in r.link }))
+      (awaited_in o.task y (task_in_with o x (operand_after_ready r s) there
+      (λ p. record { source = i; link = passed_in r.link }))
       (is_complete y))
 
   woken_in_closed : (o : OpName) (s : Source) → SourceIn c s → (x : Option Flying) → get f o.task ≡ x →
@@ -170,7 +168,8 @@ module _ (c : Scope) (f : Numbered Flying) (closed : ClosedFlight c f) where
 
   finished_keep : (n : ℕ) (x : Option Flying) → get f n ≡ x → KeepAllIn c (finished_in f n x).sent
   finished_keep n None there = tt
-  finished_keep n (Some x) there = releases_keep n 0 x.operands (λ j r p e. task_in n x there j r (subst (λ j. c.names (operand_name n j)) (from_zero j) p) e)
+  finished_keep n (Some x) there = releases_keep n 0 x.operands
+      (λ j r p e. task_in n x there j r (subst (λ j. c.names (operand_name n j)) (from_zero j) p) e)
 
   -- the releases name what the records name
   pub finish_keeps : (n : ℕ) → KeepAllIn c (flight_after_finish f n).sent

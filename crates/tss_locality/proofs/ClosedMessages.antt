@@ -55,56 +55,76 @@ module _ (c : Scope) where
     -- a message with such contents is sent
     pub closed_posted : (x : Message) → KeepsIn c x → ClosedMail c (posted m x)
     closed_posted (Decode o operand) p =
-        mail_closed (posted m (Decode o operand)) (closed_put name_order c.names (λ p. c.objects p.object) m.decodes o operand f.decodes p) f.opens f.uses f.readies f.links f.releases f.idles f.gones
+        mail_closed (posted m (Decode o operand))
+        (closed_put name_order c.names (λ p. c.objects p.object) m.decodes o operand f.decodes p) f.opens f.uses
+        f.readies f.links f.releases f.idles f.gones
     closed_posted (Ack o) p =
         mail_closed (posted m (Ack o)) f.decodes f.opens f.uses f.readies f.links f.releases f.idles f.gones
     closed_posted (Open o x) p =
-        mail_closed (posted m (Open o x)) f.decodes (closed_put name_order c.names (OpeningIn c) m.opens o x f.opens p) f.uses f.readies f.links f.releases f.idles f.gones
+        mail_closed (posted m (Open o x)) f.decodes
+        (closed_put name_order c.names (OpeningIn c) m.opens o x f.opens p) f.uses f.readies f.links f.releases
+        f.idles f.gones
     closed_posted (Use o v) p =
-        mail_closed (posted m (Use o v)) f.decodes f.opens (closed_put name_order c.names c.names m.uses o v f.uses p) f.readies f.links f.releases f.idles f.gones
+        mail_closed (posted m (Use o v)) f.decodes f.opens
+        (closed_put name_order c.names c.names m.uses o v f.uses p) f.readies f.links f.releases f.idles f.gones
     closed_posted (Ready o s) p =
-        mail_closed (posted m (Ready o s)) f.decodes f.opens f.uses (closed_put name_order c.names (SourceIn c) m.readies o s f.readies p) f.links f.releases f.idles f.gones
+        mail_closed (posted m (Ready o s)) f.decodes f.opens f.uses
+        (closed_put name_order c.names (SourceIn c) m.readies o s f.readies p) f.links f.releases f.idles f.gones
     closed_posted (Link o next) p =
-        mail_closed (posted m (Link o next)) f.decodes f.opens f.uses f.readies (closed_put name_order c.names c.names m.links o next f.links p) f.releases f.idles f.gones
+        mail_closed (posted m (Link o next)) f.decodes f.opens f.uses f.readies
+        (closed_put name_order c.names c.names m.links o next f.links p) f.releases f.idles f.gones
     closed_posted (Release o r) p =
-        mail_closed (posted m (Release o r)) f.decodes f.opens f.uses f.readies f.links (closed_put name_order c.names (λ r. c.names r.version) m.releases o r f.releases p) f.idles f.gones
+        mail_closed (posted m (Release o r)) f.decodes f.opens f.uses f.readies f.links
+        (closed_put name_order c.names (λ r. c.names r.version) m.releases o r f.releases p) f.idles f.gones
     closed_posted (Bye o promised) p =
         mail_closed (posted m (Bye o promised)) f.decodes f.opens f.uses f.readies f.links f.releases f.idles f.gones
     closed_posted (Idle v i) p =
-        mail_closed (posted m (Idle v i)) f.decodes f.opens f.uses f.readies f.links f.releases (closed_put name_order c.names (λ i. IsBase c i.base) m.idles v i f.idles p) f.gones
+        mail_closed (posted m (Idle v i)) f.decodes f.opens f.uses f.readies f.links f.releases
+        (closed_put name_order c.names (λ i. IsBase c i.base) m.idles v i f.idles p) f.gones
     closed_posted (Nack v) p =
         mail_closed (posted m (Nack v)) f.decodes f.opens f.uses f.readies f.links f.releases f.idles f.gones
     closed_posted (Retire v) p =
         mail_closed (posted m (Retire v)) f.decodes f.opens f.uses f.readies f.links f.releases f.idles f.gones
     closed_posted (Gone v g) p =
-        mail_closed (posted m (Gone v g)) f.decodes f.opens f.uses f.readies f.links f.releases f.idles (closed_put name_order c.names (GoingIn c) m.gones v g f.gones p)
+        mail_closed (posted m (Gone v g)) f.decodes f.opens f.uses f.readies f.links f.releases f.idles
+        (closed_put name_order c.names (GoingIn c) m.gones v g f.gones p)
 
     -- a message is taken
     pub closed_taken : (e : Event) → ClosedMail c (taken m e)
     closed_taken (event.Decode o) =
-        mail_closed (taken m (event.Decode o)) (closed_removed name_order c.names (λ p. c.objects p.object) m.decodes o f.decodes) f.opens f.uses f.readies f.links f.releases f.idles f.gones
+        mail_closed (taken m (event.Decode o))
+        (closed_removed name_order c.names (λ p. c.objects p.object) m.decodes o f.decodes) f.opens f.uses
+        f.readies f.links f.releases f.idles f.gones
     closed_taken (event.Ack o) =
         mail_closed (taken m (event.Ack o)) f.decodes f.opens f.uses f.readies f.links f.releases f.idles f.gones
     closed_taken (event.Open o) =
-        mail_closed (taken m (event.Open o)) f.decodes (closed_removed name_order c.names (OpeningIn c) m.opens o f.opens) f.uses f.readies f.links f.releases f.idles f.gones
+        mail_closed (taken m (event.Open o)) f.decodes
+        (closed_removed name_order c.names (OpeningIn c) m.opens o f.opens) f.uses f.readies f.links f.releases
+        f.idles f.gones
     closed_taken (event.Use o) =
-        mail_closed (taken m (event.Use o)) f.decodes f.opens (closed_removed name_order c.names c.names m.uses o f.uses) f.readies f.links f.releases f.idles f.gones
+        mail_closed (taken m (event.Use o)) f.decodes f.opens
+        (closed_removed name_order c.names c.names m.uses o f.uses) f.readies f.links f.releases f.idles f.gones
     closed_taken (event.Ready o) =
-        mail_closed (taken m (event.Ready o)) f.decodes f.opens f.uses (closed_removed name_order c.names (SourceIn c) m.readies o f.readies) f.links f.releases f.idles f.gones
+        mail_closed (taken m (event.Ready o)) f.decodes f.opens f.uses
+        (closed_removed name_order c.names (SourceIn c) m.readies o f.readies) f.links f.releases f.idles f.gones
     closed_taken (event.Link o) =
-        mail_closed (taken m (event.Link o)) f.decodes f.opens f.uses f.readies (closed_removed name_order c.names c.names m.links o f.links) f.releases f.idles f.gones
+        mail_closed (taken m (event.Link o)) f.decodes f.opens f.uses f.readies
+        (closed_removed name_order c.names c.names m.links o f.links) f.releases f.idles f.gones
     closed_taken (event.Release o) =
-        mail_closed (taken m (event.Release o)) f.decodes f.opens f.uses f.readies f.links (closed_removed name_order c.names (λ r. c.names r.version) m.releases o f.releases) f.idles f.gones
+        mail_closed (taken m (event.Release o)) f.decodes f.opens f.uses f.readies f.links
+        (closed_removed name_order c.names (λ r. c.names r.version) m.releases o f.releases) f.idles f.gones
     closed_taken (event.Bye o) =
         mail_closed (taken m (event.Bye o)) f.decodes f.opens f.uses f.readies f.links f.releases f.idles f.gones
     closed_taken (event.Idle o) =
-        mail_closed (taken m (event.Idle o)) f.decodes f.opens f.uses f.readies f.links f.releases (closed_removed name_order c.names (λ i. IsBase c i.base) m.idles o f.idles) f.gones
+        mail_closed (taken m (event.Idle o)) f.decodes f.opens f.uses f.readies f.links f.releases
+        (closed_removed name_order c.names (λ i. IsBase c i.base) m.idles o f.idles) f.gones
     closed_taken (event.Nack o) =
         mail_closed (taken m (event.Nack o)) f.decodes f.opens f.uses f.readies f.links f.releases f.idles f.gones
     closed_taken (event.Retire o) =
         mail_closed (taken m (event.Retire o)) f.decodes f.opens f.uses f.readies f.links f.releases f.idles f.gones
     closed_taken (event.Gone o) =
-        mail_closed (taken m (event.Gone o)) f.decodes f.opens f.uses f.readies f.links f.releases f.idles (closed_removed name_order c.names (GoingIn c) m.gones o f.gones)
+        mail_closed (taken m (event.Gone o)) f.decodes f.opens f.uses f.readies f.links f.releases f.idles
+        (closed_removed name_order c.names (GoingIn c) m.gones o f.gones)
     closed_taken event.Main = f
     closed_taken event.Take = f
     closed_taken (event.Start n) = f
@@ -113,7 +133,8 @@ module _ (c : Scope) where
     closed_taken (event.Copy n) = f
 
   -- messages with such contents are sent
-  pub closed_posted_all : (m : Mail) → ClosedMail c m → (xs : List Message) → KeepAllIn c xs → ClosedMail c (posted_all m xs)
+  pub closed_posted_all : (m : Mail) → ClosedMail c m → (xs : List Message) → KeepAllIn c xs →
+      ClosedMail c (posted_all m xs)
   closed_posted_all m f [] p = f
   closed_posted_all m f (x ∷ xs) p = closed_posted_all (posted m x) (closed_posted m f x p.0) xs p.1
 

@@ -56,6 +56,7 @@ module _ (c : Scope) (m : Machine) (S : State) (closed : Closed c S) where
       closed_versioned c S closed (event.Open o) (after_open S.versions o x)
       (stays_open c S.versions closed.versions o x own.0 (closed.mail.opens o x own.0 there))
 
+  -- a closed scope with its operand stays closed after open
   pub Closed-open : (o : OpName) → IsOwn c o → Closed c (after_event m S (event.Open o))
   unfolding after_event
   Closed-open o own = open_closed o own (get S.mail.opens o) refl
@@ -67,6 +68,7 @@ module _ (c : Scope) (m : Machine) (S : State) (closed : Closed c S) where
       closed_versioned c S closed (event.Use o) (after_use S.versions o v)
       (stays_use c S.versions closed.versions o v own.0 (closed.mail.uses o v own.0 there))
 
+  -- a closed scope with its operand stays closed after use
   pub Closed-use : (o : OpName) → IsOwn c o → Closed c (after_event m S (event.Use o))
   unfolding after_event
   Closed-use o own = use_closed o own (get S.mail.uses o) refl
@@ -78,10 +80,12 @@ module _ (c : Scope) (m : Machine) (S : State) (closed : Closed c S) where
       closed_versioned c S closed (event.Release o) (after_release S.versions o r)
       (stays_release c S.versions closed.versions o r own (closed.mail.releases o r own.0 there))
 
+  -- a closed scope with its operand stays closed after release
   pub Closed-release : (o : OpName) → IsOwn c o → Closed c (after_event m S (event.Release o))
   unfolding after_event
   Closed-release o own = release_closed o own (get S.mail.releases o) refl
 
+  -- a closed scope with its version stays closed after nack
   pub Closed-nack : (v : OpName) → c.names v → Closed c (after_event m S (event.Nack v))
   unfolding after_event
   Closed-nack v p =
@@ -97,13 +101,14 @@ module _ (c : Scope) (m : Machine) (S : State) (closed : Closed c S) where
       let w = after_ready S.flight o s in
       let T = without S (event.Ready o) in
       let in_flight = closed_flight c T (closed_without c S closed (event.Ready o)) w.flight
-          (closed_ready c S.flight closed.flight o s i) in
+      (closed_ready c S.flight closed.flight o s i) in
       let A : State = record T { flight = w.flight } in
       closed_sent c (record A { queue = queue_with S.queue o.task w.queued })
       (closed_by c (record A { queue = queue_with S.queue o.task w.queued }) in_flight.arrivals in_flight.flight
       in_flight.workers in_flight.entries in_flight.versions in_flight.mail in_flight.copies)
       w.sent (keep_all_from_in c w.sent (ready_only c S.flight closed.flight o s own i).sent)
 
+  -- a closed scope with its operand stays closed after ready
   pub Closed-ready : (o : OpName) → IsOwn c o → Closed c (after_event m S (event.Ready o))
   unfolding after_event
   Closed-ready o own = ready_closed o own (get S.mail.readies o) refl
@@ -116,16 +121,19 @@ module _ (c : Scope) (m : Machine) (S : State) (closed : Closed c S) where
       let d = after_link S.flight o next in
       let T = without S (event.Link o) in
       closed_sent c (record T { flight = d.part })
-      (closed_flight c T (closed_without c S closed (event.Link o)) d.part (closed_link c S.flight closed.flight o next p))
+      (closed_flight c T (closed_without c S closed (event.Link o)) d.part
+      (closed_link c S.flight closed.flight o next p))
       d.sent (keep_all_from_in c d.sent (link_only c S.flight closed.flight o next own p).sent)
 
+  -- a closed scope with its operand stays closed after link
   pub Closed-link : (o : OpName) → IsOwn c o → Closed c (after_event m S (event.Link o))
   unfolding after_event
   Closed-link o own = link_closed o own (get S.mail.links o) refl
 
   -- ---- decode
 
-  live_latest : (o : OpName) (e : Entry) (mode : Mode) → c.names o → c.names e.latest → c.names (live_entry o e mode).latest
+  live_latest : (o : OpName) (e : Entry) (mode : Mode) → c.names o → c.names e.latest →
+      c.names (live_entry o e mode).latest
   live_latest o e Input p q = q
   live_latest o e Output p q = p
   live_latest o e Inout p q = p
@@ -142,7 +150,8 @@ module _ (c : Scope) (m : Machine) (S : State) (closed : Closed c S) where
     | inr old ↦ closed.entries x y object old.1
   ]
 
-  decoded_closed : (o : OpName) (p : Operand) (bank : ℕ) (e : Option Entry) → get S.entries p.object.base ≡ e → IsOwn c o →
+  decoded_closed : (o : OpName) (p : Operand) (bank : ℕ) (e : Option Entry) → get S.entries p.object.base ≡ e →
+      IsOwn c o →
       c.objects p.object → Closed c (with_decoded (without S (event.Decode o)) (decoded_by (tables_of S) o p bank e))
   decoded_closed o p bank e there own object =
       let d = decoded_by (tables_of S) o p bank e in
@@ -151,7 +160,8 @@ module _ (c : Scope) (m : Machine) (S : State) (closed : Closed c S) where
       let A : State = record T { entries = d.part.entries; places = d.part.places; buffers = d.part.buffers } in
       closed_sent c A
       (closed_by c A f.arrivals f.flight f.workers
-      (entries_put p.object.base (entry_after_decode o p e) (decoded_latest o p e there own.0 object)) f.versions f.mail f.copies)
+      (entries_put p.object.base (entry_after_decode o p e) (decoded_latest o p e there own.0 object)) f.versions
+      f.mail f.copies)
       d.sent (keep_all_from_in c d.sent (decode_message_in c m S closed o p e there own object, (own, tt)))
 
   decode_closed : (o : OpName) → IsOwn c o → (p : Option Operand) → get S.mail.decodes o ≡ p →
@@ -161,6 +171,7 @@ module _ (c : Scope) (m : Machine) (S : State) (closed : Closed c S) where
       decoded_closed o p (bank_of m.sizes p.object) (get S.entries p.object.base) refl own
       (closed.mail.decodes o p own.0 there)
 
+  -- a closed scope with its operand stays closed after decode
   pub Closed-decode : (o : OpName) → IsOwn c o → Closed c (after_event m S (event.Decode o))
   unfolding after_event
   Closed-decode o own = decode_closed o own (get S.mail.decodes o) refl
@@ -172,7 +183,8 @@ module _ (c : Scope) (m : Machine) (S : State) (closed : Closed c S) where
   answered_closed v x (Some e) true there object =
       let T = without S (event.Idle v) in
       closed_sent c (record T { entries = insert S.entries x.base (record e { retiring = true }) })
-      (closed_entries c T (closed_without c S closed (event.Idle v)) (insert S.entries x.base (record e { retiring = true }))
+      (closed_entries c T (closed_without c S closed (event.Idle v))
+      (insert S.entries x.base (record e { retiring = true }))
       (entries_put x.base (record e { retiring = true }) (closed.entries x e object there)))
       (idle_by S.entries v x.base (Some e) true).sent (tt, tt)
   answered_closed v x None true there object =
@@ -187,10 +199,13 @@ module _ (c : Scope) (m : Machine) (S : State) (closed : Closed c S) where
   idle_closed v p None there = closed_without c S closed (event.Idle v)
   idle_closed v p (Some i) there =
       let base = closed.mail.idles v i p there in
-      subst (λ b. Closed c (with_entries (without S (event.Idle v)) (idle_by S.entries v b (get S.entries b) (may_retire v i.count (get S.entries b)))))
+      subst (λ b. Closed c (with_entries (without S (event.Idle v))
+      (idle_by S.entries v b (get S.entries b) (may_retire v i.count (get S.entries b)))))
       (sym base.2)
-      (answered_closed v base.0 (get S.entries base.0.base) (may_retire v i.count (get S.entries base.0.base)) refl base.1)
+      (answered_closed v base.0 (get S.entries base.0.base) (may_retire v i.count (get S.entries base.0.base)) refl
+      base.1)
 
+  -- a closed scope with its version stays closed after idle
   pub Closed-idle : (v : OpName) → c.names v → Closed c (after_event m S (event.Idle v))
   unfolding after_event
   Closed-idle v p = idle_closed v p (get S.mail.idles v) refl
@@ -208,6 +223,7 @@ module _ (c : Scope) (m : Machine) (S : State) (closed : Closed c S) where
       closed_by c (gone_message_taken (without S (event.Gone v)) v (Some g)) f.arrivals f.flight f.workers
       (entries_left g.object.base g.retired) f.versions f.mail f.copies
 
+  -- every closed scope stays closed after gone
   pub Closed-gone : (v : OpName) → Closed c (after_event m S (event.Gone v))
   unfolding after_event
   Closed-gone v = gone_closed v (get S.mail.gones v)
@@ -244,13 +260,15 @@ module _ (c : Scope) (m : Machine) (S : State) (closed : Closed c S) where
       (copies_retired (bank_of m.sizes x.object) v x.object x.storage p i.storage))
       (sent_by_retire v x.object x.storage) (retire_keeps v x.object x.storage i.object)
 
+  -- a closed scope with its version stays closed after retire
   pub Closed-retire : (v : OpName) → c.names v → Closed c (after_event m S (event.Retire v))
   unfolding after_event
   Closed-retire v p = retire_closed v p (get S.versions v) refl
 
   -- ---- copy
 
-  copies_moved : (b : ℕ) (k : CopyState) → CopyIn c k → (last : Bool) → ClosedCopies c (copies_after_copy S.copies b k last)
+  copies_moved : (b : ℕ) (k : CopyState) → CopyIn c k → (last : Bool) →
+      ClosedCopies c (copies_after_copy S.copies b k last)
   copies_moved b k i true q l object there = closed.copies q l object (from_removed nat_order S.copies b q l there).1
   copies_moved b k i false q l object there =
       elim (from_inserted nat_order S.copies b (record k { moved = k.moved + piece_len k }) q l there) [
@@ -276,6 +294,7 @@ module _ (c : Scope) (m : Machine) (S : State) (closed : Closed c S) where
       (copies_moved b k i (is_last_piece k)))
       (sent_by_copy k (is_last_piece k)) (copy_keeps k (is_last_piece k) i object)
 
+  -- a closed scope with the copied object stays closed after copy
   pub Closed-copy : (b : ℕ) → ((k : CopyState) → get S.copies b ≡ Some k → c.objects k.object) →
       Closed c (after_event m S (event.Copy b))
   unfolding after_event

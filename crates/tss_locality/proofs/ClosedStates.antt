@@ -15,7 +15,8 @@ ClosedInbox c inbox = (o : OpName) (p : Operand) → c.names o → operand_in in
 
 module _ (c : Scope) (S : State) where
   -- by its fields, in their order
-  pub closed_by : ClosedInbox c S.inbox → ClosedFlight c S.flight → ClosedWorkers c S.workers → ClosedEntries c S.entries
+  pub closed_by : ClosedInbox c S.inbox → ClosedFlight c S.flight → ClosedWorkers c S.workers →
+      ClosedEntries c S.entries
       → ClosedVersions c S.versions → ClosedMail c S.mail → ClosedCopies c S.copies → Closed c S
   closed_by a f w e v m k = record {
     arrivals = a;
@@ -28,23 +29,31 @@ module _ (c : Scope) (S : State) where
   }
 
 module _ (c : Scope) (S : State) (f : Closed c S) where
+  -- another inbox
   pub closed_inbox : (x : Option Task) → ClosedInbox c x → Closed c (record S { inbox = x })
   closed_inbox x p = closed_by c (record S { inbox = x }) p f.flight f.workers f.entries f.versions f.mail f.copies
 
+  -- other tasks in flight
   pub closed_flight : (x : Numbered Flying) → ClosedFlight c x → Closed c (record S { flight = x })
   closed_flight x p = closed_by c (record S { flight = x }) f.arrivals p f.workers f.entries f.versions f.mail f.copies
 
+  -- other workers
   pub closed_workers : (x : Numbered Busy) → ClosedWorkers c x → Closed c (record S { workers = x })
   closed_workers x p = closed_by c (record S { workers = x }) f.arrivals f.flight p f.entries f.versions f.mail f.copies
 
+  -- other entries
   pub closed_entries : (x : Numbered Entry) → ClosedEntries c x → Closed c (record S { entries = x })
   closed_entries x p = closed_by c (record S { entries = x }) f.arrivals f.flight f.workers p f.versions f.mail f.copies
 
+  -- other versions
   pub closed_versions : (x : Named Version) → ClosedVersions c x → Closed c (record S { versions = x })
-  closed_versions x p = closed_by c (record S { versions = x }) f.arrivals f.flight f.workers f.entries p f.mail f.copies
+  closed_versions x p = closed_by c (record S { versions = x }) f.arrivals f.flight f.workers f.entries p f.mail
+      f.copies
 
+  -- other messages
   pub closed_mail : (x : Mail) → ClosedMail c x → Closed c (record S { mail = x })
   closed_mail x p = closed_by c (record S { mail = x }) f.arrivals f.flight f.workers f.entries f.versions p f.copies
 
+  -- other copies
   pub closed_copies : (x : Numbered CopyState) → ClosedCopies c x → Closed c (record S { copies = x })
   closed_copies x p = closed_by c (record S { copies = x }) f.arrivals f.flight f.workers f.entries f.versions f.mail p

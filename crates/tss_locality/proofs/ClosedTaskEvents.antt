@@ -35,6 +35,7 @@ use Rattle.tss_locality.proofs.ClosedObjectEvents.{closed_without, closed_sent}
 module _ (c : Scope) (m : Machine) (S : State) (closed : Closed c S) where
   -- ---- ack, bye
 
+  -- every closed scope stays closed after ack
   pub Closed-ack : (o : OpName) → Closed c (after_event m S (event.Ack o))
   unfolding after_event
   Closed-ack o =
@@ -48,6 +49,7 @@ module _ (c : Scope) (m : Machine) (S : State) (closed : Closed c S) where
       closed_by c (bye_message_taken (without S (event.Bye o)) o (Some promised)) f.arrivals
       (closed_bye c S.flight closed.flight o promised) f.workers f.entries f.versions f.mail f.copies
 
+  -- every closed scope stays closed after bye
   pub Closed-bye : (o : OpName) → Closed c (after_event m S (event.Bye o))
   unfolding after_event
   Closed-bye o = bye_closed o (get S.mail.byes o)
@@ -61,9 +63,10 @@ module _ (c : Scope) (m : Machine) (S : State) (closed : Closed c S) where
       ((j : ℕ) (p : Operand) → c.names (operand_name n (k + j)) → slice_get os j ≡ Some p → c.objects p.object) →
       KeepAllIn c (decodes_from n k os)
   decodes_keep n k [] i = tt
-  decodes_keep n k (o ∷ os) i =
-      (λ p. i 0 o (subst (λ j. c.names (operand_name n j)) (sym (add-zero k)) p) refl,
-      decodes_keep n (suc k) os (λ j q p e. i (suc j) q (subst (λ j. c.names (operand_name n j)) (shifted k j) p) e))
+  decodes_keep n k (o ∷ os) i = (
+    λ p. i 0 o (subst (λ j. c.names (operand_name n j)) (sym (add-zero k)) p) refl,
+    decodes_keep n (suc k) os (λ j q p e. i (suc j) q (subst (λ j. c.names (operand_name n j)) (shifted k j) p) e),
+  )
 
   take_closed : (t : Option Task) → S.inbox ≡ t → Closed c (after_take S t)
   take_closed None there = closed
@@ -79,6 +82,7 @@ module _ (c : Scope) (m : Machine) (S : State) (closed : Closed c S) where
       (subst (λ j. c.names (operand_name n j)) (from_zero j) in_c)
       (ap (λ i. operand_in i (operand_name n j)) there ∙ own_arrival t j ∙ e)))
 
+  -- every closed scope stays closed after take
   pub Closed-take : Closed c (after_event m S event.Take)
   unfolding after_event
   Closed-take = take_closed S.inbox refl
@@ -99,7 +103,8 @@ module _ (c : Scope) (m : Machine) (S : State) (closed : Closed c S) where
   started_worker t x there number k s p e =
       let told = from_mapped (λ r. storage_of r.source) x.operands k s e in
       subst (StorageIn c) told.2 (told_storage told.0.source
-      (task_in c S.flight closed.flight t x there k told.0 (subst (λ n. c.names (operand_name n k)) number p) told.1).source)
+      (task_in c S.flight closed.flight t x there k told.0 (subst (λ n. c.names (operand_name n k)) number p)
+      told.1).source)
 
   start_task_closed : (w t : ℕ) (ts : List ℕ) (x : Option Flying) → get S.flight t ≡ x →
       ((x : Flying) → get S.flight t ≡ Some x → x.task.number ≡ t) → Closed c (start_task m S w t ts x)
@@ -116,6 +121,7 @@ module _ (c : Scope) (m : Machine) (S : State) (closed : Closed c S) where
   start_closed w [] number = closed
   start_closed w (t ∷ ts) number = start_task_closed w t ts (get S.flight t) refl (number t)
 
+  -- and after start, where tasks in flight stand under their numbers
   pub Closed-start : (w : ℕ) → ((t : ℕ) (x : Flying) → get S.flight t ≡ Some x → x.task.number ≡ t) →
       Closed c (after_event m S (event.Start w))
   unfolding after_event
@@ -129,6 +135,7 @@ module _ (c : Scope) (m : Machine) (S : State) (closed : Closed c S) where
       (worker_put w (busy_after b after) (closed.workers w b there))
       closed.entries closed.versions closed.mail closed.copies
 
+  -- every closed scope stays closed after exec
   pub Closed-exec : (w : ℕ) → Closed c (after_event m S (event.Exec w))
   unfolding after_event
   Closed-exec w = exec_closed w (get S.workers w) refl
@@ -146,20 +153,23 @@ module _ (c : Scope) (m : Machine) (S : State) (closed : Closed c S) where
       closed.entries closed.versions closed.mail closed.copies)
       d.sent (finish_keeps c S.flight closed.flight n)
 
+  -- every closed scope stays closed after finish
   pub Closed-finish : (w : ℕ) → Closed c (after_event m S (event.Finish w))
   unfolding after_event
   Closed-finish w = finish_closed w (get S.workers w)
 
   -- ---- main
 
-  called_closed : (r : MainState × Option Task) → ((t : Task) → r.1 ≡ Some t → ClosedInbox c (Some t)) → Closed c (after_call S r)
+  called_closed : (r : MainState × Option Task) → ((t : Task) → r.1 ≡ Some t → ClosedInbox c (Some t)) →
+      Closed c (after_call S r)
   called_closed (main, None) i = closed_by c (record S { main = main }) closed.arrivals closed.flight closed.workers
       closed.entries closed.versions closed.mail closed.copies
   called_closed (main, Some t) i = closed_by c (record S { main = main; inbox = Some t }) (i t refl) closed.flight
       closed.workers closed.entries closed.versions closed.mail closed.copies
 
   main_closed : (call : Option Call) →
-      ((x : Call) → call ≡ Some x → (t : Task) → (main_call m.limits S.home S.main x).1 ≡ Some t → ClosedInbox c (Some t)) →
+      ((x : Call) → call ≡ Some x → (t : Task) → (main_call m.limits S.home S.main x).1 ≡ Some t →
+      ClosedInbox c (Some t)) →
       Closed c (main_by m S call)
   main_closed None i = closed_by c (main_by m S None) closed.arrivals closed.flight closed.workers closed.entries
       closed.versions closed.mail closed.copies
@@ -170,6 +180,7 @@ module _ (c : Scope) (m : Machine) (S : State) (closed : Closed c S) where
   SpawnsClosed = (x : Call) → call_next m S ≡ Some x → (t : Task) →
       (main_call m.limits S.home S.main x).1 ≡ Some t → ClosedInbox c (Some t)
 
+  -- and after main, where what it spawns agrees with the scope
   pub Closed-main : SpawnsClosed → Closed c (after_event m S event.Main)
   unfolding after_event
   Closed-main i = main_closed (call_next m S) i

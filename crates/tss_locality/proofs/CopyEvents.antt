@@ -47,7 +47,7 @@ module _ (c : Scope) (m : Machine) (S : State) (closed : Closed c S) where
   copies_only b v x (Some Home) p on q = same_for IsCopiedElsewhere (get S.copies q)
   copies_only b v x (Some (Buffer n)) p on q =
       same_for_inserted nat_order IsCopiedElsewhere S.copies b (nothing_copied b (get S.copies b) refl on)
-          (new_copy v x n) (λ out. out p) q
+      (new_copy v x n) (λ out. out p) q
 
   retire_sent : (v : OpName) (x : Range) (s : Option StorageName) → c.names v → AreSentIn c (sent_by_retire v x s)
   retire_sent v x None p = tt
@@ -70,12 +70,13 @@ module _ (c : Scope) (m : Machine) (S : State) (closed : Closed c S) where
       copies (copies_only bank v x.object x.storage i.object on))
       (sent_by_retire v x.object x.storage) (retire_sent v x.object x.storage p)
 
+  -- retire changes only what its version's scope has
   pub ChangesOnly-retire : (v : OpName) → IsEnabled m S (event.Retire v) → c.names v →
       ChangesOnly c S (after_event m S (event.Retire v))
   unfolding after_event is_enabled
   ChangesOnly-retire v on p =
       retired v p (get S.versions v) refl
-          (and_parts (is_some (get S.mail.retires v)) (can_retire m S (get S.versions v)) on).1
+      (and_parts (is_some (get S.mail.retires v)) (can_retire m S (get S.versions v)) on).1
 
   -- ---- copy
 
@@ -89,9 +90,15 @@ module _ (c : Scope) (m : Machine) (S : State) (closed : Closed c S) where
       IsWrittenIn c (k.object.base + k.moved) (piece_of k bytes)
   piece_inside k bytes p a low high =
       let short = length-take (piece_len k) (drop k.moved bytes) in
-      let start : k.object.base ≤ a = omega (arith, low) in
-      (k.object, p, (start, piece_ends k.object.base k.object.len k.moved (length (drop k.moved bytes))
-          (length (piece_of k bytes)) a short low high))
+      let start : k.object.base ≤ a = omega (arith, low) in (
+        k.object,
+        p,
+        (
+          start,
+          piece_ends k.object.base k.object.len k.moved (length (drop k.moved bytes))
+              (length (piece_of k bytes)) a short low high,
+        ),
+      )
 
   copies_moved : (b : ℕ) (k : CopyState) → get S.copies b ≡ Some k → c.objects k.object → (last : Bool) → (q : ℕ) →
       SameFor IsCopiedElsewhere (get S.copies q) (get (copies_after_copy S.copies b k last) q)
@@ -122,6 +129,7 @@ module _ (c : Scope) (m : Machine) (S : State) (closed : Closed c S) where
       copies (copies_moved b k there object (is_last_piece k)))
       (sent_by_copy k (is_last_piece k)) (copy_sent k (is_last_piece k) (closed.copies b k object there).version)
 
+  -- copy changes only what the scope of the copied object has
   pub ChangesOnly-copy : (b : ℕ) → ((k : CopyState) → get S.copies b ≡ Some k → c.objects k.object) →
       ChangesOnly c S (after_event m S (event.Copy b))
   unfolding after_event

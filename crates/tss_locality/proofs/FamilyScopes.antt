@@ -93,18 +93,24 @@ closed_family d S made = record {
       storage_more t.0 d t.1.within s (t.1.closed.workers w b there k s t.2 e);
   entries = λ x e in_d there.
       let t = made.of_object x in_d in t.1.within.names e.latest (t.1.closed.entries x e t.2 there);
-  versions = λ v x in_d e. let t = made.of_name v in_d in version_more t.0 d t.1.within x (t.1.closed.versions v x t.2 e);
+  versions = λ v x in_d e. let t = made.of_name v in_d in version_more t.0 d t.1.within x
+      (t.1.closed.versions v x t.2 e);
   mail = record {
     decodes = λ o p in_d e.
         let t = made.of_name o in_d in t.1.within.objects p.object (t.1.closed.mail.decodes o p t.2 e);
-    opens = λ o x in_d e. let t = made.of_name o in_d in opening_more t.0 d t.1.within x (t.1.closed.mail.opens o x t.2 e);
+    opens = λ o x in_d e. let t = made.of_name o in_d in opening_more t.0 d t.1.within x
+        (t.1.closed.mail.opens o x t.2 e);
     uses = λ o v in_d e. let t = made.of_name o in_d in t.1.within.names v (t.1.closed.mail.uses o v t.2 e);
-    readies = λ o s in_d e. let t = made.of_name o in_d in source_more t.0 d t.1.within s (t.1.closed.mail.readies o s t.2 e);
+    readies = λ o s in_d e. let t = made.of_name o in_d in source_more t.0 d t.1.within s
+        (t.1.closed.mail.readies o s t.2 e);
     links = λ o n in_d e. let t = made.of_name o in_d in t.1.within.names n (t.1.closed.mail.links o n t.2 e);
     releases = λ o r in_d e.
         let t = made.of_name o in_d in t.1.within.names r.version (t.1.closed.mail.releases o r t.2 e);
-    idles = λ v i in_d e. let t = made.of_name v in_d in base_more t.0 d t.1.within i.base (t.1.closed.mail.idles v i t.2 e);
-    gones = λ v g in_d e. let t = made.of_name v in_d in going_more t.0 d t.1.within g (t.1.closed.mail.gones v g t.2 e);
+    idles = λ v i in_d e. let t = made.of_name v in_d in base_more t.0 d t.1.within i.base
+        (t.1.closed.mail.idles v i t.2 e);
+    gones = λ v g in_d e. let t = made.of_name v in_d in going_more t.0 d t.1.within g
+        (t.1.closed.mail.gones v g t.2 e);
   };
-  copies = λ b k in_d e. let t = made.of_object k.object in_d in copy_more t.0 d t.1.within k (t.1.closed.copies b k t.2 e);
+  copies = λ b k in_d e. let t = made.of_object k.object in_d in copy_more t.0 d t.1.within k
+      (t.1.closed.copies b k t.2 e);
 }

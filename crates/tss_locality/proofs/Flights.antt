@@ -78,7 +78,7 @@ keeps_with_operand c o x r p = record {
 }
 
 -- the record of an operand in its task
-abbrev record_in : ℕ → Option Flying → Option OperandState
+abbrev pub record_in : ℕ → Option Flying → Option OperandState
 record_in k x = option_and_then (λ x. slice_get x.operands k) x
 
 module _ (c : Scope) (f : Numbered Flying) (n : ℕ) (x y : Flying) (own : c.tasks n) (there : get f n ≡ Some x)
@@ -117,7 +117,7 @@ module _ (c : Scope) (f : Numbered Flying) (n : ℕ) (x y : Flying) (own : c.tas
       subst (λ r. (r ≡ None) ⊎ IsOut r)
       (kept.records o.place (beyond_at o same out) ∙ sym (old_record o same))
       (all_out y.operands o.place (and_parts (has_finished y.stage) (list_all (λ r. has_left r.farewell) y.operands)
-          gone).1)
+      gone).1)
 
   no_record : (o : OpName) → o.task ≡ n → operand_at (remove f n) o ≡ None
   no_record o same = ap (record_in o.place) (ap (get (remove f n)) same ∙ at_removed nat_order f n)

@@ -1,6 +1,5 @@
 -- Links stay within each object, in the first state and after every event.
 use Rattle.std.proofs.Common.{◌≡◌, ℕ, Option, Some, None, refl, sym, ap, ◌∙◌, subst, inl, inr}
-use Rattle.std.specs.Prelude.{slice_get, option_and_then}
 use Rattle.std.specs.FinMap.{get, get-empty}
 use Rattle.std.specs.Ordering.{nat_cmp}
 use Rattle.std.proofs.lemmas.Option.{none-some, same_Some}
@@ -14,6 +13,7 @@ use Rattle.tss_base.specs.Image.{ImageState}
 use Rattle.tss_maps.proofs.Keys.{nat_order, decide_key}
 use Rattle.tss_protocol.specs.State.{CopyState, State, initial_state}
 use Rattle.tss_protocol.specs.UnitMachine.{IsEnabled, after_event}
+use Rattle.tss_locality.proofs.Flights.{record_in}
 use Rattle.tss_locality.specs.Scopes.{Scope, ChangesOnly, Closed}
 use Rattle.tss_locality.specs.Objects.{Objects, object_scope, Every, LinksStay, AreApartNamed, HasObject, SpawnsWith, StandNumbered}
 use Rattle.tss_locality.proofs.EachEvent.{ChangesOnly-after_event}
@@ -26,7 +26,8 @@ use Rattle.tss_locality.proofs.ApartScopes.{AreApart, closed_apart}
 pub LinksStay-initial_state : (f : Objects) (i : ImageState) → LinksStay f (initial_state i)
 LinksStay-initial_state f i o x named = record {
   arrivals = λ q p in_c e. absurd (none-some p e);
-  flight = λ q r in_c e. absurd (none-some r (sym (ap (λ y. option_and_then (λ z. slice_get z.operands q.place) y) (get-empty nat_cmp q.task)) ∙ e));
+  flight = λ q r in_c e. absurd (none-some r
+      (sym (ap (record_in q.place) (get-empty nat_cmp q.task)) ∙ e));
   workers = λ w b e. absurd (none-some b (sym (get-empty nat_cmp w) ∙ e));
   entries = λ y e in_c there. absurd (none-some e (sym (get-empty nat_cmp y.base) ∙ there));
   versions = λ v y in_c e. absurd (none-some y (sym (get-empty name_cmp v) ∙ e));
@@ -89,14 +90,16 @@ module _ (f : Objects) (m : Machine) (S : State) (stay : LinksStay f S) (apart :
             closed_apart (of_object x) (of_object y) S T (apart_scopes o q x y fo fq other) only (stay q y fq) workers
       ]
 
-  copy_kept : (b : ℕ) → IsEnabled m S (event.Copy b) → ((k : CopyState) → get S.copies b ≡ Some k → f k.version ≡ Some k.object) →
+  copy_kept : (b : ℕ) → IsEnabled m S (event.Copy b) →
+      ((k : CopyState) → get S.copies b ≡ Some k → f k.version ≡ Some k.object) →
       (k : Option CopyState) → get S.copies b ≡ k → LinksStay f (after_event m S (event.Copy b))
   copy_kept b on known None there = λ o x fo.
       Closed-copy (of_object x) m S (stay o x fo) b (λ k e. absurd (none-some k (sym there ∙ e)))
   copy_kept b on known (Some k) there =
       let fo = known k there in
       let c = of_object k.object in
-      let this : (l : CopyState) → get S.copies b ≡ Some l → l.object ≡ k.object = λ l e. ap (λ (k : CopyState). k.object) (same_Some l k (sym e ∙ there)) in
+      let this : (l : CopyState) → get S.copies b ≡ Some l → l.object ≡ k.object =
+      λ l e. ap (λ (k : CopyState). k.object) (same_Some l k (sym e ∙ there)) in
       keep (event.Copy b) k.version k.object fo
       (Closed-copy c m S (stay k.version k.object fo) b this)
       (ChangesOnly-after_event c m S (stay k.version k.object fo) (event.Copy b) on this)
@@ -105,7 +108,8 @@ module _ (f : Objects) (m : Machine) (S : State) (stay : LinksStay f S) (apart :
   -- links stay within each object after an enabled event
   pub LinksStay-after_event : (e : Event) → IsEnabled m S e → IsKnown f m S e → LinksStay f (after_event m S e)
   LinksStay-after_event event.Main on known = λ o x fo.
-      Closed-main (of_object x) m S (stay o x fo) (λ call next t spawned q p in_x e. same_Some p.object x (sym (known call next t spawned q p e) ∙ in_x))
+      Closed-main (of_object x) m S (stay o x fo)
+      (λ call next t spawned q p in_x e. same_Some p.object x (sym (known call next t spawned q p e) ∙ in_x))
   LinksStay-after_event event.Take on known = λ o x fo. Closed-take (of_object x) m S (stay o x fo)
   LinksStay-after_event (event.Ack a) on known = λ o x fo. Closed-ack (of_object x) m S (stay o x fo) a
   LinksStay-after_event (event.Start w) on known = λ o x fo. Closed-start (of_object x) m S (stay o x fo) w known

@@ -44,7 +44,7 @@ module _ (c : Scope) (m : Machine) (S : State) (p : ConcernsMain c m S) where
   by_only None next on =
       let f = main_stretch S.code m.limits m.sizes.quantum (flat_of S) in
       let only = main_stretch_only c S.home S.main.epoch p.addresses S.code m.limits m.sizes.quantum (flat_of S)
-          (record { epoch = refl; home = record { ranges = refl; bytes = λ a out. refl } }) in
+      (record { epoch = refl; home = record { ranges = refl; bytes = λ a out. refl } }) in
       state_home (beyond c) S (record S { main = f.main }) (main_changed f.main) f.memory only.home
   by_only (Some call) next on = call_only call next on
 

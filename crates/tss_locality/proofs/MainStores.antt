@@ -85,7 +85,7 @@ module _ (c : Scope) (before : Memory) (named : List Range) (free : (a : â„•) â†
   unfolding main_step
   main_step_only code limits f o =
       let within = core_step_within (MainActor f.memory.ranges f.main.epoch) (byte_at f.memory) (code_word code)
-          f.main.registers in
+      f.main.registers in
       let spent : Flat = record f { main = main_refused f.main main_budget_spent } in
       let on = main_on f (main_core code f) in
       flat_if (is_some f.main.ending) f (cond (has_spent limits f.main) spent on) o

@@ -73,7 +73,7 @@ module _ (names own : OpName → Type 0) where
     mail_decodes : (x : Named Operand) → AgreeAt own n.decodes x → MailAgrees names own m (record n { decodes = x })
     mail_decodes x p =
         mail_by m (record n { decodes = x }) (agree_then own m.decodes n.decodes x f.decodes p) f.acks f.opens f.uses
-            f.releases
+        f.releases
         f.byes f.readies f.links f.idles f.nacks f.retires f.gones
 
     mail_acks : (x : Named (Unit {0})) → AgreeAt own n.acks x → MailAgrees names own m (record n { acks = x })
@@ -84,7 +84,7 @@ module _ (names own : OpName → Type 0) where
     mail_opens : (x : Named OpenContents) → AgreeAt own n.opens x → MailAgrees names own m (record n { opens = x })
     mail_opens x p =
         mail_by m (record n { opens = x }) f.decodes f.acks (agree_then own m.opens n.opens x f.opens p) f.uses
-            f.releases
+        f.releases
         f.byes f.readies f.links f.idles f.nacks f.retires f.gones
 
     mail_uses : (x : Named OpName) → AgreeAt own n.uses x → MailAgrees names own m (record n { uses = x })
@@ -96,7 +96,7 @@ module _ (names own : OpName → Type 0) where
         MailAgrees names own m (record n { releases = x })
     mail_releases x p =
         mail_by m (record n { releases = x }) f.decodes f.acks f.opens f.uses
-            (agree_then own m.releases n.releases x f.releases p)
+        (agree_then own m.releases n.releases x f.releases p)
         f.byes f.readies f.links f.idles f.nacks f.retires f.gones
 
     mail_byes : (x : Named Bool) → AgreeAt own n.byes x → MailAgrees names own m (record n { byes = x })
@@ -170,7 +170,7 @@ module _ (c : Scope) where
     pub mail_posted : (x : Message) → IsSentIn c x → MailOnly m (posted n x)
     mail_posted (Decode o operand) p =
         mail_decodes Names Own m n f (insert n.decodes o operand)
-            (agree_inserted name_order (IsOwn c) n.decodes o operand p)
+        (agree_inserted name_order (IsOwn c) n.decodes o operand p)
     mail_posted (Ack o) p =
         mail_acks Names Own m n f (insert n.acks o tt) (agree_inserted name_order (IsOwn c) n.acks o tt p)
     mail_posted (Open o x) p =
@@ -225,22 +225,22 @@ module _ (c : Scope) where
   pub mail_taken : (m : Mail) (e : Event) → TakesIn e → MailOnly m (taken m e)
   mail_taken m (event.Decode o) p =
       mail_decodes Names Own m m (mail_same Names Own m) (remove m.decodes o)
-          (agree_removed name_order (IsOwn c) m.decodes o p)
+      (agree_removed name_order (IsOwn c) m.decodes o p)
   mail_taken m (event.Ack o) p =
       mail_acks Names Own m m (mail_same Names Own m) (remove m.acks o) (agree_removed name_order (IsOwn c) m.acks o p)
   mail_taken m (event.Open o) p =
       mail_opens Names Own m m (mail_same Names Own m) (remove m.opens o)
-          (agree_removed name_order (IsOwn c) m.opens o p)
+      (agree_removed name_order (IsOwn c) m.opens o p)
   mail_taken m (event.Use o) p =
       mail_uses Names Own m m (mail_same Names Own m) (remove m.uses o) (agree_removed name_order (IsOwn c) m.uses o p)
   mail_taken m (event.Ready o) p =
       mail_readies Names Own m m (mail_same Names Own m) (remove m.readies o)
-          (agree_removed name_order c.names m.readies o p)
+      (agree_removed name_order c.names m.readies o p)
   mail_taken m (event.Link o) p =
       mail_links Names Own m m (mail_same Names Own m) (remove m.links o) (agree_removed name_order c.names m.links o p)
   mail_taken m (event.Release o) p =
       mail_releases Names Own m m (mail_same Names Own m) (remove m.releases o)
-          (agree_removed name_order (IsOwn c) m.releases o p)
+      (agree_removed name_order (IsOwn c) m.releases o p)
   mail_taken m (event.Bye o) p =
       mail_byes Names Own m m (mail_same Names Own m) (remove m.byes o) (agree_removed name_order (IsOwn c) m.byes o p)
   mail_taken m (event.Idle o) p =
@@ -249,7 +249,7 @@ module _ (c : Scope) where
       mail_nacks Names Own m m (mail_same Names Own m) (remove m.nacks o) (agree_removed name_order c.names m.nacks o p)
   mail_taken m (event.Retire o) p =
       mail_retires Names Own m m (mail_same Names Own m) (remove m.retires o)
-          (agree_removed name_order c.names m.retires o p)
+      (agree_removed name_order c.names m.retires o p)
   mail_taken m (event.Gone o) p =
       mail_gones Names Own m m (mail_same Names Own m) (remove m.gones o) (agree_removed name_order c.names m.gones o p)
   mail_taken m event.Main p = mail_same Names Own m

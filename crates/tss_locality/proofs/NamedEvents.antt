@@ -29,7 +29,7 @@ use Rattle.tss_locality.specs.Agreement.{operand_in}
 use Rattle.tss_locality.specs.Scopes.{Scope, ChangesOnly}
 use Rattle.tss_locality.specs.Objects.{Objects, object_scope, Every, AreApartNamed, HasObject, HasObjects, SpawnsWith, IsFitting, MailNamed, IsNamed, IsWithinObjects}
 use Rattle.tss_locality.proofs.Messages.{mail_same, mail_posted_all}
-use Rattle.tss_locality.proofs.Flights.{from_mapped, keeps_records, flight_inserted}
+use Rattle.tss_locality.proofs.Flights.{record_in, from_mapped, keeps_records, flight_inserted}
 use Rattle.tss_locality.proofs.Tasks.{from_zero, decodes_sent}
 use Rattle.tss_locality.proofs.TakeEvent.{own_arrival}
 use Rattle.tss_locality.proofs.WorkerEvents.{ChangesOnly-finish}
@@ -76,7 +76,8 @@ module _ (f : Objects) (m : Machine) (S : State) (named : IsNamed f S) where
   known (event.Idle v) on fit = let t = some_there (get S.mail.idles v) on in named.mail.idles v t.0 t.1
   known (event.Nack v) on fit = let t = some_there (get S.mail.nacks v) on in named.mail.nacks v t.0 t.1
   known (event.Retire v) on fit =
-      let t = some_there (get S.mail.retires v) (and_parts (is_some (get S.mail.retires v)) (can_retire m S (get S.versions v)) on).0 in
+      let t = some_there (get S.mail.retires v)
+      (and_parts (is_some (get S.mail.retires v)) (can_retire m S (get S.versions v)) on).0 in
       named.mail.retires v t.0 t.1
   known (event.Copy b) on fit = named.copies b
   known (event.Gone v) on fit = let t = some_there (get S.mail.gones v) on in named.mail.gones v t.0 t.1
@@ -85,7 +86,8 @@ module _ (f : Objects) (m : Machine) (S : State) (named : IsNamed f S) where
 
   -- a change that concerns names with objects alone
   named_after : (c : Scope) → ((o : OpName) → c.names o → HasObject f o) → (T : State) → ChangesOnly c S T →
-      T.inbox ≡ S.inbox → ((b : ℕ) (k : CopyState) → get T.copies b ≡ Some k → f k.version ≡ Some k.object) → IsNamed f T
+      T.inbox ≡ S.inbox → ((b : ℕ) (k : CopyState) → get T.copies b ≡ Some k → f k.version ≡ Some k.object) → IsNamed
+      f T
   named_after c less T only inbox copies = record {
     arrivals = subst (HasObjects f) (sym inbox) named.arrivals;
     records = records_named f c.names S.flight T.flight less only.operands named.records;
@@ -108,13 +110,15 @@ module _ (f : Objects) (m : Machine) (S : State) (named : IsNamed f S) where
       operand_at (insert S.flight t.number (entered t)) o ≡ Some r → HasObject f o
   take_records t there o r e = elim (decide_key nat_order o.task t.number) [
     | inl same ↦
-        let record_in : Option Flying → Option OperandState = λ x. option_and_then (λ x. slice_get x.operands o.place) x in
-        let made = from_mapped new_operand (operands_of t) o.place r (sym (ap record_in
-            (ap (get (insert S.flight t.number (entered t))) same ∙ at_inserted nat_order S.flight t.number (entered t))) ∙ e) in
-        subst (λ n. HasObject f (operand_name n o.place)) (sym same)
-        (made.0.object, named.arrivals (operand_name t.number o.place) made.0
-        (ap (λ i. operand_in i (operand_name t.number o.place)) there ∙ own_arrival t o.place ∙ made.1))
-    | inr other ↦ named.records o r (sym (ap (λ x. option_and_then (λ x. slice_get x.operands o.place) x)
+        let made = from_mapped new_operand (operands_of t) o.place r (sym (ap (record_in o.place)
+        (ap (get (insert S.flight t.number (entered t))) same ∙ at_inserted nat_order S.flight t.number (entered t)))
+        ∙ e) in
+        subst (λ n. HasObject f (operand_name n o.place)) (sym same) (
+          made.0.object,
+          named.arrivals (operand_name t.number o.place) made.0
+              (ap (λ i. operand_in i (operand_name t.number o.place)) there ∙ own_arrival t o.place ∙ made.1),
+        )
+    | inr other ↦ named.records o r (sym (ap (record_in o.place)
         (beside_inserted nat_order S.flight t.number (entered t) o.task other)) ∙ e)
   ]
 
@@ -123,10 +127,13 @@ module _ (f : Objects) (m : Machine) (S : State) (named : IsNamed f S) where
   take_named (Some t) there =
       let c = all_named in
       let T = take_task S t in
-      let names : (j : ℕ) (o : Operand) → slice_get (operands_of t) j ≡ Some o → HasObject f (operand_name t.number (0 + j)) = λ j o e.
-          subst (λ j. HasObject f (operand_name t.number j)) (sym (from_zero j))
-          (o.object, named.arrivals (operand_name t.number j) o
-          (ap (λ i. operand_in i (operand_name t.number j)) there ∙ own_arrival t j ∙ e)) in
+      let names : (j : ℕ) (o : Operand) → slice_get (operands_of t) j ≡ Some o → HasObject f
+      (operand_name t.number (0 + j)) = λ j o e.
+      subst (λ j. HasObject f (operand_name t.number j)) (sym (from_zero j)) (
+        o.object,
+        named.arrivals (operand_name t.number j) o
+            (ap (λ i. operand_in i (operand_name t.number j)) there ∙ own_arrival t j ∙ e),
+      ) in
       record {
         arrivals = λ o p e. absurd (none-some p e);
         records = take_records t there;
@@ -138,7 +145,8 @@ module _ (f : Objects) (m : Machine) (S : State) (named : IsNamed f S) where
 
   -- ---- start
 
-  start_task_named : (w t : ℕ) (ts : List ℕ) (x : Option Flying) → get S.flight t ≡ x → IsNamed f (start_task m S w t ts x)
+  start_task_named : (w t : ℕ) (ts : List ℕ) (x : Option Flying) → get S.flight t ≡ x →
+      IsNamed f (start_task m S w t ts x)
   start_task_named w t ts None there = named
   start_task_named w t ts (Some x) there =
       let c = all_named in
@@ -157,14 +165,16 @@ module _ (f : Objects) (m : Machine) (S : State) (named : IsNamed f S) where
 
   -- ---- main
 
-  called_named : (r : MainState × Option Task) → ((t : Task) → r.1 ≡ Some t → HasObjects f (Some t)) → IsNamed f (after_call S r)
+  called_named : (r : MainState × Option Task) → ((t : Task) → r.1 ≡ Some t → HasObjects f (Some t)) →
+      IsNamed f (after_call S r)
   called_named (main, None) spawns =
       record { arrivals = named.arrivals; records = named.records; mail = named.mail; copies = named.copies }
   called_named (main, Some t) spawns =
       record { arrivals = spawns t refl; records = named.records; mail = named.mail; copies = named.copies }
 
   main_named : (call : Option Call) →
-      ((x : Call) → call ≡ Some x → (t : Task) → (main_call m.limits S.home S.main x).1 ≡ Some t → HasObjects f (Some t)) →
+      ((x : Call) → call ≡ Some x → (t : Task) → (main_call m.limits S.home S.main x).1 ≡ Some t →
+      HasObjects f (Some t)) →
       IsNamed f (main_by m S call)
   main_named None spawns =
       record { arrivals = named.arrivals; records = named.records; mail = named.mail; copies = named.copies }
@@ -208,14 +218,16 @@ module _ (f : Objects) (m : Machine) (S : State) (within : IsWithinObjects f S) 
   of_object x = object_scope f x Every
 
   -- what an event that concerns one object changes
-  one_named : (e : Event) (h : (x : Range) × ((o : OpName) × (f o ≡ Some x))) → ChangesOnly (of_object h.0) S (after_event m S e) →
+  one_named : (e : Event) (h : (x : Range) × ((o : OpName) × (f o ≡ Some x))) →
+      ChangesOnly (of_object h.0) S (after_event m S e) →
       (after_event m S e).inbox ≡ S.inbox → (after_event m S e).copies ≡ S.copies → IsNamed f (after_event m S e)
   one_named e h only inbox copies =
       named_after f m S within.named (of_object h.0) (λ q p. (h.0, p)) (after_event m S e) only inbox
       (copies_same f m S within.named (after_event m S e) copies)
 
   -- an event that changes neither the inbox, the tasks in flight, the messages nor the copies
-  left_named : (T : State) → T.inbox ≡ S.inbox → T.flight ≡ S.flight → T.mail ≡ S.mail → T.copies ≡ S.copies → IsNamed f T
+  left_named : (T : State) → T.inbox ≡ S.inbox → T.flight ≡ S.flight → T.mail ≡ S.mail → T.copies ≡ S.copies →
+      IsNamed f T
   left_named T inbox flight mail copies = record {
     arrivals = subst (HasObjects f) (sym inbox) within.named.arrivals;
     records = λ o r e. within.named.records o r (ap (λ x. operand_at x o) (sym flight) ∙ e);
@@ -262,7 +274,7 @@ module _ (f : Objects) (m : Machine) (S : State) (within : IsWithinObjects f S) 
       let fo = within.named.copies b k there in
       let c = of_object k.object in
       let this : (l : CopyState) → get S.copies b ≡ Some l → l.object ≡ k.object =
-          λ l e. ap (λ (k : CopyState). k.object) (same_Some l k (sym e ∙ there)) in
+      λ l e. ap (λ (k : CopyState). k.object) (same_Some l k (sym e ∙ there)) in
       named_after f m S within.named c (λ q p. (k.object, p)) (after_event m S (event.Copy b))
       (ChangesOnly-after_event c m S (within.links k.version k.object fo) (event.Copy b) on this)
       (λ i. (Leaves-after_event m S (event.Copy b) i).inbox) (copy_kept_copies b)
@@ -321,7 +333,8 @@ module _ (f : Objects) (m : Machine) (S : State) (within : IsWithinObjects f S) 
       let h = known f m S within.named (event.Release o) on fit in
       one_named (event.Release o) (h.0, (o, h.1))
       (ChangesOnly-after_event (of_object h.0) m S (within.links o h.0 h.1) (event.Release o) on (h.1, tt))
-      (λ i. (Leaves-after_event m S (event.Release o) i).inbox) (λ i. (Leaves-after_event m S (event.Release o) i).copies)
+      (λ i. (Leaves-after_event m S (event.Release o) i).inbox)
+      (λ i. (Leaves-after_event m S (event.Release o) i).copies)
   IsNamed-after_event (event.Bye o) on fit =
       let h = known f m S within.named (event.Bye o) on fit in
       one_named (event.Bye o) (h.0, (o, h.1))

@@ -1,6 +1,5 @@
 -- Each name has its object: in the first state, and where nothing is changed under names without one.
 use Rattle.std.proofs.Common.{◌≡◌, Option, Some, None, refl, sym, ◌∙◌, ap, inl, inr, ◌⊎◌}
-use Rattle.std.specs.Prelude.{slice_get, option_and_then}
 use Rattle.std.specs.FinMap.{get-empty}
 use Rattle.std.specs.Ordering.{nat_cmp}
 use Rattle.std.proofs.lemmas.Option.{none-some}
@@ -12,6 +11,7 @@ use Rattle.tss_protocol.specs.Mail.{Mail}
 use Rattle.tss_protocol.specs.State.{OperandState, Flying, initial_state}
 use Rattle.tss_protocol.specs.Stations.{operand_at}
 use Rattle.tss_locality.specs.Agreement.{Beyond, AgreeAt, MailAgrees, SameOperand}
+use Rattle.tss_locality.proofs.Flights.{record_in}
 use Rattle.tss_locality.specs.Scopes.{Scope, IsOwn}
 use Rattle.tss_locality.specs.Objects.{Objects, HasObject, AreNamed, MailNamed, IsNamed}
 
@@ -67,7 +67,7 @@ module _ (f : Objects) where
   IsNamed-initial_state i = record {
     arrivals = λ o p e. absurd (none-some p e);
     records = λ o r e. absurd (none-some r
-        (sym (ap (λ y. option_and_then (λ z. slice_get z.operands o.place) y) (get-empty nat_cmp o.task)) ∙ e));
+        (sym (ap (record_in o.place) (get-empty nat_cmp o.task)) ∙ e));
     mail = record {
       decodes = λ o x e. absurd (none-some x (sym (get-empty name_cmp o) ∙ e));
       acks = λ o x e. absurd (none-some x (sym (get-empty name_cmp o) ∙ e));

@@ -28,11 +28,12 @@ use Rattle.tss_locality.proofs.VersionEvents.{stays_open, stays_use, stays_relea
 module _ (c : Scope) (m : Machine) (S : State) (closed : Closed c S) where
   -- ---- ack
 
+  -- ack changes only what its operand's scope has
   pub ChangesOnly-ack : (o : OpName) → IsOwn c o → ChangesOnly c S (after_event m S (event.Ack o))
   unfolding after_event
   ChangesOnly-ack o own =
       state_gateway (beyond c) S (without S (event.Ack o)) (changes_taken c S (event.Ack o) own)
-          (gateway_after_ack S.gateway o)
+      (gateway_after_ack S.gateway o)
       (agree_removed name_order (IsOwn c) S.gateway o own)
 
   -- ---- open, use, release, nack
@@ -44,6 +45,7 @@ module _ (c : Scope) (m : Machine) (S : State) (closed : Closed c S) where
       changes_versioned c S (event.Open o) own (after_open S.versions o x)
       (stays_open c S.versions closed.versions o x own.0 (closed.mail.opens o x own.0 there))
 
+  -- open changes only what its operand's scope has
   pub ChangesOnly-open : (o : OpName) → IsOwn c o → ChangesOnly c S (after_event m S (event.Open o))
   unfolding after_event
   ChangesOnly-open o own = open_taken o own (get S.mail.opens o) refl
@@ -55,6 +57,7 @@ module _ (c : Scope) (m : Machine) (S : State) (closed : Closed c S) where
       changes_versioned c S (event.Use o) own (after_use S.versions o v)
       (stays_use c S.versions closed.versions o v own.0 (closed.mail.uses o v own.0 there))
 
+  -- use changes only what its operand's scope has
   pub ChangesOnly-use : (o : OpName) → IsOwn c o → ChangesOnly c S (after_event m S (event.Use o))
   unfolding after_event
   ChangesOnly-use o own = use_taken o own (get S.mail.uses o) refl
@@ -66,10 +69,12 @@ module _ (c : Scope) (m : Machine) (S : State) (closed : Closed c S) where
       changes_versioned c S (event.Release o) own (after_release S.versions o r)
       (stays_release c S.versions closed.versions o r own (closed.mail.releases o r own.0 there))
 
+  -- release changes only what its operand's scope has
   pub ChangesOnly-release : (o : OpName) → IsOwn c o → ChangesOnly c S (after_event m S (event.Release o))
   unfolding after_event
   ChangesOnly-release o own = release_taken o own (get S.mail.releases o) refl
 
+  -- nack changes only what its version's scope has
   pub ChangesOnly-nack : (v : OpName) → c.names v → ChangesOnly c S (after_event m S (event.Nack v))
   unfolding after_event
   ChangesOnly-nack v p =
@@ -122,8 +127,9 @@ module _ (c : Scope) (m : Machine) (S : State) (closed : Closed c S) where
   decode_taken o own None there = changes_taken c S (event.Decode o) own
   decode_taken o own (Some p) there =
       decoded o p (bank_of m.sizes p.object) (get S.entries p.object.base) refl own
-          (closed.mail.decodes o p own.0 there)
+      (closed.mail.decodes o p own.0 there)
 
+  -- decode changes only what its operand's scope has
   pub ChangesOnly-decode : (o : OpName) → IsOwn c o → ChangesOnly c S (after_event m S (event.Decode o))
   unfolding after_event
   ChangesOnly-decode o own = decode_taken o own (get S.mail.decodes o) refl
@@ -154,6 +160,7 @@ module _ (c : Scope) (m : Machine) (S : State) (closed : Closed c S) where
       idle_answered v i.base (get S.entries i.base) (may_retire v i.count (get S.entries i.base)) p
       (closed.mail.idles v i p there)
 
+  -- idle changes only what its version's scope has
   pub ChangesOnly-idle : (v : OpName) → c.names v → ChangesOnly c S (after_event m S (event.Idle v))
   unfolding after_event
   ChangesOnly-idle v p = idle_taken v p (get S.mail.idles v) refl
@@ -192,6 +199,7 @@ module _ (c : Scope) (m : Machine) (S : State) (closed : Closed c S) where
       (agree_removed name_order c.names S.places v p) in
       state_buffers (beyond c) S C in_places (buffers_after_gone S.buffers g.buffer) (buffers_freed g.buffer i.buffer)
 
+  -- gone changes only what its version's scope has
   pub ChangesOnly-gone : (v : OpName) → c.names v → ChangesOnly c S (after_event m S (event.Gone v))
   unfolding after_event
   ChangesOnly-gone v p = gone_taken v p (get S.mail.gones v) refl

@@ -16,7 +16,8 @@ use Rattle.tss_locality.proofs.Parts.{same_object, same_task}
 use Rattle.tss_locality.proofs.EachEvent.{ChangesOnly-after_event}
 use Rattle.tss_locality.proofs.FamilyScopes.{closed_family}
 
-module _ (c : Scope) (m : Machine) (S : State) (closed : Closed c S) (e : Event) (on : IsEnabled m S e) (concerns : Concerns c m S e) where
+module _ (c : Scope) (m : Machine) (S : State) (closed : Closed c S) (e : Event) (on : IsEnabled m S e)
+    (concerns : Concerns c m S e) where
   -- an object that the event doesn't concern has the same part after it
   pub same_object-after_event : (operands : OpName → Type 0) (x : Range) → IsApart c operands x →
       SameOn (object_part operands x) S (after_event m S e)

@@ -31,4 +31,4 @@ module _ (c : Scope) (S : State) where
   changes_versioned e p d s =
       changes_sent (record (without S e) { versions = d.part })
       (state_versions (beyond c) S (without S e) (changes_taken e p) d.part s.versions.same) d.sent
-          (named_from_all_in c d.sent s.sent)
+      (named_from_all_in c d.sent s.sent)

@@ -114,6 +114,7 @@ module _ (e : Extent) (S : State) where
 
   -- a change of one field after others
   module _ (T : State) (f : SameOn e S T) where
+    -- main
     pub state_main : (x : MainState) → SameOn e S (record T { main = x })
     state_main x =
         state_by (record T { main = x })
@@ -121,6 +122,7 @@ module _ (e : Extent) (S : State) where
         f.shapes f.operands f.queue f.workers f.entries f.places f.buffers
         f.contents f.versions f.mail f.copies f.trap
 
+    -- home
     pub state_home : (x : Memory) → HomeOn e S.home x → SameOn e S (record T { home = x })
     state_home x p =
         state_by (record T { home = x })
@@ -128,6 +130,7 @@ module _ (e : Extent) (S : State) where
         f.shapes f.operands f.queue f.workers f.entries f.places f.buffers
         f.contents f.versions f.mail f.copies f.trap
 
+    -- the inbox
     pub state_inbox : (x : Option Task) → InboxOn e S.inbox x → SameOn e S (record T { inbox = x })
     state_inbox x p =
         state_by (record T { inbox = x })
@@ -135,6 +138,7 @@ module _ (e : Extent) (S : State) where
         f.shapes f.operands f.queue f.workers f.entries f.places f.buffers
         f.contents f.versions f.mail f.copies f.trap
 
+    -- the gateway
     pub state_gateway : (x : Named (Unit {0})) → AgreeAt e.own S.gateway x → SameOn e S (record T { gateway = x })
     state_gateway x p =
         state_by (record T { gateway = x })
@@ -142,6 +146,7 @@ module _ (e : Extent) (S : State) where
         f.shapes f.operands f.queue f.workers f.entries f.places f.buffers
         f.contents f.versions f.mail f.copies f.trap
 
+    -- the tasks in flight
     pub state_flight : (x : Numbered Flying) → FlightOn e S.flight x → SameOn e S (record T { flight = x })
     state_flight x p =
         state_by (record T { flight = x })
@@ -149,6 +154,7 @@ module _ (e : Extent) (S : State) where
         p.shapes p.operands f.queue f.workers f.entries f.places f.buffers
         f.contents f.versions f.mail f.copies f.trap
 
+    -- the queue
     pub state_queue : (x : List ℕ) → ((n : ℕ) → e.tasks n → times_in n x ≡ times_in n S.queue) →
         SameOn e S (record T { queue = x })
     state_queue x p =
@@ -157,15 +163,17 @@ module _ (e : Extent) (S : State) where
         f.shapes f.operands p f.workers f.entries f.places f.buffers
         f.contents f.versions f.mail f.copies f.trap
 
+    -- the workers
     pub state_workers : (x : Numbered Busy) →
         ((w : ℕ) → SameFor (λ b. e.tasks b.task.number) (get S.workers w) (get x w)) → SameOn e S
-            (record T { workers = x })
+        (record T { workers = x })
     state_workers x p =
         state_by (record T { workers = x })
         f.code f.ranges f.home f.inbox f.arrivals f.gateway f.flight
         f.shapes f.operands f.queue p f.entries f.places f.buffers
         f.contents f.versions f.mail f.copies f.trap
 
+    -- the entries
     pub state_entries : (x : Numbered Entry) → AgreeAt e.bases S.entries x → SameOn e S (record T { entries = x })
     state_entries x p =
         state_by (record T { entries = x })
@@ -173,6 +181,7 @@ module _ (e : Extent) (S : State) where
         f.shapes f.operands f.queue f.workers p f.places f.buffers
         f.contents f.versions f.mail f.copies f.trap
 
+    -- the places held
     pub state_places : (x : Named ℕ) → AgreeAt e.names S.places x → SameOn e S (record T { places = x })
     state_places x p =
         state_by (record T { places = x })
@@ -180,6 +189,7 @@ module _ (e : Extent) (S : State) where
         f.shapes f.operands f.queue f.workers f.entries p f.buffers
         f.contents f.versions f.mail f.copies f.trap
 
+    -- the buffers held
     pub state_buffers : (x : Named ℕ) → AgreeAt e.names S.buffers x → SameOn e S (record T { buffers = x })
     state_buffers x p =
         state_by (record T { buffers = x })
@@ -187,6 +197,7 @@ module _ (e : Extent) (S : State) where
         f.shapes f.operands f.queue f.workers f.entries f.places p
         f.contents f.versions f.mail f.copies f.trap
 
+    -- the contents of the buffers
     pub state_contents : (x : Named (List ℕ)) → AgreeAt e.names S.contents x → SameOn e S (record T { contents = x })
     state_contents x p =
         state_by (record T { contents = x })
@@ -194,6 +205,7 @@ module _ (e : Extent) (S : State) where
         f.shapes f.operands f.queue f.workers f.entries f.places f.buffers
         p f.versions f.mail f.copies f.trap
 
+    -- the versions
     pub state_versions : (x : Named Version) → AgreeAt e.names S.versions x → SameOn e S (record T { versions = x })
     state_versions x p =
         state_by (record T { versions = x })
@@ -201,6 +213,7 @@ module _ (e : Extent) (S : State) where
         f.shapes f.operands f.queue f.workers f.entries f.places f.buffers
         f.contents p f.mail f.copies f.trap
 
+    -- the messages
     pub state_mail : (x : Mail) → MailAgrees e.names e.own S.mail x → SameOn e S (record T { mail = x })
     state_mail x p =
         state_by (record T { mail = x })
@@ -208,6 +221,7 @@ module _ (e : Extent) (S : State) where
         f.shapes f.operands f.queue f.workers f.entries f.places f.buffers
         f.contents f.versions p f.copies f.trap
 
+    -- the copies
     pub state_copies : (x : Numbered CopyState) →
         ((b : ℕ) → SameFor (λ k. e.objects k.object) (get S.copies b) (get x b)) → SameOn e S (record T { copies = x })
     state_copies x p =
@@ -216,6 +230,7 @@ module _ (e : Extent) (S : State) where
         f.shapes f.operands f.queue f.workers f.entries f.places f.buffers
         f.contents f.versions f.mail p f.trap
 
+    -- the held trap
     pub state_trap : (x : Option HeldTrap) → ((h : HeldTrap) → e.tasks h.task → x ≡ Some h → S.trap ≡ Some h) →
         SameOn e S (record T { trap = x })
     state_trap x p =

@@ -72,8 +72,11 @@ pub record StoresOnly (c : Scope) (s u : Stores) : Type 0 where
 
 -- storages as they stand
 pub stores_same : (c : Scope) (s : Stores) → StoresOnly c s s
-stores_same c s = record { home = record { ranges = refl; bytes = λ a out. refl }; contents = agree_same
-    (Beyond c.names) s.contents }
+stores_same c s = record {
+  home = record { ranges = refl; bytes = λ a out. refl };
+  contents = agree_same
+      (Beyond c.names) s.contents;
+}
 
 module _ (c : Scope) (s u : Stores) (f : StoresOnly c s u) where
   -- bytes are written at home
@@ -103,6 +106,7 @@ pub record PlacedIn (c : Scope) (os : List Operand) (ts : List StorageName) : Ty
   pub storages : (k : ℕ) (o : Operand) (t : StorageName) → slice_get os k ≡ Some o → slice_get ts k ≡ Some t →
       StorageIn c t
 
+-- those behind the first
 pub placed_rest : (c : Scope) (o : Operand) (t : StorageName) (os : List Operand) (ts : List StorageName) →
     PlacedIn c (o ∷ os) (t ∷ ts) → PlacedIn c os ts
 placed_rest c o t os ts p = record {

@@ -47,9 +47,12 @@ module _ (c : Scope) where
   inside_operand (o ∷ os) at n a e objects low high =
       elim (or_cases (writes o.mode && contains o.object (record { base = at; len = n }))
       (list_any (λ o. writes o.mode && contains o.object (record { base = at; len = n })) os) e) [
-        | inl here ↦
-            (o.object, objects 0 o refl, covered o.object at n a
-                (and_parts (writes o.mode) (contains o.object (record { base = at; len = n })) here).1 low high)
+        | inl here ↦ (
+          o.object,
+          objects 0 o refl,
+          covered o.object at n a
+              (and_parts (writes o.mode) (contains o.object (record { base = at; len = n })) here).1 low high,
+        )
         | inr there ↦ inside_operand os at n a there (λ k q e. objects (suc k) q e) low high
       ]
 
@@ -80,7 +83,7 @@ module _ (c : Scope) where
 
   found_if : (ps : List Placed) (p : Placed) (b : Bool) (rest : Option Placed) → StorageIn c p.storage →
       ((q : Placed) → rest ≡ Some q → StorageIn c q.storage) → (q : Placed) → cond b (Some p) rest ≡ Some
-          q → StorageIn c q.storage
+      q → StorageIn c q.storage
   found_if ps p true rest i more q e = subst (λ (p : Placed). StorageIn c p.storage) (same_Some p q e) i
   found_if ps p false rest i more q e = more q e
 
@@ -127,7 +130,7 @@ module _ (c : Scope) where
     write_by x f w may false e =
         let r : Range = record { base = w.at; len = length w.bytes } in
         write_only s x.memory f w (store_inside os w placed.objects (may_store os r (task_may_store os r) refl may)
-            e) (placed_at (placed_in os ts) w.at)
+        e) (placed_at (placed_in os ts) w.at)
         (found_in (placed_in os ts) w.at (stored_in os ts placed))
 
     write_task : (x : TaskState Stores) → TaskOnly x → (w : Write) → MayWrite (TaskActor ranges os) w →
@@ -154,7 +157,7 @@ module _ (c : Scope) where
           task_if (is_over x) x (cond (nat_le budget x.registers.done) trapped on) f
           (task_if (nat_le budget x.registers.done) trapped on f
           (on_only x f stepped (core_step_within (TaskActor ranges os) (task_byte byte x) (code_word code)
-              x.registers)))
+          x.registers)))
 
       -- so many steps
       pub stretch_only : (n : ℕ) (x : TaskState Stores) → TaskOnly x →
@@ -163,4 +166,4 @@ module _ (c : Scope) where
       stretch_only zero x f = f
       stretch_only (suc n) x f =
           stretch_only n (task_step byte (worker_write (placed_in os ts)) budget code (TaskActor ranges os) x)
-              (step_only x f)
+          (step_only x f)

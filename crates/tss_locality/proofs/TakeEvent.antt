@@ -30,7 +30,8 @@ pub own_arrival : (t : Task) (k : ℕ) → operand_in (Some t) (operand_name t.n
 own_arrival t k = ap (λ b. cond b (slice_get (operands_of t) k) None) (same_number t.number)
 
 -- the operands of a task of the scope have names of it
-pub own_names : (c : Scope) (t : Task) → ConcernsTask c t → (k : ℕ) (o : Operand) → slice_get (operands_of t) k ≡ Some o →
+pub own_names : (c : Scope) (t : Task) → ConcernsTask c t → (k : ℕ) (o : Operand) →
+    slice_get (operands_of t) k ≡ Some o →
     c.names (operand_name t.number k)
 own_names c t p k o e = p.names (operand_name t.number k) o (own_arrival t k ∙ e)
 
@@ -51,7 +52,8 @@ inbox_arrived c t concern = record {
 inbox_emptied : (c : Scope) (t : Task) → ConcernsTask c t → InboxOn (beyond c) (Some t) None
 inbox_emptied c t concern = record {
   task = same_for_other (λ t. Beyond c.tasks t.number) (Some t) None
-      (other_some (λ t. Beyond c.tasks t.number) t (λ out. out concern.task)) (other_none (λ t. Beyond c.tasks t.number));
+      (other_some (λ t. Beyond c.tasks t.number) t (λ out. out concern.task))
+      (other_none (λ t. Beyond c.tasks t.number));
   arrivals = λ o out. sym (no_arrival c t concern o out (operand_in (Some t) o) refl);
 }
 
@@ -68,17 +70,17 @@ module _ (c : Scope) (m : Machine) (S : State) where
       let own = p.spawned.task in
       let os = operands_of t in
       let names : (j : ℕ) (o : Operand) → slice_get os j ≡ Some o → c.names (operand_name n (0 + j)) = λ j o e.
-          subst (λ j. c.names (operand_name n j)) (sym (from_zero j)) (own_names c t p.spawned j o e) in
+      subst (λ j. c.names (operand_name n j)) (sym (from_zero j)) (own_names c t p.spawned j o e) in
       let A : State = record S { inbox = None } in
       let B : State = record A { gateway = gateway_after_take S.gateway t } in
       let C : State = record B { flight = flight_after_take S.flight t } in
       let queue = queue_with S.queue n (is_queued (entered t).stage) in
       let in_inbox = state_inbox (beyond c) S S (changes_none c S) None
-          (subst (λ i. InboxOn (beyond c) i None) (sym there) (inbox_emptied c t p.spawned)) in
+      (subst (λ i. InboxOn (beyond c) i None) (sym there) (inbox_emptied c t p.spawned)) in
       let in_gateway = state_gateway (beyond c) S A in_inbox (gateway_after_take S.gateway t)
-          (gateway_held c S.flight n own S.gateway S.gateway (agree_same (Beyond (IsOwn c)) S.gateway) 0 os names) in
+      (gateway_held c S.flight n own S.gateway S.gateway (agree_same (Beyond (IsOwn c)) S.gateway) 0 os names) in
       let in_flight = state_flight (beyond c) S B in_gateway (flight_after_take S.flight t)
-          (flight_entered c S.flight n own (entered t) p.fresh (entered_names c t p.spawned)) in
+      (flight_entered c S.flight n own (entered t) p.fresh (entered_names c t p.spawned)) in
       changes_sent c S (record C { queue = queue })
       (state_queue (beyond c) S C in_flight queue (times_queued c.tasks S.queue n (is_queued (entered t).stage) own))
       (sent_by_take t) (decodes_sent c S.flight n own 0 os names)
@@ -88,6 +90,7 @@ module _ (c : Scope) (m : Machine) (S : State) where
   taken_by None there p = changes_none c S
   taken_by (Some t) there p = taken t there (p t there)
 
+  -- take changes only the task in the inbox, with the names of its operands
   pub ChangesOnly-take : ((t : Task) → S.inbox ≡ Some t → ConcernsTake c S t) →
       ChangesOnly c S (after_event m S event.Take)
   unfolding after_event

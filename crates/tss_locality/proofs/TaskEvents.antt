@@ -23,7 +23,7 @@ module _ (c : Scope) (S : State) where
       ChangesOnly c S (with_stores T u)
   changes_stores T f u p =
       state_contents (beyond c) S (record T { home = u.home }) (state_home (beyond c) S T f u.home p.home) u.contents
-          p.contents
+      p.contents
 
 module _ (c : Scope) (m : Machine) (S : State) (closed : Closed c S) where
   -- ---- ready, link, bye
@@ -43,6 +43,7 @@ module _ (c : Scope) (m : Machine) (S : State) (closed : Closed c S) where
       queue (times_queued c.tasks S.queue o.task w.queued own.1))
       w.sent (named_from_all_in c w.sent only.sent)
 
+  -- ready changes only what its operand's scope has
   pub ChangesOnly-ready : (o : OpName) → IsOwn c o → ChangesOnly c S (after_event m S (event.Ready o))
   unfolding after_event
   ChangesOnly-ready o own = ready_taken o own (get S.mail.readies o) refl
@@ -58,6 +59,7 @@ module _ (c : Scope) (m : Machine) (S : State) (closed : Closed c S) where
       (state_flight (beyond c) S T (changes_taken c S (event.Link o) own.0) d.part only.flight)
       d.sent (named_from_all_in c d.sent only.sent)
 
+  -- link changes only what its operand's scope has
   pub ChangesOnly-link : (o : OpName) → IsOwn c o → ChangesOnly c S (after_event m S (event.Link o))
   unfolding after_event
   ChangesOnly-link o own = link_taken o own (get S.mail.links o) refl
@@ -69,6 +71,7 @@ module _ (c : Scope) (m : Machine) (S : State) (closed : Closed c S) where
       state_flight (beyond c) S (without S (event.Bye o)) (changes_taken c S (event.Bye o) own)
       (after_bye S.flight o promised) (bye_only c S.flight o promised own)
 
+  -- bye changes only what its operand's scope has
   pub ChangesOnly-bye : (o : OpName) → IsOwn c o → ChangesOnly c S (after_event m S (event.Bye o))
   unfolding after_event
   ChangesOnly-bye o own = bye_taken o own (get S.mail.byes o)

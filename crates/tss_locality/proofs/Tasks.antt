@@ -1,6 +1,6 @@
 -- What the stations do to a task's records stays in a scope: ready, link, bye and finish, and a task that enters.
 use Rattle.std.proofs.Common.{◌≡◌, ℕ, suc, ◌+◌, add-zero, Bool, true, false, cond, List, [], ◌∷◌, ◌++◌, Option, Some, None, refl, sym, ap, ◌∙◌, subst, inl, inr, arith}
-use Rattle.std.specs.Prelude.{◌==◌, slice_get, option_and_then}
+use Rattle.std.specs.Prelude.{◌==◌, slice_get}
 use Rattle.std.proofs.lemmas.Bool.Decides.{nat_tests}
 use Rattle.std.specs.FinMap.{get, insert}
 use Rattle.tss_base.specs.declared.operand.OpName.{OpName}
@@ -21,7 +21,7 @@ use Rattle.tss_locality.specs.Agreement.{Beyond, AgreeAt, SameShape, times_in}
 use Rattle.tss_locality.specs.Scopes.{Scope, IsOwn, beyond, SourceIn, MaybeSourceIn, LinkIn, RecordIn, MessagesIn, AreSentIn, ClosedFlight}
 use Rattle.tss_locality.proofs.Agreements.{agree_then, agree_inserted}
 use Rattle.tss_locality.proofs.States.{FlightOn, shape_same, same_flight}
-use Rattle.tss_locality.proofs.Flights.{KeepsTask, keeps_records, keeps_with_operand, flight_inserted, flight_remaining}
+use Rattle.tss_locality.proofs.Flights.{record_in, KeepsTask, keeps_records, keeps_with_operand, flight_inserted, flight_remaining}
 
 -- ---- the queue
 
@@ -69,7 +69,7 @@ module _ (c : Scope) (f : Numbered Flying) (closed : ClosedFlight c f) where
   recorded : (o : OpName) (x : Flying) (r : OperandState) → c.names o → get f o.task ≡ Some x →
       slice_get x.operands o.place ≡ Some r → RecordIn c r
   recorded o x r p there here = closed o r p
-      (ap (λ x. option_and_then (λ x. slice_get x.operands o.place) x) there ∙ here)
+      (ap (record_in o.place) there ∙ here)
 
   -- ---- ready
 
@@ -105,6 +105,7 @@ module _ (c : Scope) (f : Numbered Flying) (closed : ClosedFlight c f) where
   woken_in_only o s own i None there = record { flight = same_flight (beyond c) f; sent = tt }
   woken_in_only o s own i (Some x) there = woken_by_only o s x there own i (slice_get x.operands o.place) refl
 
+  -- an operand is told its version
   pub ready_only : (o : OpName) (s : Source) → IsOwn c o → SourceIn c s → ReadyOnly (after_ready f o s)
   ready_only o s own i = woken_in_only o s own i (get f o.task) refl
 
@@ -129,6 +130,7 @@ module _ (c : Scope) (f : Numbered Flying) (closed : ClosedFlight c f) where
   linked_in_only o next own p None there = record { flight = same_flight (beyond c) f; sent = tt }
   linked_in_only o next own p (Some x) there = linked_by_only o next x there own p (slice_get x.operands o.place) refl
 
+  -- an operand is told who comes next
   pub link_only : (o next : OpName) → IsOwn c o → c.names next → TasksOnly c f (after_link f o next)
   link_only o next own p = linked_in_only o next own p (get f o.task) refl
 
@@ -147,6 +149,7 @@ module _ (c : Scope) (f : Numbered Flying) where
   parted_in_only o promised own None there = same_flight (beyond c) f
   parted_in_only o promised own (Some x) there = parted_by_only o promised x there own (slice_get x.operands o.place)
 
+  -- an operand says farewell
   pub bye_only : (o : OpName) (promised : Bool) → IsOwn c o → FlightOn (beyond c) f (after_bye f o promised)
   bye_only o promised own = parted_in_only o promised own (get f o.task) refl
 
@@ -165,7 +168,8 @@ module _ (c : Scope) (f : Numbered Flying) (n : ℕ) (own : c.tasks n) where
   releases_sent k (r ∷ rs) names =
       release_sent k r r.source (releases_from n (suc k) rs)
       (subst (λ j. c.names (operand_name n j)) (add-zero k) (names 0 r refl))
-      (releases_sent (suc k) rs (λ j q e. subst (λ j. c.names (operand_name n j)) (sym (shifted k j)) (names (suc j) q e)))
+      (releases_sent (suc k) rs (λ j q e. subst (λ j. c.names (operand_name n j)) (sym (shifted k j))
+      (names (suc j) q e)))
 
   finished_only : (x : Option Flying) → get f n ≡ x → FlightOn (beyond c) f (finished_in f n x).part
   finished_only None there = same_flight (beyond c) f
@@ -183,10 +187,11 @@ module _ (c : Scope) (f : Numbered Flying) (n : ℕ) (own : c.tasks n) where
   finished_sent None there names = tt
   finished_sent (Some x) there names =
       releases_sent 0 x.operands (λ j r e. subst (λ j. c.names (operand_name n j)) (sym (from_zero j))
-      (names j r (ap (λ x. option_and_then (λ x. slice_get x.operands j) x) there ∙ e)))
+      (names j r (ap (record_in j) there ∙ e)))
 
   -- and its operands' releases are sent
-  pub finish_sent : ((k : ℕ) (r : OperandState) → operand_at f (operand_name n k) ≡ Some r → c.names (operand_name n k)) →
+  pub finish_sent : ((k : ℕ) (r : OperandState) → operand_at f (operand_name n k) ≡ Some r →
+      c.names (operand_name n k)) →
       AreSentIn c (flight_after_finish f n).sent
   finish_sent names = finished_sent (get f n) refl names
 
@@ -197,9 +202,10 @@ module _ (c : Scope) (f : Numbered Flying) (n : ℕ) (own : c.tasks n) where
       ((j : ℕ) (o : Operand) → slice_get os j ≡ Some o → c.names (operand_name n (k + j))) →
       AreSentIn c (decodes_from n k os)
   decodes_sent k [] names = tt
-  decodes_sent k (o ∷ os) names =
-      ((subst (λ j. c.names (operand_name n j)) (add-zero k) (names 0 o refl), own),
-      decodes_sent (suc k) os (λ j q e. subst (λ j. c.names (operand_name n j)) (sym (shifted k j)) (names (suc j) q e)))
+  decodes_sent k (o ∷ os) names = (
+    (subst (λ j. c.names (operand_name n j)) (add-zero k) (names 0 o refl), own),
+    decodes_sent (suc k) os (λ j q e. subst (λ j. c.names (operand_name n j)) (sym (shifted k j)) (names (suc j) q e)),
+  )
 
   -- the gateway holds them
   pub gateway_held : (g h : Named (Unit {0})) → AgreeAt (Beyond (IsOwn c)) g h → (k : ℕ) (os : List Operand) →
@@ -207,7 +213,8 @@ module _ (c : Scope) (f : Numbered Flying) (n : ℕ) (own : c.tasks n) where
       AgreeAt (Beyond (IsOwn c)) g (held_with h (names_from n k os))
   gateway_held g h same k [] names = same
   gateway_held g h same k (o ∷ os) names =
-      let p : IsOwn c (operand_name n k) = (subst (λ j. c.names (operand_name n j)) (add-zero k) (names 0 o refl), own) in
+      let p : IsOwn c (operand_name n k) =
+      (subst (λ j. c.names (operand_name n j)) (add-zero k) (names 0 o refl), own) in
       let more = insert h (operand_name n k) tt in
       gateway_held g more
       (agree_then (Beyond (IsOwn c)) g h more same (agree_inserted name_order (IsOwn c) h (operand_name n k) tt p))
@@ -233,10 +240,10 @@ module _ (c : Scope) (f : Numbered Flying) (n : ℕ) (own : c.tasks n) where
     operands = λ o out. inl (elim (decide_key nat_order o.task n) [
       | inl same ↦
           no_record (operand_at f o) (operand_at (insert f n y) o)
-          (ap (λ x. option_and_then (λ x. slice_get x.operands o.place) x) (ap (get f) same ∙ new))
+          (ap (record_in o.place) (ap (get f) same ∙ new))
           (λ r e. out (subst (λ n. c.names (operand_name n o.place)) (sym same) (names o.place r
-          (sym (ap (λ x. option_and_then (λ x. slice_get x.operands o.place) x) (ap (get (insert f n y)) same ∙ at_inserted nat_order f n y)) ∙ e))))
+          (sym (ap (record_in o.place) (ap (get (insert f n y)) same ∙ at_inserted nat_order f n y)) ∙ e))))
       | inr apart ↦
-          ap (λ x. option_and_then (λ x. slice_get x.operands o.place) x) (beside_inserted nat_order f n y o.task apart)
+          ap (record_in o.place) (beside_inserted nat_order f n y o.task apart)
     ]);
   }

@@ -57,12 +57,14 @@ module _ (c : Scope) (vs : Named Version) where
   versions_none closed = record { same = agree_same (Beyond c.names) vs; closed = closed }
 
   module _ (ws : Named Version) (f : VersionsOnly c vs ws) where
+    -- a version of the scope is put under a name of it
     pub versions_put : (v : OpName) (x : Version) → c.names v → VersionIn c x → VersionsOnly c vs (put_version ws v x)
     versions_put v x p i = record {
       same = agree_then (Beyond c.names) vs ws (insert ws v x) f.same (agree_inserted name_order c.names ws v x p);
       closed = closed_inserted name_order c.names (VersionIn c) ws v x f.closed i;
     }
 
+    -- a version of the scope is dropped
     pub versions_drop : (v : OpName) → c.names v → VersionsOnly c vs (drop_version ws v)
     versions_drop v p = record {
       same = agree_then (Beyond c.names) vs ws (remove ws v) f.same (agree_removed name_order c.names ws v p);
@@ -74,10 +76,12 @@ module _ (c : Scope) (vs : Named Version) where
     versions_changed v g None there p keeps = f
     versions_changed v g (Some x) there p keeps = versions_put v (g x) p (keeps x (f.closed v x p there))
 
+    -- a version of the scope is changed where it is there
     pub versions_change : (v : OpName) (g : Version → Version) → c.names v →
         ((x : Version) → VersionIn c x → VersionIn c (g x)) → VersionsOnly c vs (change_version ws v g)
     versions_change v g p keeps = versions_changed v g (get ws v) refl p keeps
 
+    -- the same of a version that may not be named
     pub versions_change_named : (v : Option OpName) (g : Version → Version) → NameIn c v →
         ((x : Version) → VersionIn c x → VersionIn c (g x)) → VersionsOnly c vs (change_named ws v g)
     versions_change_named None g p keeps = f

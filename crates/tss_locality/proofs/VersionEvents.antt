@@ -62,7 +62,7 @@ module _ (c : Scope) (vs : Named Version) (closed : ClosedVersions c vs) where
       c.names f.version → StaysIn c vs (opened_how vs o x f how)
   opened_how_in o x f Beside p i q =
       stays_sending c vs (ready_with o o x.storage) (settled (followed vs o x f) f.version)
-          (ready_in c o o x.storage p p i.storage)
+      (ready_in c o o x.storage p p i.storage)
       (stays_settled c vs (followed vs o x f) f.version (followed_only o x f p i q) q)
   opened_how_in o x f Over p i q = stays_settled c vs (followed vs o x f) f.version (followed_only o x f p i q) q
 
@@ -165,7 +165,7 @@ module _ (c : Scope) (vs : Named Version) (closed : ClosedVersions c vs) where
       StaysIn c vs (released_by_reader vs o v x)
   by_reader_in o v x p q i =
       stays_sending c vs (Bye o (not (is_last o x.tail)) ∷ []) (settled (put_version vs v (released_once x o)) v)
-          (p, tt)
+      (p, tt)
       (stays_settled c vs (put_version vs v (released_once x o)) v
       (versions_put c vs vs none v (released_once x o) q (record {
         object = i.object;

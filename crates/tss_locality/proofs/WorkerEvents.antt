@@ -1,7 +1,7 @@
 -- Start and exec concern a worker's task and the storages of its operands, and finish the task with the names of its
 -- operands.
 use Rattle.std.proofs.Common.{◌≡◌, ℕ, zero, suc, Bool, true, false, cond, List, [], ◌∷◌, Option, Some, None, refl, sym, ap, ◌∙◌, subst}
-use Rattle.std.specs.Prelude.{nat_lt, is_none, map, slice_get, option_and_then}
+use Rattle.std.specs.Prelude.{nat_lt, is_none, map, slice_get}
 use Rattle.std.specs.FinMap.{get, insert, remove}
 use Rattle.std.proofs.lemmas.Bool.{and_parts}
 use Rattle.std.proofs.lemmas.Option.{none-some, same_Some}
@@ -22,7 +22,7 @@ use Rattle.tss_locality.specs.Scopes.{Scope, beyond, ChangesOnly, StorageIn, May
 use Rattle.tss_locality.specs.Concerns.{ConcernsFinish, ConcernsStart, ConcernsExec}
 use Rattle.tss_locality.proofs.Agreements.{IsOther, other_none, other_some, same_for_inserted, same_for_removed}
 use Rattle.tss_locality.proofs.States.{state_flight, state_queue, state_workers, state_trap}
-use Rattle.tss_locality.proofs.Flights.{keeps_records, flight_inserted}
+use Rattle.tss_locality.proofs.Flights.{record_in, keeps_records, flight_inserted}
 use Rattle.tss_locality.proofs.Sending.{changes_none, changes_sent}
 use Rattle.tss_locality.proofs.Tasks.{times_in_front, finish_only, finish_sent}
 use Rattle.tss_locality.proofs.Stores.{stores_same, PlacedIn, outputs_only}
@@ -66,7 +66,7 @@ module _ (c : Scope) (m : Machine) (S : State) (closed : Closed c S) where
     objects = λ k o at. (p.operands k o at).1;
     storages = λ k o s at e. storages_in x.operands k s e (λ r is.
         (closed.flight (operand_name t k) r (p.operands k o at).0
-        (ap (λ x. option_and_then (λ x. slice_get x.operands k) x) there ∙ is)).source);
+        (ap (record_in k) there ∙ is)).source);
   }
 
   started : (w t : ℕ) (ts : List ℕ) (x : Flying) → S.queue ≡ t ∷ ts → get S.flight t ≡ Some x → ConcernsStart c t x →
@@ -81,7 +81,7 @@ module _ (c : Scope) (m : Machine) (S : State) (closed : Closed c S) where
       (λ n out. times_in_front n t (λ same. out (subst c.tasks same p.task)) ts ∙ ap (times_in n) (sym front)) in
       let in_flight = state_flight (beyond c) S A in_queue flight
       (flight_inserted c S.flight t x (record x { stage = stage.Running }) p.task there
-          (keeps_records c t x (record x { stage = stage.Running }) refl refl)) in
+      (keeps_records c t x (record x { stage = stage.Running }) refl refl)) in
       let in_workers = state_workers (beyond c) S B in_flight workers
       (same_for_inserted nat_order (IsElsewhere c) S.workers w other (busy_at_start x) (λ out. out own)) in
       changes_stores c S (record B { workers = workers }) in_workers (stores_after_start m.limits (stores_of S) x)
@@ -100,8 +100,9 @@ module _ (c : Scope) (m : Machine) (S : State) (closed : Closed c S) where
   start_by w (t ∷ ts) front on p =
       let free = (and_parts (nat_lt w m.sizes.workers) (is_none (get S.workers w)) on).1 in
       start_of w t ts (get S.flight t) front refl (λ x there. p t ts x front there)
-          (idle c S w (get S.workers w) refl free)
+      (idle c S w (get S.workers w) refl free)
 
+  -- start changes only the front task, its worker, and the storages of the operands that become zeros
   pub ChangesOnly-start : (w : ℕ) → IsEnabled m S (event.Start w) →
       ((t : ℕ) (ts : List ℕ) (x : Flying) → S.queue ≡ t ∷ ts → get S.flight t ≡ Some x → ConcernsStart c t x) →
       ChangesOnly c S (after_event m S (event.Start w))
@@ -130,12 +131,13 @@ module _ (c : Scope) (m : Machine) (S : State) (closed : Closed c S) where
       changes_stores c S (record S { workers = workers })
       (state_workers (beyond c) S S (changes_none c S) workers
       (same_for_inserted nat_order (IsElsewhere c) S.workers w (here c S w b there concern.task) (busy_after b after)
-          (λ out. out concern.task)))
+      (λ out. out concern.task)))
       after.memory
       (stretch_only c s os b.storages (placed_at_exec w b there concern) S.home.ranges
-          (worker_byte (placed_in os b.storages))
+      (worker_byte (placed_in os b.storages))
       m.limits.task_budget S.code m.sizes.quantum (task_state_of b s) (stores_same c s))
 
+  -- exec changes only its worker, and the storages of the task's operands
   pub ChangesOnly-exec : (w : ℕ) → ((b : Busy) → get S.workers w ≡ Some b → ConcernsExec c b) →
       ChangesOnly c S (after_event m S (event.Exec w))
   unfolding after_event
@@ -177,6 +179,7 @@ module _ (c : Scope) (m : Machine) (S : State) where
   finished_by w None there p = changes_none c S
   finished_by w (Some b) there p = finished w b there (p b there)
 
+  -- finish changes only its worker and the task, with the names of its operands
   pub ChangesOnly-finish : (w : ℕ) → ((b : Busy) → get S.workers w ≡ Some b → ConcernsFinish c S b) →
       ChangesOnly c S (after_event m S (event.Finish w))
   unfolding after_event
