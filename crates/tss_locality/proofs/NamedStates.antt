@@ -68,6 +68,11 @@ module _ (f : Objects) where
     arrivals = λ o p e. absurd (none-some p e);
     records = λ o r e. absurd (none-some r
         (sym (ap (record_in o.place) (get-empty nat_cmp o.task)) ∙ e));
+    workers = λ w b e. absurd (none-some b (sym (get-empty nat_cmp w) ∙ e));
+    entries = λ b e there. absurd (none-some e (sym (get-empty nat_cmp b) ∙ there));
+    places = λ o x e. absurd (none-some x (sym (get-empty name_cmp o) ∙ e));
+    buffers = λ o x e. absurd (none-some x (sym (get-empty name_cmp o) ∙ e));
+    versions = λ o x e. absurd (none-some x (sym (get-empty name_cmp o) ∙ e));
     mail = record {
       decodes = λ o x e. absurd (none-some x (sym (get-empty name_cmp o) ∙ e));
       acks = λ o x e. absurd (none-some x (sym (get-empty name_cmp o) ∙ e));

@@ -1,6 +1,6 @@
 -- Objects with the names of their operands: the scope of one object, that links stay within an object, and that each
 -- name has its object.
-use Rattle.std.specs.Prelude.{◌≡◌, ℕ, Option, Some}
+use Rattle.std.specs.Prelude.{◌≡◌, ℕ, slice_get, Option, Some}
 use Rattle.std.specs.FinMap.{get}
 use Rattle.tss_base.specs.declared.range.Range.{Range}
 use Rattle.tss_base.specs.declared.operand.OpName.{OpName}
@@ -9,10 +9,11 @@ use Rattle.tss_base.specs.declared.operand.Task.{Task}
 use Rattle.tss_base.specs.declared.machine.Machine.{Machine}
 use Rattle.tss_base.specs.declared.event.Event.{Event}
 use Rattle.tss_base.specs.declared.event.Event.TheVariants as event
-use Rattle.tss_base.specs.Names.{Named}
+use Rattle.tss_base.specs.Names.{Named, Numbered}
 use Rattle.tss_model.specs.MainStep.{Call, main_call}
-use Rattle.tss_protocol.specs.Mail.{Mail}
-use Rattle.tss_protocol.specs.State.{OperandState, Flying, CopyState, State}
+use Rattle.tss_protocol.specs.Names.{operand_name}
+use Rattle.tss_protocol.specs.Mail.{StorageName, Mail}
+use Rattle.tss_protocol.specs.State.{OperandState, Flying, Busy, Entry, CopyState, State}
 use Rattle.tss_protocol.specs.Stations.{operand_at}
 use Rattle.tss_protocol.specs.MainEvent.{call_next}
 use Rattle.tss_locality.specs.Agreement.{operand_in}
@@ -98,10 +99,26 @@ pub record MailNamed (f : Objects) (m : Mail) : Type 0 where
   pub retires : AreNamed f m.retires
   pub gones : AreNamed f m.gones
 
--- each operand in the inbox, in flight or of a message has its object, and so has what is copied
+-- the storages that a worker has are of operands with objects
+abbrev pub WorkerNamed : Objects → Busy → Type 0
+WorkerNamed f b =
+    (k : ℕ) (s : StorageName) → slice_get b.storages k ≡ Some s → HasObject f (operand_name b.task.number k)
+
+-- an entry's latest version is of an object with the entry's base
+abbrev pub EntriesNamed : Objects → Numbered Entry → Type 0
+EntriesNamed f entries =
+    (b : ℕ) (e : Entry) → get entries b ≡ Some e → (x : Range) × (f e.latest ≡ Some x) × (x.base ≡ b)
+
+-- each operand in the inbox, in flight, of a message, of a worker, of an entry, of a version, of a held place or of a
+-- held buffer has its object, and what is copied is the object of its version
 pub record IsNamed (f : Objects) (S : State) : Type 0 where
   pub arrivals : HasObjects f S.inbox
   pub records : (o : OpName) (r : OperandState) → operand_at S.flight o ≡ Some r → HasObject f o
+  pub workers : (w : ℕ) (b : Busy) → get S.workers w ≡ Some b → WorkerNamed f b
+  pub entries : EntriesNamed f S.entries
+  pub places : AreNamed f S.places
+  pub buffers : AreNamed f S.buffers
+  pub versions : AreNamed f S.versions
   pub mail : MailNamed f S.mail
   pub copies : (b : ℕ) (k : CopyState) → get S.copies b ≡ Some k → f k.version ≡ Some k.object
 
