@@ -20,7 +20,8 @@ module _ (c d : Scope) (less : LiesWithin c d) where
   name_more None p = tt
   name_more (Some o) p = less.names o p
 
-  storage_more : (s : StorageName) → StorageIn c s → StorageIn d s
+  -- a storage
+  pub storage_more : (s : StorageName) → StorageIn c s → StorageIn d s
   storage_more Home p = tt
   storage_more (Buffer b) p = less.names b p
 
@@ -32,7 +33,8 @@ module _ (c d : Scope) (less : LiesWithin c d) where
   follow_more None p = tt
   follow_more (Some f) p = less.names f.version p
 
-  source_more : (s : Source) → SourceIn c s → SourceIn d s
+  -- what an operand was told
+  pub source_more : (s : Source) → SourceIn c s → SourceIn d s
   source_more s p = (less.names s.version p.0, storage_more s.storage p.1)
 
   maybe_source_more : (s : Option Source) → MaybeSourceIn c s → MaybeSourceIn d s
@@ -44,10 +46,12 @@ module _ (c d : Scope) (less : LiesWithin c d) where
   link_more (link.Held next) p = less.names next p
   link_more link.Passed p = tt
 
-  base_more : (b : ℕ) → IsBase c b → IsBase d b
+  -- a base
+  pub base_more : (b : ℕ) → IsBase c b → IsBase d b
   base_more b p = (p.0, less.objects p.0 p.1, p.2)
 
-  version_more : (x : Version) → VersionIn c x → VersionIn d x
+  -- what a version names
+  pub version_more : (x : Version) → VersionIn c x → VersionIn d x
   version_more x i = record {
     object = less.objects x.object i.object;
     storage = maybe_storage_more x.storage i.storage;
@@ -57,20 +61,24 @@ module _ (c d : Scope) (less : LiesWithin c d) where
     successor = follow_more x.successor i.successor;
   }
 
-  record_more : (r : OperandState) → RecordIn c r → RecordIn d r
+  -- what a record names
+  pub record_more : (r : OperandState) → RecordIn c r → RecordIn d r
   record_more r i = record { source = maybe_source_more r.source i.source; link = link_more r.link i.link }
 
-  opening_more : (x : OpenContents) → OpeningIn c x → OpeningIn d x
+  -- what an open message names
+  pub opening_more : (x : OpenContents) → OpeningIn c x → OpeningIn d x
   opening_more x i = record {
     object = less.objects x.operand.object i.object;
     storage = maybe_storage_more x.storage i.storage;
     follows = follow_more x.follows i.follows;
   }
 
-  going_more : (g : GoneContents) → GoingIn c g → GoingIn d g
+  -- what a gone message names
+  pub going_more : (g : GoneContents) → GoingIn c g → GoingIn d g
   going_more g i = record { object = less.objects g.object i.object; buffer = name_more g.buffer i.buffer }
 
-  copy_more : (k : CopyState) → CopyIn c k → CopyIn d k
+  -- what a copy names
+  pub copy_more : (k : CopyState) → CopyIn c k → CopyIn d k
   copy_more k i = record { version = less.names k.version i.version; buffer = less.names k.buffer i.buffer }
 
 -- a closed scope within another

@@ -30,3 +30,4 @@ pub mod FamilyScopes
 pub mod NamedStates
 pub mod NamedEvents
 pub mod OtherParts
+pub mod GrownObjects
