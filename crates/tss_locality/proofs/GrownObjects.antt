@@ -45,7 +45,8 @@ module _ (f g : Objects) (grows : (o : OpName) (x : Range) → f o ≡ Some x �
     copies = λ b k e. grows k.version k.object (n.copies b k e);
   }
 
-  module _ (apart : AreApartNamed g) (S : State) (within : IsWithinObjects f S) (o : OpName) (x : Range) (go : g o ≡ Some x) where
+  module _ (apart : AreApartNamed g) (S : State) (within : IsWithinObjects f S) (o : OpName) (x : Range)
+      (go : g o ≡ Some x) where
     abbrev old : Scope
     old = object_scope f x Every
 
@@ -81,7 +82,8 @@ module _ (f g : Objects) (grows : (o : OpName) (x : Range) → f o ≡ Some x �
       entries = λ y e is_x there.
           let t = within.named.entries y.base e there in
           let g_latest = grows e.latest t.0 t.1 in
-          g_latest ∙ ap Some (sym (apart o e.latest x t.0 go g_latest (ap (λ (r : Range). r.base) (sym is_x) ∙ sym t.2)));
+          g_latest ∙ ap Some (sym (apart o e.latest x t.0 go g_latest
+              (ap (λ (r : Range). r.base) (sym is_x) ∙ sym t.2)));
       versions = at_more (VersionIn old) (VersionIn new) S.versions within.named.versions (version_more old new more)
           (λ c. c.versions);
       mail = record {
@@ -89,10 +91,13 @@ module _ (f g : Objects) (grows : (o : OpName) (x : Range) → f o ≡ Some x �
         opens = at_more (OpeningIn old) (OpeningIn new) S.mail.opens within.named.mail.opens (opening_more old new more)
             (λ c. c.mail.opens);
         uses = at_more old.names new.names S.mail.uses within.named.mail.uses (λ v p. grows v x p) (λ c. c.mail.uses);
-        readies = at_more (SourceIn old) (SourceIn new) S.mail.readies within.named.mail.readies (source_more old new more)
+        readies = at_more (SourceIn old) (SourceIn new) S.mail.readies within.named.mail.readies
+            (source_more old new more)
             (λ c. c.mail.readies);
-        links = at_more old.names new.names S.mail.links within.named.mail.links (λ v p. grows v x p) (λ c. c.mail.links);
-        releases = at_more (λ r. old.names r.version) (λ r. new.names r.version) S.mail.releases within.named.mail.releases
+        links = at_more old.names new.names S.mail.links within.named.mail.links (λ v p. grows v x p)
+            (λ c. c.mail.links);
+        releases = at_more (λ r. old.names r.version) (λ r. new.names r.version) S.mail.releases
+            within.named.mail.releases
             (λ r p. grows r.version x p) (λ c. c.mail.releases);
         idles = at_more (λ i. IsBase old i.base) (λ i. IsBase new i.base) S.mail.idles within.named.mail.idles
             (λ i p. base_more old new more i.base p) (λ c. c.mail.idles);

@@ -31,3 +31,5 @@ pub mod NamedStates
 pub mod NamedEvents
 pub mod OtherParts
 pub mod GrownObjects
+pub mod SpawnNumbers
+pub mod Subjects

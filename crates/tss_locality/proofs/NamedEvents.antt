@@ -363,7 +363,7 @@ module _ (f : Objects) (m : Machine) (S : State) (within : IsWithinObjects f S) 
   copy_named b on (Some k) there =
       let fo = within.named.copies b k there in
       let this : (l : CopyState) → get S.copies b ≡ Some l → l.object ≡ k.object =
-          λ l e. ap (λ (k : CopyState). k.object) (same_Some l k (sym e ∙ there)) in
+      λ l e. ap (λ (k : CopyState). k.object) (same_Some l k (sym e ∙ there)) in
       one_named (event.Copy b) k.version k.object fo
       (ChangesOnly-after_event (of_object k.object) m S (within.links k.version k.object fo) (event.Copy b) on this)
       (links_after (event.Copy b) on tt) (λ i. (Leaves-after_event m S (event.Copy b) i).inbox)
@@ -373,7 +373,8 @@ module _ (f : Objects) (m : Machine) (S : State) (within : IsWithinObjects f S) 
   unfolding after_event
   exec_kept w = exec_named f m S within.named w (get S.workers w) refl
 
-  finish_kept_workers : (w q : ℕ) (x : Busy) → get (after_event m S (event.Finish w)).workers q ≡ Some x → WorkerNamed f x
+  finish_kept_workers : (w q : ℕ) (x : Busy) → get (after_event m S (event.Finish w)).workers q ≡ Some x →
+      WorkerNamed f x
   unfolding after_event
   finish_kept_workers w = finish_workers f m S within.named w (get S.workers w)
 
@@ -401,77 +402,88 @@ module _ (f : Objects) (m : Machine) (S : State) (within : IsWithinObjects f S) 
       (ChangesOnly-after_event (of_object h.0) m S (within.links o h.0 h.1) (event.Decode o) on (h.1, tt))
       (links_after (event.Decode o) on fit) (λ i. (Leaves-after_event m S (event.Decode o) i).inbox)
       (λ i. (Leaves-after_event m S (event.Decode o) i).workers)
-      (copies_same f m S within.named (after_event m S (event.Decode o)) (λ i. (Leaves-after_event m S (event.Decode o) i).copies))
+      (copies_same f m S within.named (after_event m S (event.Decode o))
+          (λ i. (Leaves-after_event m S (event.Decode o) i).copies))
   IsNamed-after_event (event.Ack o) on fit =
       let h = known f m S within.named (event.Ack o) on fit in
       one_named (event.Ack o) o h.0 h.1
       (ChangesOnly-after_event (of_object h.0) m S (within.links o h.0 h.1) (event.Ack o) on (h.1, tt))
       (links_after (event.Ack o) on fit) (λ i. (Leaves-after_event m S (event.Ack o) i).inbox)
       (λ i. (Leaves-after_event m S (event.Ack o) i).workers)
-      (copies_same f m S within.named (after_event m S (event.Ack o)) (λ i. (Leaves-after_event m S (event.Ack o) i).copies))
+      (copies_same f m S within.named (after_event m S (event.Ack o))
+          (λ i. (Leaves-after_event m S (event.Ack o) i).copies))
   IsNamed-after_event (event.Open o) on fit =
       let h = known f m S within.named (event.Open o) on fit in
       one_named (event.Open o) o h.0 h.1
       (ChangesOnly-after_event (of_object h.0) m S (within.links o h.0 h.1) (event.Open o) on (h.1, tt))
       (links_after (event.Open o) on fit) (λ i. (Leaves-after_event m S (event.Open o) i).inbox)
       (λ i. (Leaves-after_event m S (event.Open o) i).workers)
-      (copies_same f m S within.named (after_event m S (event.Open o)) (λ i. (Leaves-after_event m S (event.Open o) i).copies))
+      (copies_same f m S within.named (after_event m S (event.Open o))
+          (λ i. (Leaves-after_event m S (event.Open o) i).copies))
   IsNamed-after_event (event.Use o) on fit =
       let h = known f m S within.named (event.Use o) on fit in
       one_named (event.Use o) o h.0 h.1
       (ChangesOnly-after_event (of_object h.0) m S (within.links o h.0 h.1) (event.Use o) on (h.1, tt))
       (links_after (event.Use o) on fit) (λ i. (Leaves-after_event m S (event.Use o) i).inbox)
       (λ i. (Leaves-after_event m S (event.Use o) i).workers)
-      (copies_same f m S within.named (after_event m S (event.Use o)) (λ i. (Leaves-after_event m S (event.Use o) i).copies))
+      (copies_same f m S within.named (after_event m S (event.Use o))
+          (λ i. (Leaves-after_event m S (event.Use o) i).copies))
   IsNamed-after_event (event.Ready o) on fit =
       let h = known f m S within.named (event.Ready o) on fit in
       one_named (event.Ready o) o h.0 h.1
       (ChangesOnly-after_event (of_object h.0) m S (within.links o h.0 h.1) (event.Ready o) on (h.1, tt))
       (links_after (event.Ready o) on fit) (λ i. (Leaves-after_event m S (event.Ready o) i).inbox)
       (λ i. (Leaves-after_event m S (event.Ready o) i).workers)
-      (copies_same f m S within.named (after_event m S (event.Ready o)) (λ i. (Leaves-after_event m S (event.Ready o) i).copies))
+      (copies_same f m S within.named (after_event m S (event.Ready o))
+          (λ i. (Leaves-after_event m S (event.Ready o) i).copies))
   IsNamed-after_event (event.Link o) on fit =
       let h = known f m S within.named (event.Link o) on fit in
       one_named (event.Link o) o h.0 h.1
       (ChangesOnly-after_event (of_object h.0) m S (within.links o h.0 h.1) (event.Link o) on (h.1, tt))
       (links_after (event.Link o) on fit) (λ i. (Leaves-after_event m S (event.Link o) i).inbox)
       (λ i. (Leaves-after_event m S (event.Link o) i).workers)
-      (copies_same f m S within.named (after_event m S (event.Link o)) (λ i. (Leaves-after_event m S (event.Link o) i).copies))
+      (copies_same f m S within.named (after_event m S (event.Link o))
+          (λ i. (Leaves-after_event m S (event.Link o) i).copies))
   IsNamed-after_event (event.Release o) on fit =
       let h = known f m S within.named (event.Release o) on fit in
       one_named (event.Release o) o h.0 h.1
       (ChangesOnly-after_event (of_object h.0) m S (within.links o h.0 h.1) (event.Release o) on (h.1, tt))
       (links_after (event.Release o) on fit) (λ i. (Leaves-after_event m S (event.Release o) i).inbox)
       (λ i. (Leaves-after_event m S (event.Release o) i).workers)
-      (copies_same f m S within.named (after_event m S (event.Release o)) (λ i. (Leaves-after_event m S (event.Release o) i).copies))
+      (copies_same f m S within.named (after_event m S (event.Release o))
+          (λ i. (Leaves-after_event m S (event.Release o) i).copies))
   IsNamed-after_event (event.Bye o) on fit =
       let h = known f m S within.named (event.Bye o) on fit in
       one_named (event.Bye o) o h.0 h.1
       (ChangesOnly-after_event (of_object h.0) m S (within.links o h.0 h.1) (event.Bye o) on (h.1, tt))
       (links_after (event.Bye o) on fit) (λ i. (Leaves-after_event m S (event.Bye o) i).inbox)
       (λ i. (Leaves-after_event m S (event.Bye o) i).workers)
-      (copies_same f m S within.named (after_event m S (event.Bye o)) (λ i. (Leaves-after_event m S (event.Bye o) i).copies))
+      (copies_same f m S within.named (after_event m S (event.Bye o))
+          (λ i. (Leaves-after_event m S (event.Bye o) i).copies))
   IsNamed-after_event (event.Idle o) on fit =
       let h = known f m S within.named (event.Idle o) on fit in
       one_named (event.Idle o) o h.0 h.1
       (ChangesOnly-after_event (of_object h.0) m S (within.links o h.0 h.1) (event.Idle o) on h.1)
       (links_after (event.Idle o) on fit) (λ i. (Leaves-after_event m S (event.Idle o) i).inbox)
       (λ i. (Leaves-after_event m S (event.Idle o) i).workers)
-      (copies_same f m S within.named (after_event m S (event.Idle o)) (λ i. (Leaves-after_event m S (event.Idle o) i).copies))
+      (copies_same f m S within.named (after_event m S (event.Idle o))
+          (λ i. (Leaves-after_event m S (event.Idle o) i).copies))
   IsNamed-after_event (event.Nack o) on fit =
       let h = known f m S within.named (event.Nack o) on fit in
       one_named (event.Nack o) o h.0 h.1
       (ChangesOnly-after_event (of_object h.0) m S (within.links o h.0 h.1) (event.Nack o) on h.1)
       (links_after (event.Nack o) on fit) (λ i. (Leaves-after_event m S (event.Nack o) i).inbox)
       (λ i. (Leaves-after_event m S (event.Nack o) i).workers)
-      (copies_same f m S within.named (after_event m S (event.Nack o)) (λ i. (Leaves-after_event m S (event.Nack o) i).copies))
+      (copies_same f m S within.named (after_event m S (event.Nack o))
+          (λ i. (Leaves-after_event m S (event.Nack o) i).copies))
   IsNamed-after_event (event.Gone o) on fit =
       let h = known f m S within.named (event.Gone o) on fit in
       one_named (event.Gone o) o h.0 h.1
       (ChangesOnly-after_event (of_object h.0) m S (within.links o h.0 h.1) (event.Gone o) on h.1)
       (links_after (event.Gone o) on fit) (λ i. (Leaves-after_event m S (event.Gone o) i).inbox)
       (λ i. (Leaves-after_event m S (event.Gone o) i).workers)
-      (copies_same f m S within.named (after_event m S (event.Gone o)) (λ i. (Leaves-after_event m S (event.Gone o) i).copies))
+      (copies_same f m S within.named (after_event m S (event.Gone o))
+          (λ i. (Leaves-after_event m S (event.Gone o) i).copies))
   IsNamed-after_event (event.Retire o) on fit =
       let h = known f m S within.named (event.Retire o) on fit in
       one_named (event.Retire o) o h.0 h.1
