@@ -56,11 +56,6 @@ module _ {X : Type 0} (A : X → Type 0) where
   pub same_for_equal : (a b : Option X) → b ≡ a → SameFor A a b
   same_for_equal a b e x in_a = (λ there. e ∙ there, λ there. sym e ∙ there)
 
-  -- two changes in turn
-  pub same_for_then : (a b c : Option X) → SameFor A a b → SameFor A b c → SameFor A a c
-  same_for_then a b c first second x in_a =
-      (λ there. (second x in_a).0 ((first x in_a).0 there), λ there. (first x in_a).1 ((second x in_a).1 there))
-
   -- a value of another kind
   abbrev pub IsOther : Option X → Type 0
   IsOther a = (x : X) → A x → a ≡ Some x → ⊥

@@ -5,7 +5,7 @@ use Rattle.tss_base.specs.declared.operand.Operand.{Operand}
 use Rattle.tss_base.specs.declared.operand.Task.{Task}
 use Rattle.tss_base.specs.Names.{Named, Numbered}
 use Rattle.tss_protocol.specs.Mail.{Mail}
-use Rattle.tss_protocol.specs.State.{Flying, Busy, Entry, Version, CopyState, State}
+use Rattle.tss_protocol.specs.State.{Flying, Entry, Version, State}
 use Rattle.tss_locality.specs.Agreement.{operand_in}
 use Rattle.tss_locality.specs.Scopes.{Scope, ClosedVersions, ClosedMail, ClosedFlight, ClosedEntries, ClosedCopies, ClosedWorkers, Closed}
 
@@ -29,17 +29,9 @@ module _ (c : Scope) (S : State) where
   }
 
 module _ (c : Scope) (S : State) (f : Closed c S) where
-  -- another inbox
-  pub closed_inbox : (x : Option Task) → ClosedInbox c x → Closed c (record S { inbox = x })
-  closed_inbox x p = closed_by c (record S { inbox = x }) p f.flight f.workers f.entries f.versions f.mail f.copies
-
   -- other tasks in flight
   pub closed_flight : (x : Numbered Flying) → ClosedFlight c x → Closed c (record S { flight = x })
   closed_flight x p = closed_by c (record S { flight = x }) f.arrivals p f.workers f.entries f.versions f.mail f.copies
-
-  -- other workers
-  pub closed_workers : (x : Numbered Busy) → ClosedWorkers c x → Closed c (record S { workers = x })
-  closed_workers x p = closed_by c (record S { workers = x }) f.arrivals f.flight p f.entries f.versions f.mail f.copies
 
   -- other entries
   pub closed_entries : (x : Numbered Entry) → ClosedEntries c x → Closed c (record S { entries = x })
@@ -53,7 +45,3 @@ module _ (c : Scope) (S : State) (f : Closed c S) where
   -- other messages
   pub closed_mail : (x : Mail) → ClosedMail c x → Closed c (record S { mail = x })
   closed_mail x p = closed_by c (record S { mail = x }) f.arrivals f.flight f.workers f.entries f.versions p f.copies
-
-  -- other copies
-  pub closed_copies : (x : Numbered CopyState) → ClosedCopies c x → Closed c (record S { copies = x })
-  closed_copies x p = closed_by c (record S { copies = x }) f.arrivals f.flight f.workers f.entries f.versions f.mail p

@@ -9,6 +9,7 @@ use Rattle.tss_base.specs.declared.operand.OpName.{OpName}
 use Rattle.tss_base.specs.declared.machine.Machine.{Machine}
 use Rattle.tss_base.specs.declared.event.Event.TheVariants as event
 use Rattle.tss_maps.proofs.Keys.{nat_order, name_order}
+use Rattle.tss_maps.proofs.Changes.{beside_inserted, beside_removed}
 use Rattle.tss_protocol.specs.Names.{bank_of}
 use Rattle.tss_protocol.specs.Mail.{StorageName, Home, Buffer}
 use Rattle.tss_protocol.specs.State.{Version, CopyState, State}
@@ -134,3 +135,40 @@ module _ (c : Scope) (m : Machine) (S : State) (closed : Closed c S) where
       ChangesOnly c S (after_event m S (event.Copy b))
   unfolding after_event
   ChangesOnly-copy b p = copied b (get S.copies b) refl p
+
+module _ (m : Machine) (S : State) where
+  other_bank_retired : (v : OpName) (x : Version) (q : ℕ) → (q ≡ bank_of m.sizes x.object → ⊥) →
+      (s : Option StorageName) →
+      get (copies_after_retire S.copies (bank_of m.sizes x.object) v x.object s) q ≡ get S.copies q
+  other_bank_retired v x q other None = refl
+  other_bank_retired v x q other (Some Home) = refl
+  other_bank_retired v x q other (Some (Buffer n)) =
+      beside_inserted nat_order S.copies (bank_of m.sizes x.object) (new_copy v x.object n) q other
+
+  retire_banks : (v : OpName) (q : ℕ) (x : Option Version) → get S.versions v ≡ x →
+      ((x : Version) → get S.versions v ≡ Some x → q ≡ bank_of m.sizes x.object → ⊥) →
+      get (retire_version m (without S (event.Retire v)) v x).copies q ≡ get S.copies q
+  retire_banks v q None there other = refl
+  retire_banks v q (Some x) there other = other_bank_retired v x q (other x there) x.storage
+
+  -- retire leaves the copy of every bank but that of the version's object
+  pub other_banks-retire : (v : OpName) (q : ℕ) →
+      ((x : Version) → get S.versions v ≡ Some x → q ≡ bank_of m.sizes x.object → ⊥) →
+      get (after_event m S (event.Retire v)).copies q ≡ get S.copies q
+  unfolding after_event
+  other_banks-retire v q other = retire_banks v q (get S.versions v) refl other
+
+  moved_beside : (b q : ℕ) (k : CopyState) (last : Bool) → (q ≡ b → ⊥) →
+      get (copies_after_copy S.copies b k last) q ≡ get S.copies q
+  moved_beside b q k true other = beside_removed nat_order S.copies b q other
+  moved_beside b q k false other =
+      beside_inserted nat_order S.copies b (record k { moved = k.moved + piece_len k }) q other
+
+  copy_banks : (b q : ℕ) (k : Option CopyState) → (q ≡ b → ⊥) → get (after_copy S b k).copies q ≡ get S.copies q
+  copy_banks b q None other = refl
+  copy_banks b q (Some k) other = moved_beside b q k (is_last_piece k) other
+
+  -- copy leaves the copy of every other bank
+  pub other_banks-copy : (b q : ℕ) → (q ≡ b → ⊥) → get (after_event m S (event.Copy b)).copies q ≡ get S.copies q
+  unfolding after_event
+  other_banks-copy b q other = copy_banks b q (get S.copies b) other

@@ -83,7 +83,7 @@ module _ (f g : Objects) (grows : (o : OpName) (x : Range) → f o ≡ Some x �
           let t = within.named.entries y.base e there in
           let g_latest = grows e.latest t.0 t.1 in
           g_latest ∙ ap Some (sym (apart o e.latest x t.0 go g_latest
-              (ap (λ (r : Range). r.base) (sym is_x) ∙ sym t.2)));
+          (ap (λ (r : Range). r.base) (sym is_x) ∙ sym t.2)));
       versions = at_more (VersionIn old) (VersionIn new) S.versions within.named.versions (version_more old new more)
           (λ c. c.versions);
       mail = record {

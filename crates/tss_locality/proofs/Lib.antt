@@ -33,3 +33,4 @@ pub mod OtherParts
 pub mod GrownObjects
 pub mod SpawnNumbers
 pub mod Subjects
+pub mod FewerObjects

@@ -51,23 +51,6 @@ module _ (names own : OpName → Type 0) where
       (agree_same own m.releases) (agree_same own m.byes) (agree_same names m.readies) (agree_same names m.links)
       (agree_same names m.idles) (agree_same names m.nacks) (agree_same names m.retires) (agree_same names m.gones)
 
-  -- two changes in turn
-  pub mail_then : (l m n : Mail) → MailAgrees names own l m → MailAgrees names own m n → MailAgrees names own l n
-  mail_then l m n f g = record {
-    decodes = agree_then own l.decodes m.decodes n.decodes f.decodes g.decodes;
-    acks = agree_then own l.acks m.acks n.acks f.acks g.acks;
-    opens = agree_then own l.opens m.opens n.opens f.opens g.opens;
-    uses = agree_then own l.uses m.uses n.uses f.uses g.uses;
-    releases = agree_then own l.releases m.releases n.releases f.releases g.releases;
-    byes = agree_then own l.byes m.byes n.byes f.byes g.byes;
-    readies = agree_then names l.readies m.readies n.readies f.readies g.readies;
-    links = agree_then names l.links m.links n.links f.links g.links;
-    idles = agree_then names l.idles m.idles n.idles f.idles g.idles;
-    nacks = agree_then names l.nacks m.nacks n.nacks f.nacks g.nacks;
-    retires = agree_then names l.retires m.retires n.retires f.retires g.retires;
-    gones = agree_then names l.gones m.gones n.gones f.gones g.gones;
-  }
-
   -- a change of one kind after others
   module _ (m n : Mail) (f : MailAgrees names own m n) where
     mail_decodes : (x : Named Operand) → AgreeAt own n.decodes x → MailAgrees names own m (record n { decodes = x })

@@ -403,7 +403,7 @@ module _ (f : Objects) (m : Machine) (S : State) (within : IsWithinObjects f S) 
       (links_after (event.Decode o) on fit) (λ i. (Leaves-after_event m S (event.Decode o) i).inbox)
       (λ i. (Leaves-after_event m S (event.Decode o) i).workers)
       (copies_same f m S within.named (after_event m S (event.Decode o))
-          (λ i. (Leaves-after_event m S (event.Decode o) i).copies))
+      (λ i. (Leaves-after_event m S (event.Decode o) i).copies))
   IsNamed-after_event (event.Ack o) on fit =
       let h = known f m S within.named (event.Ack o) on fit in
       one_named (event.Ack o) o h.0 h.1
@@ -411,7 +411,7 @@ module _ (f : Objects) (m : Machine) (S : State) (within : IsWithinObjects f S) 
       (links_after (event.Ack o) on fit) (λ i. (Leaves-after_event m S (event.Ack o) i).inbox)
       (λ i. (Leaves-after_event m S (event.Ack o) i).workers)
       (copies_same f m S within.named (after_event m S (event.Ack o))
-          (λ i. (Leaves-after_event m S (event.Ack o) i).copies))
+      (λ i. (Leaves-after_event m S (event.Ack o) i).copies))
   IsNamed-after_event (event.Open o) on fit =
       let h = known f m S within.named (event.Open o) on fit in
       one_named (event.Open o) o h.0 h.1
@@ -419,7 +419,7 @@ module _ (f : Objects) (m : Machine) (S : State) (within : IsWithinObjects f S) 
       (links_after (event.Open o) on fit) (λ i. (Leaves-after_event m S (event.Open o) i).inbox)
       (λ i. (Leaves-after_event m S (event.Open o) i).workers)
       (copies_same f m S within.named (after_event m S (event.Open o))
-          (λ i. (Leaves-after_event m S (event.Open o) i).copies))
+      (λ i. (Leaves-after_event m S (event.Open o) i).copies))
   IsNamed-after_event (event.Use o) on fit =
       let h = known f m S within.named (event.Use o) on fit in
       one_named (event.Use o) o h.0 h.1
@@ -427,7 +427,7 @@ module _ (f : Objects) (m : Machine) (S : State) (within : IsWithinObjects f S) 
       (links_after (event.Use o) on fit) (λ i. (Leaves-after_event m S (event.Use o) i).inbox)
       (λ i. (Leaves-after_event m S (event.Use o) i).workers)
       (copies_same f m S within.named (after_event m S (event.Use o))
-          (λ i. (Leaves-after_event m S (event.Use o) i).copies))
+      (λ i. (Leaves-after_event m S (event.Use o) i).copies))
   IsNamed-after_event (event.Ready o) on fit =
       let h = known f m S within.named (event.Ready o) on fit in
       one_named (event.Ready o) o h.0 h.1
@@ -435,7 +435,7 @@ module _ (f : Objects) (m : Machine) (S : State) (within : IsWithinObjects f S) 
       (links_after (event.Ready o) on fit) (λ i. (Leaves-after_event m S (event.Ready o) i).inbox)
       (λ i. (Leaves-after_event m S (event.Ready o) i).workers)
       (copies_same f m S within.named (after_event m S (event.Ready o))
-          (λ i. (Leaves-after_event m S (event.Ready o) i).copies))
+      (λ i. (Leaves-after_event m S (event.Ready o) i).copies))
   IsNamed-after_event (event.Link o) on fit =
       let h = known f m S within.named (event.Link o) on fit in
       one_named (event.Link o) o h.0 h.1
@@ -443,7 +443,7 @@ module _ (f : Objects) (m : Machine) (S : State) (within : IsWithinObjects f S) 
       (links_after (event.Link o) on fit) (λ i. (Leaves-after_event m S (event.Link o) i).inbox)
       (λ i. (Leaves-after_event m S (event.Link o) i).workers)
       (copies_same f m S within.named (after_event m S (event.Link o))
-          (λ i. (Leaves-after_event m S (event.Link o) i).copies))
+      (λ i. (Leaves-after_event m S (event.Link o) i).copies))
   IsNamed-after_event (event.Release o) on fit =
       let h = known f m S within.named (event.Release o) on fit in
       one_named (event.Release o) o h.0 h.1
@@ -451,7 +451,7 @@ module _ (f : Objects) (m : Machine) (S : State) (within : IsWithinObjects f S) 
       (links_after (event.Release o) on fit) (λ i. (Leaves-after_event m S (event.Release o) i).inbox)
       (λ i. (Leaves-after_event m S (event.Release o) i).workers)
       (copies_same f m S within.named (after_event m S (event.Release o))
-          (λ i. (Leaves-after_event m S (event.Release o) i).copies))
+      (λ i. (Leaves-after_event m S (event.Release o) i).copies))
   IsNamed-after_event (event.Bye o) on fit =
       let h = known f m S within.named (event.Bye o) on fit in
       one_named (event.Bye o) o h.0 h.1
@@ -459,7 +459,7 @@ module _ (f : Objects) (m : Machine) (S : State) (within : IsWithinObjects f S) 
       (links_after (event.Bye o) on fit) (λ i. (Leaves-after_event m S (event.Bye o) i).inbox)
       (λ i. (Leaves-after_event m S (event.Bye o) i).workers)
       (copies_same f m S within.named (after_event m S (event.Bye o))
-          (λ i. (Leaves-after_event m S (event.Bye o) i).copies))
+      (λ i. (Leaves-after_event m S (event.Bye o) i).copies))
   IsNamed-after_event (event.Idle o) on fit =
       let h = known f m S within.named (event.Idle o) on fit in
       one_named (event.Idle o) o h.0 h.1
@@ -467,7 +467,7 @@ module _ (f : Objects) (m : Machine) (S : State) (within : IsWithinObjects f S) 
       (links_after (event.Idle o) on fit) (λ i. (Leaves-after_event m S (event.Idle o) i).inbox)
       (λ i. (Leaves-after_event m S (event.Idle o) i).workers)
       (copies_same f m S within.named (after_event m S (event.Idle o))
-          (λ i. (Leaves-after_event m S (event.Idle o) i).copies))
+      (λ i. (Leaves-after_event m S (event.Idle o) i).copies))
   IsNamed-after_event (event.Nack o) on fit =
       let h = known f m S within.named (event.Nack o) on fit in
       one_named (event.Nack o) o h.0 h.1
@@ -475,7 +475,7 @@ module _ (f : Objects) (m : Machine) (S : State) (within : IsWithinObjects f S) 
       (links_after (event.Nack o) on fit) (λ i. (Leaves-after_event m S (event.Nack o) i).inbox)
       (λ i. (Leaves-after_event m S (event.Nack o) i).workers)
       (copies_same f m S within.named (after_event m S (event.Nack o))
-          (λ i. (Leaves-after_event m S (event.Nack o) i).copies))
+      (λ i. (Leaves-after_event m S (event.Nack o) i).copies))
   IsNamed-after_event (event.Gone o) on fit =
       let h = known f m S within.named (event.Gone o) on fit in
       one_named (event.Gone o) o h.0 h.1
@@ -483,7 +483,7 @@ module _ (f : Objects) (m : Machine) (S : State) (within : IsWithinObjects f S) 
       (links_after (event.Gone o) on fit) (λ i. (Leaves-after_event m S (event.Gone o) i).inbox)
       (λ i. (Leaves-after_event m S (event.Gone o) i).workers)
       (copies_same f m S within.named (after_event m S (event.Gone o))
-          (λ i. (Leaves-after_event m S (event.Gone o) i).copies))
+      (λ i. (Leaves-after_event m S (event.Gone o) i).copies))
   IsNamed-after_event (event.Retire o) on fit =
       let h = known f m S within.named (event.Retire o) on fit in
       one_named (event.Retire o) o h.0 h.1

@@ -72,7 +72,7 @@ module _ (m : Machine) (S : State) where
   spawned_number ExitCall t e = absurd (none-some t e)
   spawned_number Spawn t e =
       numbered (spawn_of (spawn_call S.main.registers) S.home S.main.epoch m.limits S.main.spawned)
-          (suc S.main.spawned) t
+      (suc S.main.spawned) t
       (spawn_of-numbered (spawn_call S.main.registers) S.home S.main.epoch m.limits S.main.spawned) e
   spawned_number Barrier t e = absurd (none-some t e)
   spawned_number Print t e = absurd (none-some t e)
@@ -80,9 +80,11 @@ module _ (m : Machine) (S : State) where
 
   -- an address of no named object, alone
   free_inside : (a : ℕ) → IsFree S a → IsInside (main_scope S) a
-  free_inside a free =
-      (record { base = a; len = 1 }, λ b covered. subst (IsFree S) (only_one b covered) free,
-          (omega arith, omega arith))
+  free_inside a free = (
+    record { base = a; len = 1 },
+    λ b covered. subst (IsFree S) (only_one b covered) free,
+    (omega arith, omega arith),
+  )
     where
       only_one : (b : ℕ) → Covers (record { base = a; len = 1 }) b → a ≡ b
       only_one b covered = omega (arith, covered.0, covered.1)
