@@ -28,6 +28,7 @@ pub mod ApartScopes
 pub mod KeptLinks
 pub mod FamilyScopes
 pub mod NamedStates
+pub mod NamedRows
 pub mod NamedEvents
 pub mod OtherParts
 pub mod GrownObjects
