@@ -35,3 +35,5 @@ pub mod GrownObjects
 pub mod SpawnNumbers
 pub mod Subjects
 pub mod FewerObjects
+pub mod NumberedTasks
+pub mod SeparateObjects

@@ -4,3 +4,4 @@ pub mod Scopes
 pub mod Concerns
 pub mod Leaves
 pub mod Objects
+pub mod Rounds
