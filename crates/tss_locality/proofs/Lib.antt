@@ -37,3 +37,6 @@ pub mod Subjects
 pub mod FewerObjects
 pub mod NumberedTasks
 pub mod SeparateObjects
+pub mod SpawnedTasks
+pub mod RoundObjects
+pub mod RunRounds
