@@ -57,7 +57,8 @@ module _ (f : Numbered Flying) (numbered : AreNumbered f) where
       numbered_put o.task (cond (is_complete y) (record y { stage = stage.Queued }) y)
       (awaited_number o.task y number (is_complete y))
 
-  woken_in_numbered : (o : OpName) (s : Source) (x : Option Flying) → get f o.task ≡ x → AreNumbered (woken_in f o s x).flight
+  woken_in_numbered : (o : OpName) (s : Source) (x : Option Flying) → get f o.task ≡ x →
+      AreNumbered (woken_in f o s x).flight
   woken_in_numbered o s None there = numbered
   woken_in_numbered o s (Some x) there =
       woken_by_numbered o s x (numbered o.task x there) (slice_get x.operands o.place)
@@ -68,12 +69,14 @@ module _ (f : Numbered Flying) (numbered : AreNumbered f) where
   linked_by_numbered o next x number (Some r) =
       numbered_remaining o.task (with_operand x o.place (operand_after_link r next)) number
 
-  linked_in_numbered : (o next : OpName) (x : Option Flying) → get f o.task ≡ x → AreNumbered (linked_in f o next x).part
+  linked_in_numbered : (o next : OpName) (x : Option Flying) → get f o.task ≡ x →
+      AreNumbered (linked_in f o next x).part
   linked_in_numbered o next None there = numbered
   linked_in_numbered o next (Some x) there =
       linked_by_numbered o next x (numbered o.task x there) (slice_get x.operands o.place)
 
-  parted_by_numbered : (o : OpName) (promised : Bool) (x : Flying) → x.task.number ≡ o.task → (r : Option OperandState) →
+  parted_by_numbered : (o : OpName) (promised : Bool) (x : Flying) → x.task.number ≡ o.task →
+      (r : Option OperandState) →
       AreNumbered (parted_by f o promised x r)
   parted_by_numbered o promised x number None = numbered
   parted_by_numbered o promised x number (Some r) =
@@ -87,26 +90,31 @@ module _ (f : Numbered Flying) (numbered : AreNumbered f) where
 
   finished_in_numbered : (n : ℕ) (x : Option Flying) → get f n ≡ x → AreNumbered (finished_in f n x).part
   finished_in_numbered n None there = numbered
-  finished_in_numbered n (Some x) there = numbered_remaining n (record x { stage = stage.Finished }) (numbered n x there)
+  finished_in_numbered n (Some x) there =
+      numbered_remaining n (record x { stage = stage.Finished }) (numbered n x there)
 
 module _ (m : Machine) (S : State) (numbered : StandNumbered S) where
   take_numbered : (t : Option Task) → StandNumbered (after_take S t)
   take_numbered None = numbered
   take_numbered (Some t) = numbered_put S.flight numbered t.number (entered t) refl
 
-  ready_numbered : (o : OpName) (s : Option Source) → StandNumbered (ready_message_taken (without S (event.Ready o)) o s)
+  ready_numbered : (o : OpName) (s : Option Source) →
+      StandNumbered (ready_message_taken (without S (event.Ready o)) o s)
   ready_numbered o None = numbered
   ready_numbered o (Some s) = woken_in_numbered S.flight numbered o s (get S.flight o.task) refl
 
-  link_numbered : (o : OpName) (next : Option OpName) → StandNumbered (link_message_taken (without S (event.Link o)) o next)
+  link_numbered : (o : OpName) (next : Option OpName) →
+      StandNumbered (link_message_taken (without S (event.Link o)) o next)
   link_numbered o None = numbered
   link_numbered o (Some next) = linked_in_numbered S.flight numbered o next (get S.flight o.task) refl
 
-  bye_numbered : (o : OpName) (promised : Option Bool) → StandNumbered (bye_message_taken (without S (event.Bye o)) o promised)
+  bye_numbered : (o : OpName) (promised : Option Bool) →
+      StandNumbered (bye_message_taken (without S (event.Bye o)) o promised)
   bye_numbered o None = numbered
   bye_numbered o (Some promised) = parted_in_numbered S.flight numbered o promised (get S.flight o.task) refl
 
-  start_task_numbered : (w t : ℕ) (ts : List ℕ) (x : Option Flying) → get S.flight t ≡ x → StandNumbered (start_task m S w t ts x)
+  start_task_numbered : (w t : ℕ) (ts : List ℕ) (x : Option Flying) → get S.flight t ≡ x →
+      StandNumbered (start_task m S w t ts x)
   start_task_numbered w t ts None there = numbered
   start_task_numbered w t ts (Some x) there =
       numbered_put S.flight numbered t (record x { stage = stage.Running }) (numbered t x there)
@@ -126,21 +134,33 @@ module _ (m : Machine) (S : State) (numbered : StandNumbered S) where
   -- after every event
   pub StandNumbered-after_event : (e : Event) → StandNumbered (after_event m S e)
   unfolding after_event
-  StandNumbered-after_event event.Main = same_flight (after_event m S event.Main) (λ i. (Leaves-after_event m S event.Main i).flight)
+  StandNumbered-after_event event.Main =
+      same_flight (after_event m S event.Main) (λ i. (Leaves-after_event m S event.Main i).flight)
   StandNumbered-after_event event.Take = take_numbered S.inbox
-  StandNumbered-after_event (event.Decode o) = same_flight (after_event m S (event.Decode o)) (λ i. (Leaves-after_event m S (event.Decode o) i).flight)
-  StandNumbered-after_event (event.Ack o) = same_flight (after_event m S (event.Ack o)) (λ i. (Leaves-after_event m S (event.Ack o) i).flight)
-  StandNumbered-after_event (event.Open o) = same_flight (after_event m S (event.Open o)) (λ i. (Leaves-after_event m S (event.Open o) i).flight)
-  StandNumbered-after_event (event.Use o) = same_flight (after_event m S (event.Use o)) (λ i. (Leaves-after_event m S (event.Use o) i).flight)
+  StandNumbered-after_event (event.Decode o) =
+      same_flight (after_event m S (event.Decode o)) (λ i. (Leaves-after_event m S (event.Decode o) i).flight)
+  StandNumbered-after_event (event.Ack o) =
+      same_flight (after_event m S (event.Ack o)) (λ i. (Leaves-after_event m S (event.Ack o) i).flight)
+  StandNumbered-after_event (event.Open o) =
+      same_flight (after_event m S (event.Open o)) (λ i. (Leaves-after_event m S (event.Open o) i).flight)
+  StandNumbered-after_event (event.Use o) =
+      same_flight (after_event m S (event.Use o)) (λ i. (Leaves-after_event m S (event.Use o) i).flight)
   StandNumbered-after_event (event.Ready o) = ready_numbered o (get S.mail.readies o)
   StandNumbered-after_event (event.Link o) = link_numbered o (get S.mail.links o)
   StandNumbered-after_event (event.Start w) = start_numbered w S.queue
-  StandNumbered-after_event (event.Exec w) = same_flight (after_event m S (event.Exec w)) (λ i. (Leaves-after_event m S (event.Exec w) i).flight)
+  StandNumbered-after_event (event.Exec w) =
+      same_flight (after_event m S (event.Exec w)) (λ i. (Leaves-after_event m S (event.Exec w) i).flight)
   StandNumbered-after_event (event.Finish w) = finish_numbered w (get S.workers w)
-  StandNumbered-after_event (event.Release o) = same_flight (after_event m S (event.Release o)) (λ i. (Leaves-after_event m S (event.Release o) i).flight)
+  StandNumbered-after_event (event.Release o) =
+      same_flight (after_event m S (event.Release o)) (λ i. (Leaves-after_event m S (event.Release o) i).flight)
   StandNumbered-after_event (event.Bye o) = bye_numbered o (get S.mail.byes o)
-  StandNumbered-after_event (event.Idle v) = same_flight (after_event m S (event.Idle v)) (λ i. (Leaves-after_event m S (event.Idle v) i).flight)
-  StandNumbered-after_event (event.Nack v) = same_flight (after_event m S (event.Nack v)) (λ i. (Leaves-after_event m S (event.Nack v) i).flight)
-  StandNumbered-after_event (event.Retire v) = same_flight (after_event m S (event.Retire v)) (λ i. (Leaves-after_event m S (event.Retire v) i).flight)
-  StandNumbered-after_event (event.Copy b) = same_flight (after_event m S (event.Copy b)) (λ i. (Leaves-after_event m S (event.Copy b) i).flight)
-  StandNumbered-after_event (event.Gone v) = same_flight (after_event m S (event.Gone v)) (λ i. (Leaves-after_event m S (event.Gone v) i).flight)
+  StandNumbered-after_event (event.Idle v) =
+      same_flight (after_event m S (event.Idle v)) (λ i. (Leaves-after_event m S (event.Idle v) i).flight)
+  StandNumbered-after_event (event.Nack v) =
+      same_flight (after_event m S (event.Nack v)) (λ i. (Leaves-after_event m S (event.Nack v) i).flight)
+  StandNumbered-after_event (event.Retire v) =
+      same_flight (after_event m S (event.Retire v)) (λ i. (Leaves-after_event m S (event.Retire v) i).flight)
+  StandNumbered-after_event (event.Copy b) =
+      same_flight (after_event m S (event.Copy b)) (λ i. (Leaves-after_event m S (event.Copy b) i).flight)
+  StandNumbered-after_event (event.Gone v) =
+      same_flight (after_event m S (event.Gone v)) (λ i. (Leaves-after_event m S (event.Gone v) i).flight)

@@ -97,7 +97,8 @@ from_longer (x ∷ ts) t (suc k) u e = from_longer ts t k u e
 
 -- two ranges with addresses and one base meet
 meet_at_base : (x y : Range) → 0 < x.len → 0 < y.len → x.base ≡ y.base → meets x y ≡ true
-meet_at_base x y long longer same = lt-ltb (max x.base y.base) (min (end_of x) (end_of y)) (omega (arith, long, longer, same))
+meet_at_base x y long longer same = lt-ltb (max x.base y.base) (min (end_of x) (end_of y))
+    (omega (arith, long, longer, same))
 
 -- objects that are all among separate ones are apart
 pub apart_in_round : (ts : List Task) (epoch : List Range) → AreSeparate epoch →
@@ -107,7 +108,7 @@ apart_in_round ts epoch separate named o q x y eo eq same =
     let f = found_in_round ts o x eo in
     let g = found_in_round ts q y eq in
     let in_x = subst (λ x. IsIn x epoch) f.object
-        (named f.place f.task f.there o.place f.operand (arrival_operand f.task o f.operand f.arrives)) in
+    (named f.place f.task f.there o.place f.operand (arrival_operand f.task o f.operand f.arrives)) in
     let in_y = subst (λ y. IsIn y epoch) g.object
-        (named g.place g.task g.there q.place g.operand (arrival_operand g.task q g.operand g.arrives)) in
+    (named g.place g.task g.there q.place g.operand (arrival_operand g.task q g.operand g.arrives)) in
     separate.one x y in_x in_y (meet_at_base x y (separate.some x in_x) (separate.some y in_y) same)

@@ -80,7 +80,8 @@ calls_on x f k Ended = record { spawned = k.spawned; epoch = k.epoch }
 calls_on x f k (Trapped t) = record { spawned = k.spawned; epoch = k.epoch }
 calls_on x f k Touched = record { spawned = k.spawned; epoch = k.epoch }
 
-calls_if : (x : MainState) (b : Bool) (f g : Flat) → SameCalls x f.main → SameCalls x g.main → SameCalls x (cond b f g).main
+calls_if : (x : MainState) (b : Bool) (f g : Flat) → SameCalls x f.main → SameCalls x g.main →
+    SameCalls x (cond b f g).main
 calls_if x true f g p q = p
 calls_if x false f g p q = q
 
@@ -105,9 +106,11 @@ calls_cond : (x : MainState) (b : Bool) (y z : MainState) → SameCalls x y → 
 calls_cond x true y z p q = p
 calls_cond x false y z p q = q
 
-calls_print : (limits : Limits) (memory : Memory) (x : MainState) (r : Range) → SameCalls x (print_call limits memory x r)
+calls_print : (limits : Limits) (memory : Memory) (x : MainState) (r : Range) →
+    SameCalls x (print_call limits memory x r)
 calls_print limits memory x r =
-    let same : (y : MainState) → y.spawned ≡ x.spawned → y.epoch ≡ x.epoch → SameCalls x y = λ y p q. record { spawned = p; epoch = q } in
+    let same : (y : MainState) → y.spawned ≡ x.spawned → y.epoch ≡ x.epoch → SameCalls x y =
+    λ y p q. record { spawned = p; epoch = q } in
     let full = main_refused x output_full in
     let done = print_done x (bytes_of memory r) in
     let fits = cond (nat_lt limits.output_bytes (length (output_of x.pieces) + r.len)) full done in
@@ -116,7 +119,8 @@ calls_print limits memory x r =
     calls_cond x (r.len == 0) (call_done x) (print_some limits memory x r) (same (call_done x) refl refl)
     (calls_cond x (is_none (range_of memory.ranges r)) placed touching (same placed refl refl)
     (calls_cond x (touches x.epoch r) (main_refused x main_touch) fits (same (main_refused x main_touch) refl refl)
-    (calls_cond x (nat_lt limits.output_bytes (length (output_of x.pieces) + r.len)) full done (same full refl refl) (same done refl refl))))
+    (calls_cond x (nat_lt limits.output_bytes (length (output_of x.pieces) + r.len)) full done (same full refl refl)
+    (same done refl refl))))
 
 module _ (m : Machine) (S : State) (ts : List Task) (r : IsRounded S ts) where
   -- the objects of the round are apart
@@ -124,7 +128,8 @@ module _ (m : Machine) (S : State) (ts : List Task) (r : IsRounded S ts) where
   apart = apart_in_round ts S.main.epoch r.separate r.named
 
   -- a state in which main has spawned and named the same
-  same_round : (T : State) → SameCalls S.main T.main → StandNumbered T → IsWithinObjects (object_in ts) T → IsRounded T ts
+  same_round : (T : State) → SameCalls S.main T.main → StandNumbered T → IsWithinObjects (object_in ts) T →
+      IsRounded T ts
   same_round T k numbered within = record {
     numbers = λ i t there. subst (λ n. t.number ≤ n) (sym k.spawned) (r.numbers i t there);
     named = λ i t there j p at. subst (IsIn p.object) (sym k.epoch) (r.named i t there j p at);
@@ -141,7 +146,8 @@ module _ (m : Machine) (S : State) (ts : List Task) (r : IsRounded S ts) where
 
   -- ---- an accepted spawn
 
-  module _ (x : MainState) (t : Task) (number : t.number ≡ suc S.main.spawned) (spawned : x.spawned ≡ suc S.main.spawned)
+  module _ (x : MainState) (t : Task) (number : t.number ≡ suc S.main.spawned)
+      (spawned : x.spawned ≡ suc S.main.spawned)
       (epoch : x.epoch ≡ name_objects S.main.epoch (objects_of (operands_of t)))
       (separate : AreSeparate (name_objects S.main.epoch (objects_of (operands_of t)))) (empty : S.inbox ≡ None) where
     more_named : (k : ℕ) (u : Task) → slice_get (ts ++ t ∷ []) k ≡ Some u → (j : ℕ) (p : Operand) →
@@ -178,7 +184,8 @@ module _ (m : Machine) (S : State) (ts : List Task) (r : IsRounded S ts) where
       numbered = r.numbered;
       within = within_main (object_in (ts ++ t ∷ [])) S x S.home (Some t) has_objects
           (IsWithinObjects-grown (object_in ts) (object_in (ts ++ t ∷ [])) (object_in-more ts t)
-          (apart_in_round (ts ++ t ∷ []) (name_objects S.main.epoch (objects_of (operands_of t))) separate more_named) S r.within);
+          (apart_in_round (ts ++ t ∷ []) (name_objects S.main.epoch (objects_of (operands_of t))) separate
+          more_named) S r.within);
     }
 
   spawned_round : S.inbox ≡ None → (o : Result Task ℕ) →
@@ -223,21 +230,25 @@ module _ (m : Machine) (S : State) (ts : List Task) (r : IsRounded S ts) where
   called_round (Unknown n) on =
       main_round (main_call m.limits S.home S.main (Unknown n)).0 (record { spawned = refl; epoch = refl })
 
-  main_by_round : (call : Option Call) → may_call S call ≡ true → IsRounded (main_by m S call) (round_after_main m S ts call)
+  main_by_round : (call : Option Call) → may_call S call ≡ true →
+      IsRounded (main_by m S call) (round_after_main m S ts call)
   main_by_round None on =
       let f = main_stretch S.code m.limits m.sizes.quantum (flat_of S) in
       same_round (main_by m S None)
-      (calls_stretch S.code m.limits S.main m.sizes.quantum (flat_of S) (record { spawned = refl; epoch = refl })) r.numbered
+      (calls_stretch S.code m.limits S.main m.sizes.quantum (flat_of S) (record { spawned = refl; epoch = refl }))
+      r.numbered
       (within_main (object_in ts) S f.main f.memory S.inbox r.within.named.arrivals r.within)
   main_by_round (Some call) on = called_round call on
 
-  main_event_round : IsEnabled m S event.Main → IsRounded (after_event m S event.Main) (round_after_event m S ts event.Main)
+  main_event_round : IsEnabled m S event.Main →
+      IsRounded (after_event m S event.Main) (round_after_event m S ts event.Main)
   unfolding after_event is_enabled
   main_event_round on =
       main_by_round (call_next m S)
       (and_parts (is_none S.main.ending && is_none S.trap) (may_call S (call_next m S)) on).1
 
-  other_event_round : (e : Event) → IsEnabled m S e → IsFitting (object_in ts) m S e → (after_event m S e).main ≡ S.main →
+  other_event_round : (e : Event) → IsEnabled m S e → IsFitting (object_in ts) m S e →
+      (after_event m S e).main ≡ S.main →
       IsRounded (after_event m S e) ts
   other_event_round e on fit main =
       same_round (after_event m S e)

@@ -62,7 +62,8 @@ separate_from : (named : List Range) (x n : Range) → overlaps named x ≡ fals
 separate_from [] x n e h met = absurd h
 separate_from (y ∷ ys) x n e (inl same) met =
     let parts = or_parts (meets y x && not (same_range y x)) (overlaps ys x) e in
-    sym same ∙ same_from_test y x (apart_by (meets y x) (same_range y x) parts.0 (subst (λ n. meets n x ≡ true) (sym same) met))
+    sym same ∙ same_from_test y x (apart_by (meets y x) (same_range y x) parts.0
+    (subst (λ n. meets n x ≡ true) (sym same) met))
 separate_from (y ∷ ys) x n e (inr rest) met =
     separate_from ys x n (or_parts (meets y x && not (same_range y x)) (overlaps ys x) e).1 rest met
 
@@ -135,20 +136,24 @@ passed limits m named x (Some mode) o e =
 module _ (limits : Limits) (m : Memory) where
   -- what the rest of a list gives
   abbrev GivesSeparate : List Entry → Type 0
-  GivesSeparate es = (named : List Range) (os : List Operand) → AreSeparate named → entries_checked limits m named es ≡ Ok os →
+  GivesSeparate es = (named : List Range) (os : List Operand) → AreSeparate named →
+      entries_checked limits m named es ≡ Ok os →
       AreSeparate (named ++ objects_of os)
 
   behind_first : (es : List Entry) → GivesSeparate es → (named : List Range) (o : Operand) (os : List Operand) →
       AreSeparate (named ++ o.object ∷ []) → (r : Result (List Operand) ℕ) →
-      entries_checked limits m (named ++ o.object ∷ []) es ≡ r → after_first o r ≡ Ok os → AreSeparate (named ++ objects_of os)
+      entries_checked limits m (named ++ o.object ∷ []) es ≡ r → after_first o r ≡ Ok os → AreSeparate
+      (named ++ objects_of os)
   behind_first es rest named o os separate (Err n) there e = absurd (error_ok n os e)
   behind_first es rest named o os separate (Ok qs) there e =
       subst (λ os. AreSeparate (named ++ objects_of os)) (same_ok (o ∷ qs) os e)
       (subst AreSeparate (append_snoc named o.object (objects_of qs)) (rest (named ++ o.object ∷ []) qs separate there))
 
-  at_first : (x : Entry) (es : List Entry) → GivesSeparate es → (named : List Range) (os : List Operand) → AreSeparate named →
+  at_first : (x : Entry) (es : List Entry) → GivesSeparate es → (named : List Range) (os : List Operand) →
+      AreSeparate named →
       (r : Result Operand ℕ) → entry_checked limits m named x ≡ r →
-      with_rest r (λ o. entries_checked limits m (named ++ o.object ∷ []) es) ≡ Ok os → AreSeparate (named ++ objects_of os)
+      with_rest r (λ o. entries_checked limits m (named ++ o.object ∷ []) es) ≡ Ok os → AreSeparate
+      (named ++ objects_of os)
   at_first x es rest named os separate (Err n) there e = absurd (error_ok n os e)
   at_first x es rest named os separate (Ok o) there e =
       let p = passed limits m named x.object (mode_of x.mode) o there in
@@ -168,7 +173,8 @@ module _ (limits : Limits) (m : Memory) where
 -- ---- naming
 
 -- what is named is an old name or the new one
-named_once : (x y : Range) (named : List Range) (b : Bool) → IsIn y (cond b named (named ++ x ∷ [])) → IsIn y named ⊎ (x ≡ y)
+named_once : (x y : Range) (named : List Range) (b : Bool) → IsIn y (cond b named (named ++ x ∷ [])) →
+    IsIn y named ⊎ (x ≡ y)
 named_once x y named true h = inl h
 named_once x y named false h = elim (in_either y named (x ∷ []) h) [
   | inl old ↦ inl old
@@ -204,7 +210,8 @@ found_same x (y ∷ ys) e = elim (or_cases (same_range x y) (list_any (same_rang
   | inr there ↦ inr (found_same x ys there)
 ]
 
-new_once : (x : Range) (named : List Range) (b : Bool) → list_any (same_range x) named ≡ b → IsIn x (cond b named (named ++ x ∷ []))
+new_once : (x : Range) (named : List Range) (b : Bool) → list_any (same_range x) named ≡ b →
+    IsIn x (cond b named (named ++ x ∷ []))
 new_once x named true e = found_same x named e
 new_once x named false e = in_back x named (x ∷ []) (inl refl)
 

@@ -16,7 +16,8 @@ use Rattle.tss_locality.specs.Rounds.{IsIn, AreSeparate}
 use Rattle.tss_locality.proofs.SeparateObjects.{in_front, in_back, separate_listed, from_named, separate_fewer}
 
 -- the listed operands of a spawned task
-record IsSpawned (call : SpawnCall) (m : Memory) (named : List Range) (limits : Limits) (spawned : ℕ) (t : Task) : Type 0 where
+record IsSpawned (call : SpawnCall) (m : Memory) (named : List Range) (limits : Limits) (spawned : ℕ)
+    (t : Task) : Type 0 where
   listed : List Operand
   checked : entries_checked limits m named (entries_at m call.list call.count) ≡ Ok listed
   task : t ≡ task_of call (suc spawned) listed (merged_operands listed)
@@ -33,13 +34,15 @@ ok_if n t true r e = absurd (refused_ok n t e)
 ok_if n t false r e = e
 
 module _ (call : SpawnCall) (m : Memory) (named : List Range) (limits : Limits) (spawned : ℕ) (t : Task) where
-  checked_task : (r : Result (List Operand) ℕ) → entries_checked limits m named (entries_at m call.list call.count) ≡ r →
+  checked_task : (r : Result (List Operand) ℕ) →
+      entries_checked limits m named (entries_at m call.list call.count) ≡ r →
       task_checked limits call named spawned r ≡ Ok t → IsSpawned call m named limits spawned t
   checked_task (Err n) there e = absurd (refused_ok n t e)
   checked_task (Ok listed) there e =
       let made = task_of call (suc spawned) listed (merged_operands listed) in
       let last = cond (nat_le limits.max_tasks spawned) (Err too_many_tasks) (Ok made) in
-      let inner = ok_if epoch_full t (nat_lt limits.epoch_objects (length (name_objects named (objects_of listed)))) last e in
+      let inner = ok_if epoch_full t (nat_lt limits.epoch_objects (length (name_objects named (objects_of listed))))
+      last e in
       record {
         listed = listed;
         checked = there;
@@ -73,7 +76,8 @@ in_objects [] j p e = absurd (none-some p e)
 in_objects (o ∷ os) zero p e = inl (ap (λ (o : Operand). o.object) (same_Some o p e))
 in_objects (o ∷ os) (suc j) p e = inr (in_objects os j p e)
 
-module _ (call : SpawnCall) (m : Memory) (named : List Range) (limits : Limits) (spawned : ℕ) (t : Task) (accepted : spawn_of call m named limits spawned ≡ Ok t) where
+module _ (call : SpawnCall) (m : Memory) (named : List Range) (limits : Limits) (spawned : ℕ) (t : Task)
+    (accepted : spawn_of call m named limits spawned ≡ Ok t) where
   how : IsSpawned call m named limits spawned t
   how = is_spawned call m named limits spawned t accepted
 
