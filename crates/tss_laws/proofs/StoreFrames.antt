@@ -6,8 +6,6 @@ use Rattle.std.proofs.lemmas.Bool.{cond-true, cond-false, and_parts, or_cases, l
 use Rattle.std.proofs.lemmas.List.{get_or-take, get_or-drop, length-take, length-drop}
 use Rattle.tss_base.specs.declared.range.Range.{Range}
 use Rattle.tss_base.specs.declared.operand.OpName.{OpName}
-use Rattle.tss_base.specs.declared.operand.Mode.{Mode}
-use Rattle.tss_base.specs.declared.operand.Mode.TheVariants.{Input, Output, Inout}
 use Rattle.tss_base.specs.declared.operand.Operand.{Operand}
 use Rattle.tss_base.specs.declared.machine.Limits.{Limits}
 use Rattle.tss_base.specs.Image.{SegmentState}
@@ -21,7 +19,7 @@ use Rattle.tss_protocol.specs.State.{Busy, CopyState}
 use Rattle.tss_protocol.specs.Buffers.{piece_len, piece_of, home_after_copy}
 use Rattle.tss_protocol.specs.Workers.{Stores as WorkerStores, Placed, placed_in, storage_byte, worker_byte, worker_write, storage_write, storage_zeroed, outputs_zeroed, exec_stretch, task_state_of}
 use Rattle.tss_laws.proofs.FlatCore.{IsStep, core_step-step}
-use Rattle.tss_laws.proofs.FlatTask.{MayWrite, granted_write, covers_inside}
+use Rattle.tss_laws.proofs.FlatTask.{MayWrite, granted_write, covers_inside, written_where_unread}
 use Rattle.tss_laws.proofs.FlatTaskAlike.{task_step-over, task_step-spent, task_step-core}
 use Rattle.tss_laws.proofs.StoreBytes.{IsPlaced, AreSeparate, LiesIn, beside_write, unwritten_byte, written_byte, buffer_beside, worker_write-there}
 use Rattle.tss_laws.proofs.StoreStart.{zeroed_beside}
@@ -163,11 +161,6 @@ exec_stretch-left code limits quantum b s next other a separate count beside =
     code quantum (task_state_of b s) refl
 
 -- ---- the start of a worker
-
-written_where_unread : (mode : Mode) → reads mode ≡ false → writes mode ≡ true
-written_where_unread Input e = absurd (cc)
-written_where_unread Output e = refl
-written_where_unread Inout e = absurd (cc)
 
 zeroed_elsewhere : (limits : Limits) (s : WorkerStores) (object : Range) (storage other : StorageName) (next : Range)
     (a : ℕ) → IsElsewhere object storage other a
