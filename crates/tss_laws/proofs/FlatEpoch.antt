@@ -20,6 +20,7 @@ use Rattle.tss_model.specs.MainStep.{MainState, Flat, Call, ExitCall, Spawn, Bar
 use Rattle.tss_model.specs.InOrder.{flat_start, main_after_task, call_ran, flat_step, flat_stepped}
 use Rattle.tss_laws.proofs.FlatSteps.{repeated-keeps, flat_step-main, flat_step-call}
 use Rattle.tss_laws.proofs.FlatMain.{main_step-leaves}
+use Rattle.tss_laws.proofs.FlatSpawn.{same_Ok}
 use Rattle.tss_laws.proofs.FlatNames.{Has, AreApart, AreApart-part, AreApart-more, Has-left, Has-right, name_objects-has}
 
 -- ---- what a check that passed says
@@ -29,9 +30,6 @@ pub else_of : {X : Type 0} (b : Bool) (n : ℕ) (r : Result X ℕ) (x : X) → c
     → (b ≡ false) × (r ≡ Ok x)
 else_of true n r x e = absurd (cc)
 else_of false n r x e = (refl, e)
-
-same_Ok : {A B : Type 0} (x y : A) → ◌≡◌ {A = Result A B} (Ok x) (Ok y) → x ≡ y
-same_Ok x y e = cc
 
 -- an operand that passed its checks over these ranges of memory, beside these objects
 pub record IsChecked (limits : Limits) (m : Memory) (named : List Range) (o : Operand) : Type 0 where

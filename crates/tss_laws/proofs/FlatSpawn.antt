@@ -113,7 +113,8 @@ module _ (limits : Limits) (m : Memory) (s : MainState) where
 
 -- ---- the task of a spawn
 
-same_Ok : {A B : Type 0} (x y : A) → ◌≡◌ {A = Result A B} (Ok x) (Ok y) → x ≡ y
+-- equal answers are of equal values
+pub same_Ok : {A B : Type 0} (x y : A) → ◌≡◌ {A = Result A B} (Ok x) (Ok y) → x ≡ y
 same_Ok x y e = cc
 
 task_checked-number : (limits : Limits) (call : SpawnCall) (named : List Range) (spawned : ℕ)

@@ -161,7 +161,8 @@ module _ (budget : ℕ) (code : List SegmentState) (ranges : List MemoryRange) (
 
 -- ---- the start
 
-written_where_unread : (mode : Mode) → reads mode ≡ false → writes mode ≡ true
+-- what isn't read is written
+pub written_where_unread : (mode : Mode) → reads mode ≡ false → writes mode ≡ true
 written_where_unread Input e = absurd (cc)
 written_where_unread Output e = refl
 written_where_unread Inout e = absurd (cc)

@@ -45,7 +45,8 @@ zeroed_byte m r a inside =
     written_byte m (record { at = r.base; bytes = zeros r.len }) a at.0 (omega (arith, at.1, length-zeros r.len))
     ∙ zero_at r.len (a - r.base)
 
-zeroed_beside : (m : Memory) (r : Range) (a : ℕ) → covers r a ≡ false → byte_at (zeroed m r) a ≡ byte_at m a
+-- zeros leave what lies beside them
+pub zeroed_beside : (m : Memory) (r : Range) (a : ℕ) → covers r a ≡ false → byte_at (zeroed m r) a ≡ byte_at m a
 zeroed_beside m r a out =
     unwritten_byte m (record { at = r.base; bytes = zeros r.len }) a (λ low high.
     both_ways (covers r a) out (and_from (nat_le r.base a) (nat_lt a (end_of r)) (le-leb r.base a low)
