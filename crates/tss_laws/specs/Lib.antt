@@ -11,3 +11,9 @@ pub mod Tables
 pub mod Asking
 pub mod Held
 pub mod MainInOrder
+pub mod Members
+pub mod Chains
+pub mod Entries
+pub mod Readers
+pub mod Holders
+pub mod Control
