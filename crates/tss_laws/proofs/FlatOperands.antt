@@ -153,6 +153,13 @@ module _ (limits : Limits) (m : Memory) (named : List Range) (t : Task) (spawn :
       → slice_get (objects_of (operands_of t)) k ≡ Some o.object
   object_at k o at = slice_get-map (λ (o : Operand). o.object) (operands_of t) k ∙ ap (option_map (λ o. o.object)) at
 
+  -- so an operand is known by its object
+  pub spawned-single : (j k : ℕ) (o q : Operand) → slice_get (operands_of t) j ≡ Some o
+      → slice_get (operands_of t) k ≡ Some q → o.object ≡ q.object → j ≡ k
+  spawned-single j k o q at there same =
+      AreOnce-at (objects_of (operands_of t)) j k q.object spawned-once (object_at j o at ∙ ap Some same)
+      (object_at k q there)
+
   -- and no address lies in two of them
   pub spawned-separate : AreApart named → (j k : ℕ) (o q : Operand) (a : ℕ) → slice_get (operands_of t) j ≡ Some o
       → slice_get (operands_of t) k ≡ Some q → covers o.object a ≡ true → covers q.object a ≡ true → j ≡ k
@@ -162,5 +169,4 @@ module _ (limits : Limits) (m : Memory) (named : List Range) (t : Task) (spawn :
       name_objects-names named (objects_of (operands_of t)) x (Has-at (objects_of (operands_of t)) k x e) in
       let same = all o.object q.object (of_task j o.object (object_at j o at))
       (of_task k q.object (object_at k q there)) (covers-meet o.object q.object a in_o in_q) in
-      AreOnce-at (objects_of (operands_of t)) j k q.object spawned-once (object_at j o at ∙ ap Some same)
-      (object_at k q there)
+      spawned-single j k o q at there same

@@ -247,7 +247,8 @@ module _ (m : Machine) (ts : List Task) (S : State) (h : IsFrontSound m ts S) wh
     )
   ]
 
-  has_gateway : HasGateway m ts S
+  -- as the law says it
+  pub has_gateway : HasGateway m ts S
   has_gateway = record {
     tasks = gateway_tasks;
     each = of_taken;
@@ -289,7 +290,8 @@ module _ (m : Machine) (ts : List Task) (S : State) (h : IsFrontSound m ts S) wh
           let count = h.0.spawned in
           omega (arith, same, newest, most, count, later)
 
-  decodes_in_order : DecodesInOrder m ts S
+  -- decodes come in order
+  pub decodes_in_order : DecodesInOrder m ts S
   decodes_in_order o p x y first second (inl waits) later bank =
       absurd (none_later o p second.task waits second.spawned later)
   decodes_in_order o p x y first second (inr sent) later bank =

@@ -55,3 +55,5 @@ pub mod StoreFrames
 pub mod RunKeeps
 pub mod MainFollows
 pub mod MainEvent
+pub mod GroundworkRounds
+pub mod GroundworkRuns

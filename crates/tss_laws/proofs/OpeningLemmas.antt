@@ -422,7 +422,8 @@ AreOpeningsSound-initial_state m i = (
 
 -- ---- the law
 
-has_openings : (m : Machine) (ts : List Task) (S : State) → AreOpeningsSound m ts S → HasOpenings m ts S
+-- as the law says it
+pub has_openings : (m : Machine) (ts : List Task) (S : State) → AreOpeningsSound m ts S → HasOpenings m ts S
 has_openings m ts S h = record {
   opens = λ o c e.
       let r = h.1.opens o c e in
@@ -447,6 +448,7 @@ has_openings m ts S h = record {
       record { operand = r.0; spawned = r.1; object = r.2; no_decode = (h.0.1.6 v x e).0.2 };
 }
 
+-- every run leaves such a state
 pub openings_of_runs : OpeningsLaw
 openings_of_runs =
     law_from AreOpeningsSound HasOpenings AreOpeningsSound-initial_state AreOpeningsSound-after_event has_openings

@@ -120,7 +120,7 @@ IsStaged-after_event =
     staged_finished staged_still
 
 -- the first state has it
-IsStaged-initial_state : (m : Machine) (i : ImageState) → IsStaged m [] (initial_state i)
+pub IsStaged-initial_state : (m : Machine) (i : ImageState) → IsStaged m [] (initial_state i)
 IsStaged-initial_state m i = (
   HasTaskNumbers-initial_state m i,
   record {
@@ -132,7 +132,8 @@ IsStaged-initial_state m i = (
   },
 )
 
-has_stages : (m : Machine) (ts : List Task) (S : State) → IsStaged m ts S → HasStages m ts S
+-- as the law says it
+pub has_stages : (m : Machine) (ts : List Task) (S : State) → IsStaged m ts S → HasStages m ts S
 has_stages m ts S h = record {
   waiting = h.1.waiting;
   queued = h.1.queued;
