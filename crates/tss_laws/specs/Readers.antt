@@ -148,24 +148,25 @@ NewestIs S (a ∷ bs) = IsNewest S a
 
 -- ---- the whole
 
--- the readers of a registered version
-pub record HasArrivals (ts : List Task) (g : Arrivals) (S : State) (v : OpName) (y : Version) : Type 0 where
-  pub once : AreOnce (g v)
-  pub each : (a : OpName) → Has a (g v) → IsArrival ts S v y a
-  pub opener : IsOn ts y.object Input v → oldest_of (g v) ≡ Some v
-  pub own : Has v (g v) → oldest_of (g v) ≡ Some v
-  pub registered : y.registered ≡ length (g v)
-  pub released : y.released ≡ released_among S (g v)
-  pub head : y.head ≡ head_of y.produced (g v)
-  pub tail : y.tail ≡ tail_of S (g v)
-  pub first : (a : OpName) → oldest_of (g v) ≡ Some a → (phase_of S a ≡ Waiting → y.produced ≡ false) × (y.produced ≡ false → phase_of S a ≡ Waiting)
-  pub chained : AreChained S (g v)
-  pub newest : NewestIs S (g v)
+-- the readers of a registered version are these, the newest first
+pub record HasArrivals (ts : List Task) (xs : List OpName) (S : State) (v : OpName) (y : Version) : Type 0 where
+  pub once : AreOnce xs
+  pub each : (a : OpName) → Has a xs → IsArrival ts S v y a
+  pub opener : IsOn ts y.object Input v → oldest_of xs ≡ Some v
+  pub own : Has v xs → oldest_of xs ≡ Some v
+  pub registered : y.registered ≡ length xs
+  pub released : y.released ≡ released_among S xs
+  pub head : y.head ≡ head_of y.produced xs
+  pub tail : y.tail ≡ tail_of S xs
+  pub first : (a : OpName) → oldest_of xs ≡ Some a
+      → (phase_of S a ≡ Waiting → y.produced ≡ false) × (y.produced ≡ false → phase_of S a ≡ Waiting)
+  pub chained : AreChained S xs
+  pub newest : NewestIs S xs
 
 -- each registered version has its readers, and no reader has come to two of them. A link is between two readers of one
 -- version
 pub record HasReaders (ts : List Task) (g : Arrivals) (S : State) : Type 0 where
-  pub versions : (v : OpName) (y : Version) → get S.versions v ≡ Some y → HasArrivals ts g S v y
+  pub versions : (v : OpName) (y : Version) → get S.versions v ≡ Some y → HasArrivals ts (g v) S v y
   pub apart : (v w a : OpName) (y z : Version) → get S.versions v ≡ Some y → get S.versions w ≡ Some z
       → Has a (g v) → Has a (g w) → v ≡ w
   pub links : (a b : OpName) → IsLinking S a b → (v : OpName) × (y : Version) × (get S.versions v ≡ Some y) × Has a (g v)
