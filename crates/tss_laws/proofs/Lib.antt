@@ -57,3 +57,4 @@ pub mod MainFollows
 pub mod MainEvent
 pub mod GroundworkRounds
 pub mod GroundworkRuns
+pub mod EntriesFrames
