@@ -58,3 +58,4 @@ pub mod MainEvent
 pub mod GroundworkRounds
 pub mod GroundworkRuns
 pub mod EntriesFrames
+pub mod SettleCases
