@@ -59,3 +59,4 @@ pub mod GroundworkRounds
 pub mod GroundworkRuns
 pub mod EntriesFrames
 pub mod SettleCases
+pub mod GroundworkEmpty
