@@ -60,3 +60,5 @@ pub mod GroundworkRuns
 pub mod EntriesFrames
 pub mod SettleCases
 pub mod GroundworkEmpty
+pub mod ReadersLists
+pub mod ReadersCounts
