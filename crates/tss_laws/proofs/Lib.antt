@@ -62,3 +62,4 @@ pub mod SettleCases
 pub mod GroundworkEmpty
 pub mod ReadersLists
 pub mod ReadersCounts
+pub mod HoldersRunners

@@ -15,6 +15,7 @@ use Rattle.tss_phases.specs.Phase.{Phase, Decoding, Sent, Waiting, Told, Ready, 
 use Rattle.tss_phases.specs.Openers.{version_opener}
 use Rattle.tss_laws.specs.Members.{operand_among}
 use Rattle.tss_laws.specs.Readers.{Arrivals, Has}
+use Rattle.tss_laws.specs.Runners.{HasRunners}
 
 -- ---- what an operand was told
 
@@ -89,3 +90,4 @@ pub record HasHolders (ts : List Task) (g : Arrivals) (S : State) : Type 0 where
   pub records : (o next : OpName) → get S.mail.links o ≡ Some next
       → (r : OperandState) × (operand_at S.flight o ≡ Some r) × (phase_of S o ≡ Left → ⊥)
   pub links : (o : OpName) (p : Operand) (r : OperandState) → operand_among ts o ≡ Some p → operand_at S.flight o ≡ Some r → HasLinks S o p r
+  pub runners : HasRunners S

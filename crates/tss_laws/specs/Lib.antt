@@ -15,5 +15,6 @@ pub mod Members
 pub mod Chains
 pub mod Entries
 pub mod Readers
+pub mod Runners
 pub mod Holders
 pub mod Control
