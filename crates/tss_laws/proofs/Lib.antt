@@ -63,3 +63,4 @@ pub mod GroundworkEmpty
 pub mod ReadersLists
 pub mod ReadersCounts
 pub mod HoldersRunners
+pub mod EntriesQuiet
