@@ -64,3 +64,4 @@ pub mod ReadersLists
 pub mod ReadersCounts
 pub mod HoldersRunners
 pub mod EntriesQuiet
+pub mod ChainsAlike
