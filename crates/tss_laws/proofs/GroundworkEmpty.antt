@@ -1,6 +1,6 @@
 -- A state with no message, no task in flight, no entry and no version is controlled where its operands are in order,
 -- whoever has come before. The first state is such a one, and so is a drained state.
-use Rattle.std.proofs.Common.{◌≡◌, ℕ, true, [], None, sym, ap, ◌∙◌, inl, inr, arith}
+use Rattle.std.proofs.Common.{◌≡◌, ℕ, true, List, [], ◌∷◌, None, refl, sym, ap, ◌∙◌, subst, inl, inr, arith, true≢false}
 use Rattle.std.specs.Prelude.{◌==◌, ◌&&◌, is_none, length}
 use Rattle.std.specs.Ordering.{nat_cmp}
 use Rattle.std.specs.FinMap.{get, len, get-empty}
@@ -24,11 +24,15 @@ use Rattle.tss_laws.specs.Chains.{HasChains}
 use Rattle.tss_laws.specs.Entries.{HasEntries, HasRetirement}
 use Rattle.tss_laws.specs.Readers.{Arrivals, Holds, HasReaders}
 use Rattle.tss_laws.specs.Holders.{HasHolders}
+use Rattle.tss_laws.specs.Runners.{AreApart}
 use Rattle.tss_laws.specs.Control.{IsControlled}
+use Rattle.tss_laws.proofs.StageLemmas.{in_queue}
 
 -- nothing stands where the control looks
 pub record IsBare (S : State) : Type 0 where
   pub flight : (n : ℕ) → get S.flight n ≡ None
+  pub queue : S.queue ≡ []
+  pub workers : (w : ℕ) → get S.workers w ≡ None
   pub entries : (b : ℕ) → get S.entries b ≡ None
   pub versions : (v : OpName) → get S.versions v ≡ None
   pub decodes : (o : OpName) → get S.mail.decodes o ≡ None
@@ -98,6 +102,13 @@ module _ (S : State) (bare : IsBare S) where
     openers = λ v y p e. absurd (none-some y (sym (bare.versions v) ∙ e));
     records = λ o next e. absurd (none-some next (sym (bare.links o) ∙ e));
     links = λ o p r e. absurd (none-some p e);
+    runners = record {
+      queued = λ n e. absurd (true≢false (sym e ∙ ap (in_queue n) bare.queue));
+      once = subst AreApart (sym bare.queue) tt;
+      running = λ w b e. absurd (none-some b (sym (bare.workers w) ∙ e));
+      single = λ w u b c e. absurd (none-some b (sym (bare.workers w) ∙ e));
+      late = λ o r e. absurd (none-some r (sym (no_record o) ∙ e));
+    };
   }
 
   -- by an empty round
@@ -117,6 +128,8 @@ module _ (S : State) (bare : IsBare S) where
 pub IsBare-initial_state : (i : ImageState) → IsBare (initial_state i)
 IsBare-initial_state i = record {
   flight = λ n. get-empty nat_cmp n;
+  queue = refl;
+  workers = λ w. get-empty nat_cmp w;
   entries = λ b. get-empty nat_cmp b;
   versions = λ v. get-empty name_cmp v;
   decodes = λ o. get-empty name_cmp o;
@@ -131,10 +144,16 @@ IsBare-initial_state i = record {
 zero_from_test : (n : ℕ) → (n == 0) ≡ true → n ≡ 0
 zero_from_test n e = grind (arith, nat_tests)
 
-silent_bare : (S : State) → len S.flight ≡ 0 → len S.entries ≡ 0 → len S.versions ≡ 0 → message_count S.mail ≡ 0
-    → IsBare S
-silent_bare S flight entries versions e = record {
+no_number : (ns : List ℕ) → length ns ≡ 0 → ns ≡ []
+no_number [] e = refl
+no_number (n ∷ ns) e = absurd (omega (arith, e))
+
+silent_bare : (S : State) → len S.flight ≡ 0 → length S.queue ≡ 0 → len S.workers ≡ 0 → len S.entries ≡ 0
+    → len S.versions ≡ 0 → message_count S.mail ≡ 0 → IsBare S
+silent_bare S flight queue workers entries versions e = record {
   flight = λ n. absent_empty S.flight n flight;
+  queue = no_number S.queue queue;
+  workers = λ w. absent_empty S.workers w workers;
   entries = λ b. absent_empty S.entries b entries;
   versions = λ v. absent_empty S.versions v versions;
   decodes = λ o. absent_empty S.mail.decodes o (omega (arith, e));
@@ -164,5 +183,6 @@ IsBare-drained S drained =
     let o3 = and_parts (e && p && b) v o4.0 in
     let o2 = and_parts (e && p) b o3.0 in
     let o1 = and_parts e p o2.0 in
-    silent_bare S (zero_from_test (len S.flight) t2.1) (zero_from_test (len S.entries) o1.0)
+    silent_bare S (zero_from_test (len S.flight) t2.1) (zero_from_test (length S.queue) t3.1)
+    (zero_from_test (len S.workers) t4.1) (zero_from_test (len S.entries) o1.0)
     (zero_from_test (len S.versions) o3.1) (zero_from_test (message_count S.mail) outer.1)
