@@ -65,3 +65,4 @@ pub mod ReadersCounts
 pub mod HoldersRunners
 pub mod EntriesQuiet
 pub mod ChainsAlike
+pub mod ChainsFrames
