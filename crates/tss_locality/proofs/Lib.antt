@@ -35,7 +35,7 @@ pub mod GrownObjects
 pub mod SpawnNumbers
 pub mod Subjects
 pub mod FewerObjects
-pub mod NumberedTasks
+pub mod TasksInFlight
 pub mod SeparateObjects
 pub mod SpawnedTasks
 pub mod RoundObjects

@@ -32,7 +32,7 @@ use Rattle.tss_locality.proofs.LeftFields.{Leaves-after_event}
 use Rattle.tss_locality.proofs.NamedEvents.{IsWithinObjects-initial_state, IsWithinObjects-after_event}
 use Rattle.tss_locality.proofs.GrownObjects.{IsWithinObjects-grown}
 use Rattle.tss_locality.proofs.FewerObjects.{IsWithinObjects-drained}
-use Rattle.tss_locality.proofs.NumberedTasks.{StandNumbered-initial_state, StandNumbered-after_event}
+use Rattle.tss_locality.proofs.TasksInFlight.{TakesWell, AllTasks-initial_state, AllTasks-after_event}
 use Rattle.tss_locality.proofs.SeparateObjects.{still_named, newly_named}
 use Rattle.tss_locality.proofs.SpawnedTasks.{in_objects, accepted_number, accepted_separate}
 use Rattle.tss_locality.proofs.Subjects.{arrival_task}
@@ -248,51 +248,52 @@ module _ (m : Machine) (S : State) (ts : List Task) (r : IsRounded S ts) where
       (and_parts (is_none S.main.ending && is_none S.trap) (may_call S (call_next m S)) on).1
 
   other_event_round : (e : Event) → IsEnabled m S e → IsFitting (object_in ts) m S e →
+      TakesWell (λ n t. t.number ≡ n) m S r.numbered e →
       (after_event m S e).main ≡ S.main →
       IsRounded (after_event m S e) ts
-  other_event_round e on fit main =
+  other_event_round e on fit well main =
       same_round (after_event m S e)
       (record { spawned = ap (λ (x : MainState). x.spawned) main; epoch = ap (λ (x : MainState). x.epoch) main })
-      (StandNumbered-after_event m S r.numbered e)
+      (AllTasks-after_event (λ n t. t.number ≡ n) m S r.numbered e well)
       (IsWithinObjects-after_event (object_in ts) m S r.within apart e on fit)
 
   -- after every enabled event, of the round after it
   pub IsRounded-after_event : (e : Event) → IsEnabled m S e → IsRounded (after_event m S e) (round_after_event m S ts e)
   IsRounded-after_event event.Main on = main_event_round on
   IsRounded-after_event event.Take on =
-      other_event_round event.Take on tt (λ i. (Leaves-after_event m S event.Take i).main)
+      other_event_round event.Take on tt (λ t there. refl) (λ i. (Leaves-after_event m S event.Take i).main)
   IsRounded-after_event (event.Decode o) on =
-      other_event_round (event.Decode o) on tt (λ i. (Leaves-after_event m S (event.Decode o) i).main)
+      other_event_round (event.Decode o) on tt tt (λ i. (Leaves-after_event m S (event.Decode o) i).main)
   IsRounded-after_event (event.Ack o) on =
-      other_event_round (event.Ack o) on tt (λ i. (Leaves-after_event m S (event.Ack o) i).main)
+      other_event_round (event.Ack o) on tt tt (λ i. (Leaves-after_event m S (event.Ack o) i).main)
   IsRounded-after_event (event.Open o) on =
-      other_event_round (event.Open o) on tt (λ i. (Leaves-after_event m S (event.Open o) i).main)
+      other_event_round (event.Open o) on tt tt (λ i. (Leaves-after_event m S (event.Open o) i).main)
   IsRounded-after_event (event.Use o) on =
-      other_event_round (event.Use o) on tt (λ i. (Leaves-after_event m S (event.Use o) i).main)
+      other_event_round (event.Use o) on tt tt (λ i. (Leaves-after_event m S (event.Use o) i).main)
   IsRounded-after_event (event.Ready o) on =
-      other_event_round (event.Ready o) on tt (λ i. (Leaves-after_event m S (event.Ready o) i).main)
+      other_event_round (event.Ready o) on tt tt (λ i. (Leaves-after_event m S (event.Ready o) i).main)
   IsRounded-after_event (event.Link o) on =
-      other_event_round (event.Link o) on tt (λ i. (Leaves-after_event m S (event.Link o) i).main)
+      other_event_round (event.Link o) on tt tt (λ i. (Leaves-after_event m S (event.Link o) i).main)
   IsRounded-after_event (event.Start w) on =
-      other_event_round (event.Start w) on r.numbered (λ i. (Leaves-after_event m S (event.Start w) i).main)
+      other_event_round (event.Start w) on r.numbered tt (λ i. (Leaves-after_event m S (event.Start w) i).main)
   IsRounded-after_event (event.Exec w) on =
-      other_event_round (event.Exec w) on tt (λ i. (Leaves-after_event m S (event.Exec w) i).main)
+      other_event_round (event.Exec w) on tt tt (λ i. (Leaves-after_event m S (event.Exec w) i).main)
   IsRounded-after_event (event.Finish w) on =
-      other_event_round (event.Finish w) on tt (λ i. (Leaves-after_event m S (event.Finish w) i).main)
+      other_event_round (event.Finish w) on tt tt (λ i. (Leaves-after_event m S (event.Finish w) i).main)
   IsRounded-after_event (event.Release o) on =
-      other_event_round (event.Release o) on tt (λ i. (Leaves-after_event m S (event.Release o) i).main)
+      other_event_round (event.Release o) on tt tt (λ i. (Leaves-after_event m S (event.Release o) i).main)
   IsRounded-after_event (event.Bye o) on =
-      other_event_round (event.Bye o) on tt (λ i. (Leaves-after_event m S (event.Bye o) i).main)
+      other_event_round (event.Bye o) on tt tt (λ i. (Leaves-after_event m S (event.Bye o) i).main)
   IsRounded-after_event (event.Idle v) on =
-      other_event_round (event.Idle v) on tt (λ i. (Leaves-after_event m S (event.Idle v) i).main)
+      other_event_round (event.Idle v) on tt tt (λ i. (Leaves-after_event m S (event.Idle v) i).main)
   IsRounded-after_event (event.Nack v) on =
-      other_event_round (event.Nack v) on tt (λ i. (Leaves-after_event m S (event.Nack v) i).main)
+      other_event_round (event.Nack v) on tt tt (λ i. (Leaves-after_event m S (event.Nack v) i).main)
   IsRounded-after_event (event.Retire v) on =
-      other_event_round (event.Retire v) on tt (λ i. (Leaves-after_event m S (event.Retire v) i).main)
+      other_event_round (event.Retire v) on tt tt (λ i. (Leaves-after_event m S (event.Retire v) i).main)
   IsRounded-after_event (event.Copy b) on =
-      other_event_round (event.Copy b) on tt (λ i. (Leaves-after_event m S (event.Copy b) i).main)
+      other_event_round (event.Copy b) on tt tt (λ i. (Leaves-after_event m S (event.Copy b) i).main)
   IsRounded-after_event (event.Gone v) on =
-      other_event_round (event.Gone v) on tt (λ i. (Leaves-after_event m S (event.Gone v) i).main)
+      other_event_round (event.Gone v) on tt tt (λ i. (Leaves-after_event m S (event.Gone v) i).main)
 
 -- ---- runs
 
@@ -302,7 +303,7 @@ IsRounded-initial_state i = record {
   numbers = λ k t there. absurd (none-some t there);
   named = λ k t there. absurd (none-some t there);
   separate = record { some = λ x h. absurd h; one = λ x y h. absurd h };
-  numbered = StandNumbered-initial_state i;
+  numbered = AllTasks-initial_state (λ n t. t.number ≡ n) i;
   within = IsWithinObjects-initial_state (object_in []) i;
 }
 
