@@ -36,7 +36,10 @@ pub mod SpawnNumbers
 pub mod Subjects
 pub mod FewerObjects
 pub mod TasksInFlight
+pub mod TasksAtWork
 pub mod SeparateObjects
 pub mod SpawnedTasks
 pub mod RoundObjects
+pub mod MainCalls
 pub mod RunRounds
+pub mod RoundScopes
