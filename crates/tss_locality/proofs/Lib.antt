@@ -32,13 +32,12 @@ pub mod NamedRows
 pub mod NamedEvents
 pub mod OtherParts
 pub mod GrownObjects
-pub mod SpawnNumbers
+pub mod SeparateObjects
+pub mod SpawnedTasks
 pub mod Subjects
 pub mod FewerObjects
 pub mod TasksInFlight
 pub mod TasksAtWork
-pub mod SeparateObjects
-pub mod SpawnedTasks
 pub mod RoundObjects
 pub mod MainCalls
 pub mod RunRounds

@@ -1,5 +1,5 @@
--- In a state with a round: its tasks' operands have their objects, the inbox's task isn't in flight, and what each event
--- of a task, an operand or a version changes.
+-- In a state with a round: its tasks' operands have their objects, the inbox's task isn't in flight, and what each
+-- event of a task, an operand or a version changes.
 use Rattle.std.proofs.Common.{◌≡◌, ℕ, zero, suc, ◌<◌, List, [], ◌∷◌, Option, Some, None, refl, sym, ap, ◌∙◌, subst, inl, inr, arith}
 use Rattle.std.specs.FinMap.{get}
 use Rattle.std.proofs.lemmas.Option.{none-some, same_Some}
@@ -50,7 +50,7 @@ module _ (m : Machine) (S : State) (ts : List Task) (r : IsRounded S ts) where
       let some = some_object ts t o p h at in
       let f = found_in_round ts o some.0 some.1 in
       let task : f.task ≡ t = r.one f.place h.0 f.task t f.there h.1
-          (sym (arrival_task f.task o f.operand f.arrives)) in
+      (sym (arrival_task f.task o f.operand f.arrives)) in
       let operand : f.operand ≡ p =
       same_Some f.operand p (sym f.arrives ∙ ap (λ t. operand_in (Some t) o) task ∙ at) in
       some.1 ∙ ap Some (sym f.object ∙ ap (λ (p : Operand). p.object) operand)
@@ -104,7 +104,7 @@ module _ (m : Machine) (S : State) (ts : List Task) (r : IsRounded S ts) where
       let c = object_scope (object_in ts) k.object (λ n. ⊥) in
       ChangesOnly-copy c m S
       (closed_tasks (object_in ts) k.object (λ n. ⊥) S
-          (r.within.links k.version k.object (r.within.named.copies b k there)))
+      (r.within.links k.version k.object (r.within.named.copies b k there)))
       b (λ l e. ap (λ (k : CopyState). k.object) (same_Some l k (sym e ∙ there)))
 
   -- the operand or version of an enabled event has an object
@@ -113,7 +113,7 @@ module _ (m : Machine) (S : State) (ts : List Task) (r : IsRounded S ts) where
   subject_named event.Take o is on = absurd (none-some o is)
   subject_named (event.Decode q) o is on =
       subst (HasObject (object_in ts)) (same_Some q o is)
-          (known (object_in ts) m S r.within.named (event.Decode q) on tt)
+      (known (object_in ts) m S r.within.named (event.Decode q) on tt)
   subject_named (event.Ack q) o is on =
       subst (HasObject (object_in ts)) (same_Some q o is) (known (object_in ts) m S r.within.named (event.Ack q) on tt)
   subject_named (event.Open q) o is on =
@@ -122,7 +122,7 @@ module _ (m : Machine) (S : State) (ts : List Task) (r : IsRounded S ts) where
       subst (HasObject (object_in ts)) (same_Some q o is) (known (object_in ts) m S r.within.named (event.Use q) on tt)
   subject_named (event.Ready q) o is on =
       subst (HasObject (object_in ts)) (same_Some q o is)
-          (known (object_in ts) m S r.within.named (event.Ready q) on tt)
+      (known (object_in ts) m S r.within.named (event.Ready q) on tt)
   subject_named (event.Link q) o is on =
       subst (HasObject (object_in ts)) (same_Some q o is) (known (object_in ts) m S r.within.named (event.Link q) on tt)
   subject_named (event.Start n) o is on = absurd (none-some o is)
@@ -130,7 +130,7 @@ module _ (m : Machine) (S : State) (ts : List Task) (r : IsRounded S ts) where
   subject_named (event.Finish n) o is on = absurd (none-some o is)
   subject_named (event.Release q) o is on =
       subst (HasObject (object_in ts)) (same_Some q o is)
-          (known (object_in ts) m S r.within.named (event.Release q) on tt)
+      (known (object_in ts) m S r.within.named (event.Release q) on tt)
   subject_named (event.Bye q) o is on =
       subst (HasObject (object_in ts)) (same_Some q o is) (known (object_in ts) m S r.within.named (event.Bye q) on tt)
   subject_named (event.Idle q) o is on =
@@ -139,7 +139,7 @@ module _ (m : Machine) (S : State) (ts : List Task) (r : IsRounded S ts) where
       subst (HasObject (object_in ts)) (same_Some q o is) (known (object_in ts) m S r.within.named (event.Nack q) on tt)
   subject_named (event.Retire q) o is on =
       subst (HasObject (object_in ts)) (same_Some q o is)
-          (known (object_in ts) m S r.within.named (event.Retire q) on tt)
+      (known (object_in ts) m S r.within.named (event.Retire q) on tt)
   subject_named (event.Copy n) o is on = absurd (none-some o is)
   subject_named (event.Gone q) o is on =
       subst (HasObject (object_in ts)) (same_Some q o is) (known (object_in ts) m S r.within.named (event.Gone q) on tt)
