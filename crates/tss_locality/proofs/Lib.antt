@@ -31,6 +31,7 @@ pub mod NamedStates
 pub mod NamedRows
 pub mod NamedEvents
 pub mod OtherParts
+pub mod KeptStages
 pub mod GrownObjects
 pub mod SeparateObjects
 pub mod SpawnedTasks
