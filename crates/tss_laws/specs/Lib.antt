@@ -3,3 +3,11 @@ pub mod Refinement
 pub mod Progress
 pub mod Bound
 pub mod NoFalseWait
+pub mod Tasks
+pub mod Stages
+pub mod Names
+pub mod Openings
+pub mod Tables
+pub mod Asking
+pub mod Held
+pub mod MainInOrder

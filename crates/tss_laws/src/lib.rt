@@ -2,3 +2,89 @@
 //! order, with what holds of every reachable state, progress, the bound on events, and no false wait. A law is claimed
 //! only where a function here has it as its contract.
 #![tactic(auto)]
+
+ghost use Rattle.tss_laws.specs.Tasks.{TaskNumbersLaw, GatewayLaw, SlotsLaw, DecodeOrderLaw};
+ghost use Rattle.tss_laws.specs.Stages.{StagesLaw};
+ghost use Rattle.tss_laws.specs.Names.{NamesLaw};
+ghost use Rattle.tss_laws.specs.Openings.{OpeningsLaw};
+ghost use Rattle.tss_laws.specs.Tables.{TablesLaw};
+ghost use Rattle.tss_laws.specs.Asking.{AskingLaw};
+ghost use Rattle.tss_laws.specs.Held.{HeldPlacesLaw};
+ghost use Rattle.tss_laws.specs.MainInOrder.{MainInOrderLaw, MainCutOffLaw, MainStoresLaw};
+
+/// Spawned tasks are numbered from 1 in their order, at most as many as there may be, and each with at most as many
+/// operands as it may have. The inbox has none but the last of them. A task in flight stands under its number and was
+/// taken, so its number is at most that of the last task spawned, and less while the inbox is full. It has a record for
+/// each of its operands, in order.
+pub fn task_numbers()
+    ensures { TaskNumbersLaw }
+{}
+
+/// The gateway has operands of at most one task, which was taken. An operand is in it exactly where either its decode or
+/// its ack is under way, and never are both. A decode has the operand of its name.
+pub fn gateway()
+    ensures { GatewayLaw }
+{}
+
+/// No station ever has more tasks in flight than slots.
+pub fn slots()
+    ensures { SlotsLaw }
+{}
+
+/// Where an operand of a spawned task is still to be decoded, so is each operand of a later task on an object of the
+/// same bank: its task is in the inbox, or its decode is under way.
+pub fn decode_order()
+    ensures { DecodeOrderLaw }
+{}
+
+/// A task in flight waits exactly where one of its operands isn't ready, one that is queued is in the ready queue, and
+/// one that runs is on a worker. What is in the queue or on a worker was taken and has its operands. A busy worker is
+/// one of the machine's, has a storage for each operand of its task, and has completed no more instructions than a task
+/// may.
+pub fn stages()
+    ensures { StagesLaw }
+{}
+
+/// Each name in the stations, the workers, the tables for renaming and versioning, the copy engines, and the messages
+/// but decodes is of an operand that has been decoded: its task was taken, its place is one of its task's, and its
+/// decode isn't under way.
+pub fn names()
+    ensures { NamesLaw }
+{}
+
+/// Of an operand's decode, open, use and version there is one at most. An open has the operand of its name, a use is of
+/// an input, and a version is of the object of the operand of its name.
+pub fn openings()
+    ensures { OpeningsLaw }
+{}
+
+/// Five of the seven counts never exceed their sizes: of slots, workers, entries, version places and buffers.
+pub fn tables()
+    ensures { TablesLaw }
+{}
+
+/// A version that asks whether it may retire has exactly one message of this under way: that it asks, with its object
+/// and the number of its readers, that it may not, or that it may. No other version has any.
+pub fn asking()
+    ensures { AskingLaw }
+{}
+
+/// A place is held under the name of an open under way, of a version, of one that is copied home, or of one that is gone
+/// with its message under way. Under one name there is one of these at most, and each holds a place in the bank of its
+/// object.
+pub fn held_places()
+    ensures { HeldPlacesLaw }
+{}
+
+/// One event of main. Where main's registers, number of spawned tasks, epoch, pieces and ending are those of program
+/// order after as many steps of main, and home has its bytes wherever main may load, the first holds again after the
+/// event, or the task that it spawned traps in program order. A task that went to the inbox is the one that program
+/// order starts there. Home still agrees with program order at each address where it did, but for the objects of that
+/// task, which main may not load from then on; so a barrier, after which main may load more, adds nothing to that. Once a
+/// task that main has spawned traps, program order ends with it, and what main has printed with fewer tasks spawned stays
+/// its output. Whatever went before, the event changes home only at addresses that main may load.
+pub fn main_event()
+    ensures in_order { MainInOrderLaw }
+    ensures cut_off { MainCutOffLaw }
+    ensures stores { MainStoresLaw }
+{}

@@ -1,0 +1,5 @@
+use Rattle.tss_laws.proofs.AskingEvents.{asking_of_runs}
+use Rattle.tss_laws.proofs.asking.Goals as goal
+
+pub returns : goal.returns
+returns c = asking_of_runs

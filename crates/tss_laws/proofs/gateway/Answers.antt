@@ -1,0 +1,5 @@
+use Rattle.tss_laws.proofs.GatewayLemmas.{gateway_of_runs}
+use Rattle.tss_laws.proofs.gateway.Goals as goal
+
+pub returns : goal.returns
+returns c = gateway_of_runs

@@ -1,0 +1,5 @@
+use Rattle.tss_laws.proofs.DecodedNames.{names_of_runs}
+use Rattle.tss_laws.proofs.names.Goals as goal
+
+pub returns : goal.returns
+returns c = names_of_runs

@@ -1,0 +1,5 @@
+use Rattle.tss_laws.proofs.OpeningLemmas.{openings_of_runs}
+use Rattle.tss_laws.proofs.openings.Goals as goal
+
+pub returns : goal.returns
+returns c = openings_of_runs

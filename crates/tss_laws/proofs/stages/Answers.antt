@@ -1,0 +1,5 @@
+use Rattle.tss_laws.proofs.StageEvents.{stages_of_runs}
+use Rattle.tss_laws.proofs.stages.Goals as goal
+
+pub returns : goal.returns
+returns c = stages_of_runs

@@ -1,0 +1,5 @@
+use Rattle.tss_laws.proofs.NumberLemmas.{numbers_of_runs}
+use Rattle.tss_laws.proofs.task_numbers.Goals as goal
+
+pub returns : goal.returns
+returns c = numbers_of_runs
