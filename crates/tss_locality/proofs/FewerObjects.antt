@@ -50,7 +50,8 @@ module _ (f g : Objects) (fewer : (o : OpName) (x : Range) → g o ≡ Some x �
 zero_from_test : (n : ℕ) → (n == 0) ≡ true → n ≡ 0
 zero_from_test n e = grind (arith, nat_tests)
 
-nothing_there : {K X : Type 0} {R : K → K → Ordering} (m : FinMap R X) → len m ≡ 0 → (k : K) (x : X) →
+-- in an empty map nothing stands at any key
+pub nothing_there : {K X : Type 0} {R : K → K → Ordering} (m : FinMap R X) → len m ≡ 0 → (k : K) (x : X) →
     get m k ≡ Some x → ⊥
 nothing_there m empty k x e = none-some x (sym (absent_empty m k empty) ∙ e)
 
@@ -59,18 +60,19 @@ nothing_in None e o p there = none-some p there
 nothing_in (Some t) e o p there = absurd (cc)
 
 -- each part of a drained state is empty
-record IsEmpty (S : State) : Type 0 where
-  inbox : is_none S.inbox ≡ true
-  flight : len S.flight ≡ 0
-  workers : len S.workers ≡ 0
-  entries : len S.entries ≡ 0
-  places : len S.places ≡ 0
-  buffers : len S.buffers ≡ 0
-  versions : len S.versions ≡ 0
-  copies : len S.copies ≡ 0
-  messages : message_count S.mail ≡ 0
+pub record IsEmpty (S : State) : Type 0 where
+  pub inbox : is_none S.inbox ≡ true
+  pub flight : len S.flight ≡ 0
+  pub workers : len S.workers ≡ 0
+  pub entries : len S.entries ≡ 0
+  pub places : len S.places ≡ 0
+  pub buffers : len S.buffers ≡ 0
+  pub versions : len S.versions ≡ 0
+  pub copies : len S.copies ≡ 0
+  pub messages : message_count S.mail ≡ 0
 
-empty_drained : (S : State) → is_drained S ≡ true → IsEmpty S
+-- each part of it
+pub empty_drained : (S : State) → is_drained S ≡ true → IsEmpty S
 empty_drained S drained =
     let outer = and_parts (has_no_task S && has_no_object S) (is_silent S.mail) drained in
     let inner = and_parts (has_no_task S) (has_no_object S) outer.0 in

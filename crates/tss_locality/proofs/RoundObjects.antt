@@ -7,11 +7,11 @@ use Rattle.tss_base.specs.declared.range.Range.{Range}
 use Rattle.tss_base.specs.declared.operand.OpName.{OpName}
 use Rattle.tss_base.specs.declared.operand.Operand.{Operand}
 use Rattle.tss_base.specs.declared.operand.Task.{Task}
-use Rattle.tss_base.specs.Range.{end_of, meets}
+use Rattle.tss_base.specs.Range.{end_of, meets, Covers}
 use Rattle.tss_model.specs.Access.{operands_of}
 use Rattle.tss_locality.specs.Agreement.{operand_in}
 use Rattle.tss_locality.specs.Objects.{AreApartNamed}
-use Rattle.tss_locality.specs.Rounds.{object_or, object_in, IsIn, AreSeparate}
+use Rattle.tss_locality.specs.Rounds.{object_or, object_in, IsIn, IsTaskOf, AreSeparate}
 
 -- an operand in the inbox's task is one of the task's
 pub arrival_operand : (t : Task) (o : OpName) (p : Operand) → operand_in (Some t) o ≡ Some p →
@@ -93,6 +93,17 @@ from_longer [] t (suc k) u e = absurd (none-some u e)
 from_longer (x ∷ ts) t zero u e = inl e
 from_longer (x ∷ ts) t (suc k) u e = from_longer ts t k u e
 
+-- the tasks of a list are tasks of the longer one
+pub in_longer : (ts : List Task) (t : Task) (u : Task) → IsTaskOf ts u → IsTaskOf (ts ++ t ∷ []) u
+in_longer [] t u h = absurd (none-some u h.1)
+in_longer (x ∷ ts) t u (zero, e) = (0, e)
+in_longer (x ∷ ts) t u (suc k, e) = let h = in_longer ts t u (k, e) in (suc h.0, h.1)
+
+-- and so is the new one
+pub last_of_longer : (ts : List Task) (t : Task) → IsTaskOf (ts ++ t ∷ []) t
+last_of_longer [] t = (0, refl)
+last_of_longer (x ∷ ts) t = let h = last_of_longer ts t in (suc h.0, h.1)
+
 -- ---- apart
 
 -- two ranges with addresses and one base meet
@@ -100,15 +111,29 @@ meet_at_base : (x y : Range) → 0 < x.len → 0 < y.len → x.base ≡ y.base �
 meet_at_base x y long longer same = lt-ltb (max x.base y.base) (min (end_of x) (end_of y))
     (omega (arith, long, longer, same))
 
--- objects that are all among separate ones are apart
-pub apart_in_round : (ts : List Task) (epoch : List Range) → AreSeparate epoch →
-    ((k : ℕ) (t : Task) → slice_get ts k ≡ Some t → (j : ℕ) (p : Operand) → slice_get (operands_of t) j ≡ Some p →
-    IsIn p.object epoch) → AreApartNamed (object_in ts)
-apart_in_round ts epoch separate named o q x y eo eq same =
-    let f = found_in_round ts o x eo in
-    let g = found_in_round ts q y eq in
-    let in_x = subst (λ x. IsIn x epoch) f.object
-    (named f.place f.task f.there o.place f.operand (arrival_operand f.task o f.operand f.arrives)) in
-    let in_y = subst (λ y. IsIn y epoch) g.object
-    (named g.place g.task g.there q.place g.operand (arrival_operand g.task q g.operand g.arrives)) in
-    separate.one x y in_x in_y (meet_at_base x y (separate.some x in_x) (separate.some y in_y) same)
+-- two ranges that share an address meet
+meet_at_address : (x y : Range) (a : ℕ) → Covers x a → Covers y a → meets x y ≡ true
+meet_at_address x y a in_x in_y =
+    lt-ltb (max x.base y.base) (min (end_of x) (end_of y)) (omega (arith, in_x.0, in_x.1, in_y.0, in_y.1))
+
+module _ (ts : List Task) (epoch : List Range) (separate : AreSeparate epoch) (named : (k : ℕ) (t : Task) →
+    slice_get ts k ≡ Some t → (j : ℕ) (p : Operand) → slice_get (operands_of t) j ≡ Some p → IsIn p.object epoch) where
+  -- the object of a name is among those that are named
+  pub object_named : (o : OpName) (x : Range) → object_in ts o ≡ Some x → IsIn x epoch
+  object_named o x e =
+      let f = found_in_round ts o x e in
+      subst (λ x. IsIn x epoch) f.object
+      (named f.place f.task f.there o.place f.operand (arrival_operand f.task o f.operand f.arrives))
+
+  -- objects that are all among separate ones are apart
+  pub apart_in_round : AreApartNamed (object_in ts)
+  apart_in_round o q x y eo eq same =
+      let in_x = object_named o x eo in
+      let in_y = object_named q y eq in
+      separate.one x y in_x in_y (meet_at_base x y (separate.some x in_x) (separate.some y in_y) same)
+
+  -- and share no address
+  pub no_address_shared : (o q : OpName) (x y : Range) → object_in ts o ≡ Some x → object_in ts q ≡ Some y →
+      (x ≡ y → ⊥) → (a : ℕ) → Covers x a → Covers y a → ⊥
+  no_address_shared o q x y eo eq other a in_x in_y =
+      other (separate.one x y (object_named o x eo) (object_named q y eq) (meet_at_address x y a in_x in_y))

@@ -1,42 +1,40 @@
 -- In every run links stay within the objects of the tasks since the last barrier, which are those that main has named.
-use Rattle.std.proofs.Common.{◌≡◌, ℕ, zero, suc, ◌+◌, ◌≤◌, Bool, true, false, cond, List, [], ◌∷◌, ◌++◌, append-nil, Option, Some, None, refl, sym, ap, ◌∙◌, subst, inl, inr, arith}
-use Rattle.std.specs.Prelude.{option_to_list, length, ◌==◌, ◌&&◌, nat_lt, is_none, is_some, slice_get, Result, Ok, Err}
+use Rattle.std.proofs.Common.{◌≡◌, ℕ, suc, ◌<◌, ◌≤◌, Bool, true, false, cond, List, [], ◌∷◌, ◌++◌, append-nil, Option, Some, None, refl, sym, ap, ◌∙◌, subst, inl, inr, arith}
+use Rattle.std.specs.Prelude.{option_to_list, ◌&&◌, is_none, slice_get, Result, Ok, Err}
 use Rattle.std.proofs.lemmas.Bool.{and_parts}
 use Rattle.std.proofs.lemmas.Option.{none-some, same_Some}
+use Rattle.std.specs.FinMap.{get}
 use Rattle.tss_base.specs.declared.range.Range.{Range}
 use Rattle.tss_base.specs.declared.operand.OpName.{OpName}
 use Rattle.tss_base.specs.declared.operand.Operand.{Operand}
 use Rattle.tss_base.specs.declared.operand.Task.{Task}
 use Rattle.tss_base.specs.declared.machine.Machine.{Machine}
-use Rattle.tss_base.specs.declared.machine.Limits.{Limits}
 use Rattle.tss_base.specs.declared.event.Event.{Event}
 use Rattle.tss_base.specs.declared.event.Event.TheVariants as event
-use Rattle.tss_base.specs.Image.{SegmentState, ImageState}
-use Rattle.tss_model.specs.Memory.{Memory, range_of, bytes_of}
-use Rattle.tss_model.specs.Registers.{trap_of}
-use Rattle.tss_model.specs.Access.{operands_of, touches}
-use Rattle.tss_model.specs.Core.{Stepped, Executed, Called, Ended, Trapped, Touched}
-use Rattle.tss_model.specs.TaskRun.{repeated}
-use Rattle.tss_model.specs.Causes.{main_budget_spent, main_touch, load_denied, output_full}
-use Rattle.tss_model.specs.MainStep.{MainState, Flat, Call, ExitCall, Spawn, Barrier, Print, Unknown, main_refused, main_trapped, call_done, output_of, print_done, print_some, has_spent, main_on, main_core, main_step, main_stretch, spawn_call, spawn_on, spawn_done, print_call, print_range, main_call}
+use Rattle.tss_base.specs.Image.{ImageState}
+use Rattle.tss_model.specs.Memory.{Memory}
+use Rattle.tss_model.specs.Access.{operands_of}
+use Rattle.tss_model.specs.MainStep.{MainState, Call, ExitCall, Spawn, Barrier, Print, Unknown, main_refused, main_stretch, spawn_call, spawn_on, spawn_done, print_call, print_range, main_call}
 use Rattle.tss_model.specs.Spawn.{spawn_of, objects_of, name_objects}
-use Rattle.tss_protocol.specs.State.{State, initial_state}
+use Rattle.tss_protocol.specs.State.{Flying, State, initial_state}
 use Rattle.tss_protocol.specs.MainEvent.{is_drained, flat_of, call_next, may_call, after_call, main_by}
-use Rattle.tss_protocol.specs.UnitMachine.{is_enabled, IsEnabled, after_event}
+use Rattle.tss_protocol.specs.UnitMachine.{after_take, is_enabled, IsEnabled, after_event}
 use Rattle.tss_protocol.specs.Needs.{round_after_call, round_after_main, round_after_event, round_from, round_of}
 use Rattle.tss_protocol.specs.Run.{after_events, IsRun}
 use Rattle.tss_locality.specs.Agreement.{operand_in}
 use Rattle.tss_locality.specs.Objects.{Objects, HasObjects, AreApartNamed, StandNumbered, IsFitting, IsWithinObjects}
-use Rattle.tss_locality.specs.Rounds.{object_in, IsIn, AreSeparate, IsRounded}
+use Rattle.tss_locality.specs.Rounds.{object_in, IsIn, AreSeparate, IsTaskOf, IsNumberOf, IsRounded}
+use Rattle.tss_locality.proofs.MainCalls.{SameCalls, calls_stretch, calls_print}
 use Rattle.tss_locality.proofs.LeftFields.{Leaves-after_event}
 use Rattle.tss_locality.proofs.NamedEvents.{IsWithinObjects-initial_state, IsWithinObjects-after_event}
 use Rattle.tss_locality.proofs.GrownObjects.{IsWithinObjects-grown}
-use Rattle.tss_locality.proofs.FewerObjects.{IsWithinObjects-drained}
-use Rattle.tss_locality.proofs.NumberedTasks.{StandNumbered-initial_state, StandNumbered-after_event}
+use Rattle.tss_locality.proofs.FewerObjects.{nothing_there, empty_drained, IsWithinObjects-drained}
+use Rattle.tss_locality.proofs.TasksInFlight.{AllTasks, TakesWell, AllTasks-initial_state, AllTasks-after_event}
+use Rattle.tss_locality.proofs.TasksAtWork.{AllBusy, AllBusy-initial_state, AllBusy-after_event}
 use Rattle.tss_locality.proofs.SeparateObjects.{still_named, newly_named}
 use Rattle.tss_locality.proofs.SpawnedTasks.{in_objects, accepted_number, accepted_separate}
 use Rattle.tss_locality.proofs.Subjects.{arrival_task}
-use Rattle.tss_locality.proofs.RoundObjects.{found_in_round, object_in-more, object_in-new, from_longer, apart_in_round}
+use Rattle.tss_locality.proofs.RoundObjects.{in_longer, last_of_longer, found_in_round, object_in-more, object_in-new, from_longer, apart_in_round}
 
 -- ---- main
 
@@ -68,81 +66,33 @@ within_main f S x home inbox has within = record {
       };
 }
 
--- main that has spawned as many tasks and named the same objects
-record SameCalls (x y : MainState) : Type 0 where
-  spawned : y.spawned ≡ x.spawned
-  epoch : y.epoch ≡ x.epoch
-
-calls_on : (x : MainState) (f : Flat) → SameCalls x f.main → (s : Stepped) → SameCalls x (main_on f s).main
-calls_on x f k (Executed r w) = record { spawned = k.spawned; epoch = k.epoch }
-calls_on x f k Called = k
-calls_on x f k Ended = record { spawned = k.spawned; epoch = k.epoch }
-calls_on x f k (Trapped t) = record { spawned = k.spawned; epoch = k.epoch }
-calls_on x f k Touched = record { spawned = k.spawned; epoch = k.epoch }
-
-calls_if : (x : MainState) (b : Bool) (f g : Flat) → SameCalls x f.main → SameCalls x g.main →
-    SameCalls x (cond b f g).main
-calls_if x true f g p q = p
-calls_if x false f g p q = q
-
-calls_step : (code : List SegmentState) (limits : Limits) (x : MainState) (f : Flat) → SameCalls x f.main →
-    SameCalls x (main_step code limits f).main
-unfolding main_step
-calls_step code limits x f k =
-    let spent : Flat = record f { main = main_refused f.main main_budget_spent } in
-    let on = main_on f (main_core code f) in
-    calls_if x (is_some f.main.ending) f (cond (has_spent limits f.main) spent on) k
-    (calls_if x (has_spent limits f.main) spent on (record { spawned = k.spawned; epoch = k.epoch })
-    (calls_on x f k (main_core code f)))
-
-calls_stretch : (code : List SegmentState) (limits : Limits) (x : MainState) (n : ℕ) (f : Flat) → SameCalls x f.main →
-    SameCalls x (main_stretch code limits n f).main
-unfolding repeated
-calls_stretch code limits x zero f k = k
-calls_stretch code limits x (suc n) f k =
-    calls_stretch code limits x n (main_step code limits f) (calls_step code limits x f k)
-
-calls_cond : (x : MainState) (b : Bool) (y z : MainState) → SameCalls x y → SameCalls x z → SameCalls x (cond b y z)
-calls_cond x true y z p q = p
-calls_cond x false y z p q = q
-
-calls_print : (limits : Limits) (memory : Memory) (x : MainState) (r : Range) →
-    SameCalls x (print_call limits memory x r)
-calls_print limits memory x r =
-    let same : (y : MainState) → y.spawned ≡ x.spawned → y.epoch ≡ x.epoch → SameCalls x y =
-    λ y p q. record { spawned = p; epoch = q } in
-    let full = main_refused x output_full in
-    let done = print_done x (bytes_of memory r) in
-    let fits = cond (nat_lt limits.output_bytes (length (output_of x.pieces) + r.len)) full done in
-    let touching = cond (touches x.epoch r) (main_refused x main_touch) fits in
-    let placed = main_trapped x (trap_of x.registers load_denied r.base) in
-    calls_cond x (r.len == 0) (call_done x) (print_some limits memory x r) (same (call_done x) refl refl)
-    (calls_cond x (is_none (range_of memory.ranges r)) placed touching (same placed refl refl)
-    (calls_cond x (touches x.epoch r) (main_refused x main_touch) fits (same (main_refused x main_touch) refl refl)
-    (calls_cond x (nat_lt limits.output_bytes (length (output_of x.pieces) + r.len)) full done (same full refl refl)
-    (same done refl refl))))
-
 module _ (m : Machine) (S : State) (ts : List Task) (r : IsRounded S ts) where
   -- the objects of the round are apart
   apart : AreApartNamed (object_in ts)
   apart = apart_in_round ts S.main.epoch r.separate r.named
 
   -- a state in which main has spawned and named the same
-  same_round : (T : State) → SameCalls S.main T.main → StandNumbered T → IsWithinObjects (object_in ts) T →
-      IsRounded T ts
-  same_round T k numbered within = record {
+  same_round : (T : State) → SameCalls S.main T.main → ((t : Task) → T.inbox ≡ Some t → S.inbox ≡ Some t) →
+      AllTasks (IsNumberOf ts) T.flight →
+      ((t : Task) → T.inbox ≡ Some t → (n : ℕ) (x : Flying) → get T.flight n ≡ Some x → n < t.number) →
+      AllBusy (IsTaskOf ts) T.workers → IsWithinObjects (object_in ts) T → IsRounded T ts
+  same_round T k inbox flying below busy within = record {
     numbers = λ i t there. subst (λ n. t.number ≤ n) (sym k.spawned) (r.numbers i t there);
+    one = r.one;
     named = λ i t there j p at. subst (IsIn p.object) (sym k.epoch) (r.named i t there j p at);
     separate = subst AreSeparate (sym k.epoch) r.separate;
-    numbered = numbered;
+    arrived = λ t there. subst (λ n. IsNumberOf ts n t) (sym k.spawned) (r.arrived t (inbox t there));
+    flying = flying;
+    below = below;
+    busy = busy;
     within = within;
   }
 
-  -- main with another state alone
-  main_round : (x : MainState) → SameCalls S.main x → IsRounded (record S { main = x }) ts
-  main_round x k =
-      same_round (record S { main = x }) k r.numbered
-      (within_main (object_in ts) S x S.home S.inbox r.within.named.arrivals r.within)
+  -- main with another state and home
+  main_round : (x : MainState) (home : Memory) → SameCalls S.main x → IsRounded (record S { main = x; home = home }) ts
+  main_round x home k =
+      same_round (record S { main = x; home = home }) k (λ t there. there) r.flying r.below r.busy
+      (within_main (object_in ts) S x home S.inbox r.within.named.arrivals r.within)
 
   -- ---- an accepted spawn
 
@@ -173,15 +123,43 @@ module _ (m : Machine) (S : State) (ts : List Task) (r : IsRounded S ts) where
     has_objects : HasObjects (object_in (ts ++ t ∷ [])) (Some t)
     has_objects o p at = object_in-new ts t o p (new_name o p at (object_in ts o) refl) at
 
+    one_more : (j k : ℕ) (u v : Task) → slice_get (ts ++ t ∷ []) j ≡ Some u → slice_get (ts ++ t ∷ []) k ≡ Some v →
+        u.number ≡ v.number → u ≡ v
+    one_more j k u v at there same = elim (from_longer ts t j u at) [
+      | inl old ↦ elim (from_longer ts t k v there) [
+        | inl older ↦ r.one j k u v old older same
+        | inr new ↦
+            let low = r.numbers j u old in
+            let high = ap (λ (t : Task). t.number) new in
+            absurd (omega (arith, low, high, same, number))
+      ]
+      | inr new ↦ elim (from_longer ts t k v there) [
+        | inl older ↦
+            let low = r.numbers k v older in
+            let high = ap (λ (t : Task). t.number) new in
+            absurd (omega (arith, low, high, same, number))
+        | inr newer ↦ sym new ∙ newer
+      ]
+    ]
+
     spawn_round : IsRounded (record S { main = x; inbox = Some t }) (ts ++ t ∷ [])
     spawn_round = record {
       numbers = λ k u there. elim (from_longer ts t k u there) [
         | inl old ↦ let low = r.numbers k u old in omega (arith, low, spawned)
         | inr new ↦ let same = ap (λ (t : Task). t.number) new in omega (arith, same, number, spawned)
       ];
+      one = one_more;
       named = λ k u there j p at. subst (IsIn p.object) (sym epoch) (more_named k u there j p at);
       separate = subst AreSeparate (sym epoch) separate;
-      numbered = r.numbered;
+      arrived = λ u there.
+          subst (IsNumberOf (ts ++ t ∷ []) x.spawned) (same_Some t u there) (number ∙ sym spawned, last_of_longer ts t);
+      flying = λ n y there. let h = r.flying n y there in (h.0, in_longer ts t y.task h.1);
+      below = λ u there n y at.
+          let h = r.flying n y at in
+          let low = r.numbers h.1.0 y.task h.1.1 in
+          let same = ap (λ (t : Task). t.number) (same_Some t u there) in
+          omega (arith, low, number, same, h.0);
+      busy = λ w b there. in_longer ts t b.task (r.busy w b there);
       within = within_main (object_in (ts ++ t ∷ [])) S x S.home (Some t) has_objects
           (IsWithinObjects-grown (object_in ts) (object_in (ts ++ t ∷ [])) (object_in-more ts t)
           (apart_in_round (ts ++ t ∷ []) (name_objects S.main.epoch (objects_of (operands_of t))) separate
@@ -193,7 +171,7 @@ module _ (m : Machine) (S : State) (ts : List Task) (r : IsRounded S ts) where
       IsRounded (after_call S (spawn_on S.main o)) (ts ++ option_to_list (spawn_on S.main o).1)
   spawned_round empty (Err n) there =
       subst (IsRounded (record S { main = main_refused S.main n })) (sym (append-nil ts))
-      (main_round (main_refused S.main n) (record { spawned = refl; epoch = refl }))
+      (main_round (main_refused S.main n) S.home (record { spawned = refl; epoch = refl }))
   spawned_round empty (Ok t) there =
       let call = spawn_call S.main.registers in
       spawn_round (spawn_done S.main t) t
@@ -204,14 +182,21 @@ module _ (m : Machine) (S : State) (ts : List Task) (r : IsRounded S ts) where
   none_from_test None e = refl
   none_from_test (Some t) e = absurd (cc)
 
+  none_inbox : (i : Option Task) → is_none i ≡ true → (t : Task) → i ≡ Some t → ⊥
+  none_inbox i e t there = none-some t (sym (none_from_test i e) ∙ there)
+
   -- a drained state after a barrier
   barrier_round : (x : MainState) → x.spawned ≡ S.main.spawned → x.epoch ≡ [] → is_drained S ≡ true →
       IsRounded (record S { main = x }) []
   barrier_round x spawned epoch drained = record {
     numbers = λ k t there. absurd (none-some t there);
     named = λ k t there. absurd (none-some t there);
+    one = λ j k t u there. absurd (none-some t there);
     separate = subst AreSeparate (sym epoch) (record { some = λ x h. absurd h; one = λ x y h. absurd h });
-    numbered = r.numbered;
+    arrived = λ t there. absurd (none_inbox S.inbox (empty_drained S drained).inbox t there);
+    flying = λ n y there. absurd (nothing_there S.flight (empty_drained S drained).flight n y there);
+    below = λ t there. absurd (none_inbox S.inbox (empty_drained S drained).inbox t there);
+    busy = λ w b there. absurd (nothing_there S.workers (empty_drained S drained).workers w b there);
     within = IsWithinObjects-drained (object_in []) (record S { main = x }) drained;
   }
 
@@ -219,25 +204,23 @@ module _ (m : Machine) (S : State) (ts : List Task) (r : IsRounded S ts) where
       IsRounded (after_call S (main_call m.limits S.home S.main call))
       (round_after_call ts call (main_call m.limits S.home S.main call))
   called_round ExitCall on =
-      main_round (main_call m.limits S.home S.main ExitCall).0 (record { spawned = refl; epoch = refl })
+      main_round (main_call m.limits S.home S.main ExitCall).0 S.home (record { spawned = refl; epoch = refl })
   called_round Spawn on =
       spawned_round (none_from_test S.inbox on)
       (spawn_of (spawn_call S.main.registers) S.home S.main.epoch m.limits S.main.spawned) refl
   called_round Barrier on = barrier_round (main_call m.limits S.home S.main Barrier).0 refl refl on
   called_round Print on =
-      main_round (print_call m.limits S.home S.main (print_range S.main.registers))
+      main_round (print_call m.limits S.home S.main (print_range S.main.registers)) S.home
       (calls_print m.limits S.home S.main (print_range S.main.registers))
   called_round (Unknown n) on =
-      main_round (main_call m.limits S.home S.main (Unknown n)).0 (record { spawned = refl; epoch = refl })
+      main_round (main_call m.limits S.home S.main (Unknown n)).0 S.home (record { spawned = refl; epoch = refl })
 
   main_by_round : (call : Option Call) → may_call S call ≡ true →
       IsRounded (main_by m S call) (round_after_main m S ts call)
   main_by_round None on =
       let f = main_stretch S.code m.limits m.sizes.quantum (flat_of S) in
-      same_round (main_by m S None)
+      main_round f.main f.memory
       (calls_stretch S.code m.limits S.main m.sizes.quantum (flat_of S) (record { spawned = refl; epoch = refl }))
-      r.numbered
-      (within_main (object_in ts) S f.main f.memory S.inbox r.within.named.arrivals r.within)
   main_by_round (Some call) on = called_round call on
 
   main_event_round : IsEnabled m S event.Main →
@@ -247,52 +230,101 @@ module _ (m : Machine) (S : State) (ts : List Task) (r : IsRounded S ts) where
       main_by_round (call_next m S)
       (and_parts (is_none S.main.ending && is_none S.trap) (may_call S (call_next m S)) on).1
 
+  numbered : StandNumbered S
+  numbered n x there = (r.flying n x there).0
+
+  -- an event that isn't main's
   other_event_round : (e : Event) → IsEnabled m S e → IsFitting (object_in ts) m S e →
-      (after_event m S e).main ≡ S.main →
+      TakesWell (IsNumberOf ts) m S r.flying e → (after_event m S e).main ≡ S.main →
+      ((t : Task) → (after_event m S e).inbox ≡ Some t → S.inbox ≡ Some t) →
+      ((t : Task) → (after_event m S e).inbox ≡ Some t → (n : ℕ) (x : Flying) →
+      get (after_event m S e).flight n ≡ Some x → n < t.number) →
       IsRounded (after_event m S e) ts
-  other_event_round e on fit main =
+  other_event_round e on fit well main inbox below =
       same_round (after_event m S e)
       (record { spawned = ap (λ (x : MainState). x.spawned) main; epoch = ap (λ (x : MainState). x.epoch) main })
-      (StandNumbered-after_event m S r.numbered e)
+      inbox (AllTasks-after_event (IsNumberOf ts) m S r.flying e well) below
+      (AllBusy-after_event (IsTaskOf ts) m S r.busy (λ n x there. (r.flying n x there).1) e)
       (IsWithinObjects-after_event (object_in ts) m S r.within apart e on fit)
+
+  -- numbers below that of the inbox's task
+  abbrev IsBelow : ℕ → Task → Type 0
+  IsBelow n u = (t : Task) → S.inbox ≡ Some t → n < t.number
+
+  below_inbox : AllTasks IsBelow S.flight
+  below_inbox n x there t arrived = r.below t arrived n x there
+
+  -- an event that leaves main and the inbox
+  later_event_round : (e : Event) → IsEnabled m S e → IsFitting (object_in ts) m S e →
+      TakesWell (IsNumberOf ts) m S r.flying e → TakesWell IsBelow m S below_inbox e →
+      (after_event m S e).main ≡ S.main → (after_event m S e).inbox ≡ S.inbox → IsRounded (after_event m S e) ts
+  later_event_round e on fit well lower main inbox =
+      other_event_round e on fit well main (λ t there. sym inbox ∙ there)
+      (λ t there n x at. AllTasks-after_event IsBelow m S below_inbox e lower n x at t (sym inbox ∙ there))
+
+  emptied : (i : Option Task) → S.inbox ≡ i → (t : Task) → (after_take S i).inbox ≡ Some t → ⊥
+  emptied None there t e = none-some t (sym there ∙ e)
+  emptied (Some u) there t e = none-some t e
+
+  inbox_emptied : (t : Task) → (after_event m S event.Take).inbox ≡ Some t → ⊥
+  unfolding after_event
+  inbox_emptied t e = emptied S.inbox refl t e
 
   -- after every enabled event, of the round after it
   pub IsRounded-after_event : (e : Event) → IsEnabled m S e → IsRounded (after_event m S e) (round_after_event m S ts e)
   IsRounded-after_event event.Main on = main_event_round on
   IsRounded-after_event event.Take on =
-      other_event_round event.Take on tt (λ i. (Leaves-after_event m S event.Take i).main)
+      other_event_round event.Take on tt (λ t there. (refl, (r.arrived t there).1))
+      (λ i. (Leaves-after_event m S event.Take i).main) (λ t e. absurd (inbox_emptied t e))
+      (λ t e. absurd (inbox_emptied t e))
   IsRounded-after_event (event.Decode o) on =
-      other_event_round (event.Decode o) on tt (λ i. (Leaves-after_event m S (event.Decode o) i).main)
+      later_event_round (event.Decode o) on tt tt tt (λ i. (Leaves-after_event m S (event.Decode o) i).main)
+      (λ i. (Leaves-after_event m S (event.Decode o) i).inbox)
   IsRounded-after_event (event.Ack o) on =
-      other_event_round (event.Ack o) on tt (λ i. (Leaves-after_event m S (event.Ack o) i).main)
+      later_event_round (event.Ack o) on tt tt tt (λ i. (Leaves-after_event m S (event.Ack o) i).main)
+      (λ i. (Leaves-after_event m S (event.Ack o) i).inbox)
   IsRounded-after_event (event.Open o) on =
-      other_event_round (event.Open o) on tt (λ i. (Leaves-after_event m S (event.Open o) i).main)
+      later_event_round (event.Open o) on tt tt tt (λ i. (Leaves-after_event m S (event.Open o) i).main)
+      (λ i. (Leaves-after_event m S (event.Open o) i).inbox)
   IsRounded-after_event (event.Use o) on =
-      other_event_round (event.Use o) on tt (λ i. (Leaves-after_event m S (event.Use o) i).main)
+      later_event_round (event.Use o) on tt tt tt (λ i. (Leaves-after_event m S (event.Use o) i).main)
+      (λ i. (Leaves-after_event m S (event.Use o) i).inbox)
   IsRounded-after_event (event.Ready o) on =
-      other_event_round (event.Ready o) on tt (λ i. (Leaves-after_event m S (event.Ready o) i).main)
+      later_event_round (event.Ready o) on tt tt tt (λ i. (Leaves-after_event m S (event.Ready o) i).main)
+      (λ i. (Leaves-after_event m S (event.Ready o) i).inbox)
   IsRounded-after_event (event.Link o) on =
-      other_event_round (event.Link o) on tt (λ i. (Leaves-after_event m S (event.Link o) i).main)
+      later_event_round (event.Link o) on tt tt tt (λ i. (Leaves-after_event m S (event.Link o) i).main)
+      (λ i. (Leaves-after_event m S (event.Link o) i).inbox)
   IsRounded-after_event (event.Start w) on =
-      other_event_round (event.Start w) on r.numbered (λ i. (Leaves-after_event m S (event.Start w) i).main)
+      later_event_round (event.Start w) on numbered tt tt (λ i. (Leaves-after_event m S (event.Start w) i).main)
+      (λ i. (Leaves-after_event m S (event.Start w) i).inbox)
   IsRounded-after_event (event.Exec w) on =
-      other_event_round (event.Exec w) on tt (λ i. (Leaves-after_event m S (event.Exec w) i).main)
+      later_event_round (event.Exec w) on tt tt tt (λ i. (Leaves-after_event m S (event.Exec w) i).main)
+      (λ i. (Leaves-after_event m S (event.Exec w) i).inbox)
   IsRounded-after_event (event.Finish w) on =
-      other_event_round (event.Finish w) on tt (λ i. (Leaves-after_event m S (event.Finish w) i).main)
+      later_event_round (event.Finish w) on tt tt tt (λ i. (Leaves-after_event m S (event.Finish w) i).main)
+      (λ i. (Leaves-after_event m S (event.Finish w) i).inbox)
   IsRounded-after_event (event.Release o) on =
-      other_event_round (event.Release o) on tt (λ i. (Leaves-after_event m S (event.Release o) i).main)
+      later_event_round (event.Release o) on tt tt tt (λ i. (Leaves-after_event m S (event.Release o) i).main)
+      (λ i. (Leaves-after_event m S (event.Release o) i).inbox)
   IsRounded-after_event (event.Bye o) on =
-      other_event_round (event.Bye o) on tt (λ i. (Leaves-after_event m S (event.Bye o) i).main)
+      later_event_round (event.Bye o) on tt tt tt (λ i. (Leaves-after_event m S (event.Bye o) i).main)
+      (λ i. (Leaves-after_event m S (event.Bye o) i).inbox)
   IsRounded-after_event (event.Idle v) on =
-      other_event_round (event.Idle v) on tt (λ i. (Leaves-after_event m S (event.Idle v) i).main)
+      later_event_round (event.Idle v) on tt tt tt (λ i. (Leaves-after_event m S (event.Idle v) i).main)
+      (λ i. (Leaves-after_event m S (event.Idle v) i).inbox)
   IsRounded-after_event (event.Nack v) on =
-      other_event_round (event.Nack v) on tt (λ i. (Leaves-after_event m S (event.Nack v) i).main)
+      later_event_round (event.Nack v) on tt tt tt (λ i. (Leaves-after_event m S (event.Nack v) i).main)
+      (λ i. (Leaves-after_event m S (event.Nack v) i).inbox)
   IsRounded-after_event (event.Retire v) on =
-      other_event_round (event.Retire v) on tt (λ i. (Leaves-after_event m S (event.Retire v) i).main)
+      later_event_round (event.Retire v) on tt tt tt (λ i. (Leaves-after_event m S (event.Retire v) i).main)
+      (λ i. (Leaves-after_event m S (event.Retire v) i).inbox)
   IsRounded-after_event (event.Copy b) on =
-      other_event_round (event.Copy b) on tt (λ i. (Leaves-after_event m S (event.Copy b) i).main)
+      later_event_round (event.Copy b) on tt tt tt (λ i. (Leaves-after_event m S (event.Copy b) i).main)
+      (λ i. (Leaves-after_event m S (event.Copy b) i).inbox)
   IsRounded-after_event (event.Gone v) on =
-      other_event_round (event.Gone v) on tt (λ i. (Leaves-after_event m S (event.Gone v) i).main)
+      later_event_round (event.Gone v) on tt tt tt (λ i. (Leaves-after_event m S (event.Gone v) i).main)
+      (λ i. (Leaves-after_event m S (event.Gone v) i).inbox)
 
 -- ---- runs
 
@@ -301,8 +333,12 @@ pub IsRounded-initial_state : (i : ImageState) → IsRounded (initial_state i) [
 IsRounded-initial_state i = record {
   numbers = λ k t there. absurd (none-some t there);
   named = λ k t there. absurd (none-some t there);
+  one = λ j k t u there. absurd (none-some t there);
   separate = record { some = λ x h. absurd h; one = λ x y h. absurd h };
-  numbered = StandNumbered-initial_state i;
+  arrived = λ t there. absurd (none-some t there);
+  flying = AllTasks-initial_state (IsNumberOf []) i;
+  below = λ t there. absurd (none-some t there);
+  busy = AllBusy-initial_state (IsTaskOf []) i;
   within = IsWithinObjects-initial_state (object_in []) i;
 }
 

@@ -17,11 +17,13 @@ use Rattle.tss_locality.specs.Rounds.{IsIn, AreSeparate}
 
 -- ---- members
 
+-- a member of the first of two lists
 pub in_front : (x : Range) (xs ys : List Range) → IsIn x xs → IsIn x (xs ++ ys)
 in_front x [] ys h = absurd h
 in_front x (y ∷ xs) ys (inl h) = inl h
 in_front x (y ∷ xs) ys (inr h) = inr (in_front x xs ys h)
 
+-- or of the second
 pub in_back : (x : Range) (xs ys : List Range) → IsIn x ys → IsIn x (xs ++ ys)
 in_back x [] ys h = h
 in_back x (y ∷ xs) ys h = inr (in_back x xs ys h)

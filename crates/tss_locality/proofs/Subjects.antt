@@ -26,7 +26,7 @@ use Rattle.tss_locality.specs.Concerns.{IsFree, ConcernsTake, ConcernsFinish, Op
 use Rattle.tss_locality.specs.Objects.{task_scope, main_scope, Objects, object_scope, Every, LinksStay, subject, IsObjectOf, operands_scope, OperandsNamed}
 use Rattle.tss_locality.proofs.Parts.{same_object, same_task}
 use Rattle.tss_locality.proofs.EachEvent.{ChangesOnly-after_event}
-use Rattle.tss_locality.proofs.SpawnNumbers.{IsNumbered, spawn_of-numbered}
+use Rattle.tss_locality.proofs.SpawnedTasks.{accepted_number}
 use Rattle.tss_locality.proofs.Tasks.{other_number}
 use Rattle.tss_locality.proofs.TakeEvent.{ChangesOnly-take}
 use Rattle.tss_locality.proofs.MainEventLemmas.{ChangesOnly-main}
@@ -62,18 +62,20 @@ module _ (m : Machine) (S : State) where
         fresh = fresh;
       }))
 
-  numbered : (r : Result Task ℕ) (n : ℕ) (t : Task) → IsNumbered n r → (spawn_on S.main r).1 ≡ Some t → t.number ≡ n
-  numbered (Ok u) n t number e = ap (λ (t : Task). t.number) (sym (same_Some u t e)) ∙ number
-  numbered (Err k) n t number e = absurd (none-some t e)
+  accepted : (r : Result Task ℕ) →
+      spawn_of (spawn_call S.main.registers) S.home S.main.epoch m.limits S.main.spawned ≡ r → (t : Task) →
+      (spawn_on S.main r).1 ≡ Some t → t.number ≡ suc S.main.spawned
+  accepted (Ok u) there t e =
+      ap (λ (t : Task). t.number) (sym (same_Some u t e))
+      ∙ accepted_number (spawn_call S.main.registers) S.home S.main.epoch m.limits S.main.spawned u there
+  accepted (Err n) there t e = absurd (none-some t e)
 
   -- a task that main's call spawns has the next number
   pub spawned_number : (x : Call) (t : Task) → (main_call m.limits S.home S.main x).1 ≡ Some t →
       t.number ≡ suc S.main.spawned
   spawned_number ExitCall t e = absurd (none-some t e)
   spawned_number Spawn t e =
-      numbered (spawn_of (spawn_call S.main.registers) S.home S.main.epoch m.limits S.main.spawned)
-      (suc S.main.spawned) t
-      (spawn_of-numbered (spawn_call S.main.registers) S.home S.main.epoch m.limits S.main.spawned) e
+      accepted (spawn_of (spawn_call S.main.registers) S.home S.main.epoch m.limits S.main.spawned) refl t e
   spawned_number Barrier t e = absurd (none-some t e)
   spawned_number Print t e = absurd (none-some t e)
   spawned_number (Unknown n) t e = absurd (none-some t e)
