@@ -25,7 +25,8 @@ use Rattle.tss_laws.specs.Tasks.{TasksFact}
 use Rattle.tss_laws.specs.Asking.{HasAsking, AskingLaw}
 use Rattle.tss_laws.proofs.SentLemmas.{after_ready-all, after_link-all, flight_after_finish-all}
 use Rattle.tss_laws.proofs.RunLemmas.{IsKept, law_from}
-use Rattle.tss_laws.proofs.OpeningLemmas.{AreOpeningsSound, AreOpeningsSound-after_event, AreOpeningsSound-initial_state}
+use Rattle.tss_laws.proofs.OpeningLemmas.{AreOpeningsSound}
+use Rattle.tss_laws.proofs.EnlistedNames.{AreOpeningsSound-after_event, AreOpeningsSound-initial_state}
 use Rattle.tss_laws.proofs.JointLemmas.{joint_settled, joint_open, joint_use, joint_release}
 use Rattle.tss_laws.proofs.AskingLemmas.{Asking, IsJoint-Asking, IsAside, asking_posted_all, decodes_aside, decode_aside, asking_new, asking_nacked, asking_granted, asking_refused, asking_retired}
 

@@ -31,7 +31,8 @@ use Rattle.tss_laws.specs.Tasks.{TasksFact}
 use Rattle.tss_laws.specs.Held.{IsCopied, HoldsPlaces, HasHeldPlaces, HeldPlacesLaw}
 use Rattle.tss_laws.proofs.SentLemmas.{AllSent, after_ready-all, after_link-all, flight_after_finish-all}
 use Rattle.tss_laws.proofs.RunLemmas.{IsKept, law_from}
-use Rattle.tss_laws.proofs.OpeningLemmas.{AreOpeningsSound, AreOpeningsSound-after_event, AreOpeningsSound-initial_state, no_version_yet}
+use Rattle.tss_laws.proofs.OpeningLemmas.{AreOpeningsSound, no_version_yet}
+use Rattle.tss_laws.proofs.EnlistedNames.{AreOpeningsSound-after_event, AreOpeningsSound-initial_state}
 use Rattle.tss_laws.proofs.JointLemmas.{joint_settled, joint_open, joint_use, joint_release, none_from_test}
 use Rattle.tss_laws.proofs.HeldLemmas.{Holding, IsJoint-Holding, held_decoded, held_opened, held_written, held_dies, held_copied, held_moved, held_home, held_gone}
 
@@ -121,12 +122,12 @@ module _ (m : Machine) (ts : List Task) (S : State) (s : AreOpeningsSound m ts S
     no_gone_yet : get S.mail.gones o ≡ None
     no_gone_yet = elim (decide_get S.mail.gones o) [
       | inl e ↦ e
-      | inr g ↦ absurd (undecoded (s.0.1.8.10 o g.0 g.1).0.2)
+      | inr g ↦ absurd (undecoded (s.0.1.8.10 o g.0 g.1).0.0.2)
     ]
 
     no_copy_yet : IsCopied S.copies o → ⊥
     no_copy_yet k =
-        undecoded (ap (get S.mail.decodes) (sym k.3) ∙ (s.0.1.7 k.0 k.1 k.2).0.2)
+        undecoded (ap (get S.mail.decodes) (sym k.3) ∙ (s.0.1.7 k.0 k.1 k.2).0.0.2)
 
     hold_opens : (c : OpenContents) → c.operand ≡ operand
         → HoldsPlaces m.sizes (insert S.places o (bank_of m.sizes operand.object)) S.copies S.versions

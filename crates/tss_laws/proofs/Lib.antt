@@ -17,6 +17,7 @@ pub mod NameEvents
 pub mod DecodedNames
 pub mod VersionObjects
 pub mod OpeningLemmas
+pub mod EnlistedNames
 pub mod PlaceLemmas
 pub mod TableLemmas
 pub mod JointLemmas

@@ -77,48 +77,48 @@ module _ {M : Type 0} (byte : M → ℕ → ℕ) (write : M → Write → M) (bu
 
 -- ---- records of operands
 
-module _ (P : OpName → Type 0) where
+module _ (P E : OpName → Type 0) where
   -- of the names in all tasks in flight
   abbrev pub FlightNames : Numbered Flying → Type 0
-  FlightNames m = EachEntry (FlyingNames P) m
+  FlightNames m = EachEntry (FlyingNames P E) m
 
   -- of those in the contents of the buffers
   abbrev pub ContentsNames : Named (List ℕ) → Type 0
   ContentsNames contents = EachEntry (λ n bytes. P n) contents
 
   each_record_set : (f : ℕ → OpName) (rs : List OperandState) (i : ℕ) (s : OperandState)
-      → ((j : ℕ) (r : OperandState) → slice_get rs j ≡ Some r → OperandNames P (f j) r) → OperandNames P (f i) s
-      → (j : ℕ) (r : OperandState) → slice_get (slice_set rs i s) j ≡ Some r → OperandNames P (f j) r
+      → ((j : ℕ) (r : OperandState) → slice_get rs j ≡ Some r → OperandNames P E (f j) r) → OperandNames P E (f i) s
+      → (j : ℕ) (r : OperandState) → slice_get (slice_set rs i s) j ≡ Some r → OperandNames P E (f j) r
   each_record_set f [] i s each new j r e = absurd (none-some r e)
-  each_record_set f (q ∷ rs) zero s each new zero r e = subst (OperandNames P (f 0)) (same_Some s r e) new
+  each_record_set f (q ∷ rs) zero s each new zero r e = subst (OperandNames P E (f 0)) (same_Some s r e) new
   each_record_set f (q ∷ rs) zero s each new (suc j) r e = each (suc j) r e
   each_record_set f (q ∷ rs) (suc i) s each new zero r e = each 0 r e
   each_record_set f (q ∷ rs) (suc i) s each new (suc j) r e =
       each_record_set (λ k. f (suc k)) rs i s (λ k. each (suc k)) new j r e
 
-  names_with_operand : (n : ℕ) (x : Flying) (i : ℕ) (s : OperandState) → FlyingNames P n x
-      → OperandNames P (operand_name n i) s → FlyingNames P n (with_operand x i s)
+  names_with_operand : (n : ℕ) (x : Flying) (i : ℕ) (s : OperandState) → FlyingNames P E n x
+      → OperandNames P E (operand_name n i) s → FlyingNames P E n (with_operand x i s)
   names_with_operand n x i s each new = each_record_set (operand_name n) x.operands i s each new
 
-  names_flying : (m : Numbered Flying) (n : ℕ) (x : Flying) → FlightNames m → FlyingNames P n x
+  names_flying : (m : Numbered Flying) (n : ℕ) (x : Flying) → FlightNames m → FlyingNames P E n x
       → FlightNames (insert m n x)
-  names_flying m n x each new = each_inserted nat_order (FlyingNames P) m n x each new
+  names_flying m n x each new = each_inserted nat_order (FlyingNames P E) m n x each new
 
-  names_remaining : (m : Numbered Flying) (n : ℕ) (x : Flying) → FlightNames m → FlyingNames P n x
+  names_remaining : (m : Numbered Flying) (n : ℕ) (x : Flying) → FlightNames m → FlyingNames P E n x
       → FlightNames (remaining_tasks m n x)
   names_remaining m n x each new =
       elim (is_gone x) as (λ b. FlightNames (if b then remove m n else insert m n x)) [
-        | true ↦ each_removed nat_order (FlyingNames P) m n each
+        | true ↦ each_removed nat_order (FlyingNames P E) m n each
         | false ↦ names_flying m n x each new
       ]
 
   -- ---- take
 
   names_new_operands : (f : ℕ → OpName) (os : List Operand) (j : ℕ) (r : OperandState)
-      → slice_get (map new_operand os) j ≡ Some r → OperandNames P (f j) r
+      → slice_get (map new_operand os) j ≡ Some r → OperandNames P E (f j) r
   names_new_operands f [] j r e = absurd (none-some r e)
   names_new_operands f (o ∷ os) zero r e =
-      subst (OperandNames P (f 0)) (same_Some (new_operand o) r e) (record { own = tt; source = tt; link = tt })
+      subst (OperandNames P E (f 0)) (same_Some (new_operand o) r e) (record { own = tt; source = tt; link = tt })
   names_new_operands f (o ∷ os) (suc j) r e = names_new_operands (λ k. f (suc k)) os j r e
 
   pub names_taken : (m : Numbered Flying) (t : Task) → FlightNames m → FlightNames (flight_after_take m t)
@@ -127,20 +127,20 @@ module _ (P : OpName → Type 0) where
 
   -- ---- ready, link, bye
 
-  names_link_after_ready : (l : LinkState) → LinkNames P (link_after_ready l)
+  names_link_after_ready : (l : LinkState) → LinkNames E (link_after_ready l)
   names_link_after_ready link.Nothing = tt
   names_link_after_ready (link.Held next) = tt
   names_link_after_ready link.Passed = tt
 
-  names_sent_by_ready : (l : LinkState) (source : Source) → LinkNames P l → SourceNames P source
-      → AllSent (MessageNames P) (sent_by_ready l source)
+  names_sent_by_ready : (l : LinkState) (source : Source) → LinkNames E l → SourceNames P E source
+      → AllSent (MessageNames P E) (sent_by_ready l source)
   names_sent_by_ready link.Nothing source next told = tt
   names_sent_by_ready (link.Held next) source name told = ((name, told), tt)
   names_sent_by_ready link.Passed source next told = tt
 
-  names_awaited : (n : ℕ) (x : Flying) → FlyingNames P n x → FlyingNames P n (awaited x)
+  names_awaited : (n : ℕ) (x : Flying) → FlyingNames P E n x → FlyingNames P E n (awaited x)
   names_awaited n x each =
-      elim (is_complete x) as (λ b. FlyingNames P n (if b then record x { stage = stage.Queued } else x)) [
+      elim (is_complete x) as (λ b. FlyingNames P E n (if b then record x { stage = stage.Queued } else x)) [
         | true ↦ each
         | false ↦ each
       ]
@@ -148,15 +148,15 @@ module _ (P : OpName → Type 0) where
   -- what a ready leaves and sends
   pub record WokenNames (w : Woken) : Type 0 where
     pub flight : FlightNames w.flight
-    pub sent : AllSent (MessageNames P) w.sent
+    pub sent : AllSent (MessageNames P E) w.sent
 
   -- what a link or a finish leaves and sends
   pub record FlightOutcome (d : Outcome (Numbered Flying)) : Type 0 where
     pub part : FlightNames d.part
-    pub sent : AllSent (MessageNames P) d.sent
+    pub sent : AllSent (MessageNames P E) d.sent
 
   module _ (m : Numbered Flying) (o : OpName) (each : FlightNames m) where
-    names_woken_by : (source : Source) → P o × SourceNames P source → (x : Flying) → FlyingNames P o.task x
+    names_woken_by : (source : Source) → E o × SourceNames P E source → (x : Flying) → FlyingNames P E o.task x
         → (r : Option OperandState) → slice_get x.operands o.place ≡ r → WokenNames (woken_by m o source x r)
     names_woken_by source told x here None e = record { flight = each; sent = tt }
     names_woken_by source told x here (Some r) e = record {
@@ -168,25 +168,25 @@ module _ (P : OpName → Type 0) where
       sent = names_sent_by_ready r.link source (here o.place r e).link told.1;
     }
 
-    names_woken_in : (source : Source) → P o × SourceNames P source → (x : Option Flying) → get m o.task ≡ x
+    names_woken_in : (source : Source) → E o × SourceNames P E source → (x : Option Flying) → get m o.task ≡ x
         → WokenNames (woken_in m o source x)
     names_woken_in source told None e = record { flight = each; sent = tt }
     names_woken_in source told (Some x) e =
         names_woken_by source told x (each o.task x e) (slice_get x.operands o.place) refl
 
-    pub names_after_ready : (source : Source) → P o × SourceNames P source → WokenNames (after_ready m o source)
+    pub names_after_ready : (source : Source) → E o × SourceNames P E source → WokenNames (after_ready m o source)
     names_after_ready source told = names_woken_in source told (get m o.task) refl
 
-    names_link_after_link : (source : Option Source) (next : OpName) → P next → LinkNames P (link_after_link source next)
+    names_link_after_link : (source : Option Source) (next : OpName) → E next → LinkNames E (link_after_link source next)
     names_link_after_link None next name = name
     names_link_after_link (Some source) next name = tt
 
-    names_sent_by_link : (source : Option Source) (next : OpName) → P next → WhereThere (SourceNames P) source
-        → AllSent (MessageNames P) (sent_by_link source next)
+    names_sent_by_link : (source : Option Source) (next : OpName) → E next → WhereThere (SourceNames P E) source
+        → AllSent (MessageNames P E) (sent_by_link source next)
     names_sent_by_link None next name told = tt
     names_sent_by_link (Some source) next name told = ((name, told), tt)
 
-    names_linked_by : (next : OpName) → P next → (x : Flying) → FlyingNames P o.task x → (r : Option OperandState)
+    names_linked_by : (next : OpName) → E next → (x : Flying) → FlyingNames P E o.task x → (r : Option OperandState)
         → slice_get x.operands o.place ≡ r → FlightOutcome (linked_by m o next x r)
     names_linked_by next name x here None e = record { part = each; sent = tt }
     names_linked_by next name x here (Some r) e =
@@ -203,16 +203,16 @@ module _ (P : OpName → Type 0) where
           sent = names_sent_by_link r.source next name before.source;
         }
 
-    names_linked_in : (next : OpName) → P next → (x : Option Flying) → get m o.task ≡ x
+    names_linked_in : (next : OpName) → E next → (x : Option Flying) → get m o.task ≡ x
         → FlightOutcome (linked_in m o next x)
     names_linked_in next name None e = record { part = each; sent = tt }
     names_linked_in next name (Some x) e =
         names_linked_by next name x (each o.task x e) (slice_get x.operands o.place) refl
 
-    pub names_after_link : (next : OpName) → P next → FlightOutcome (after_link m o next)
+    pub names_after_link : (next : OpName) → E next → FlightOutcome (after_link m o next)
     names_after_link next name = names_linked_in next name (get m o.task) refl
 
-    names_parted_by : (promised : Bool) (x : Flying) → FlyingNames P o.task x → (r : Option OperandState)
+    names_parted_by : (promised : Bool) (x : Flying) → FlyingNames P E o.task x → (r : Option OperandState)
         → slice_get x.operands o.place ≡ r → FlightNames (parted_by m o promised x r)
     names_parted_by promised x here None e = each
     names_parted_by promised x here (Some r) e =
@@ -231,23 +231,23 @@ module _ (P : OpName → Type 0) where
 
   -- ---- finish
 
-  names_release_of : (o : OpName) (r : OperandState) (source : Option Source) → WhereThere (λ (s : Source). P o) source
-      → WhereThere (SourceNames P) source → AllSent (MessageNames P) (release_of o r source)
+  names_release_of : (o : OpName) (r : OperandState) (source : Option Source) → WhereThere (λ (s : Source). E o) source
+      → WhereThere (SourceNames P E) source → AllSent (MessageNames P E) (release_of o r source)
   names_release_of o r None own told = tt
   names_release_of o r (Some source) own told = ((own, told.0), tt)
 
   names_releases : (n place : ℕ) (rs : List OperandState)
-      → ((j : ℕ) (r : OperandState) → slice_get rs j ≡ Some r → OperandNames P (operand_name n (place + j)) r)
-      → AllSent (MessageNames P) (releases_from n place rs)
+      → ((j : ℕ) (r : OperandState) → slice_get rs j ≡ Some r → OperandNames P E (operand_name n (place + j)) r)
+      → AllSent (MessageNames P E) (releases_from n place rs)
   names_releases n place [] each = tt
   names_releases n place (r ∷ rs) each =
       let here : place + 0 ≡ place = omega arith in
-      let first = subst (λ k. OperandNames P (operand_name n k) r) here (each 0 r refl) in
-      AllSent-append (MessageNames P) (release_of (operand_name n place) r r.source) (releases_from n (suc place) rs)
+      let first = subst (λ k. OperandNames P E (operand_name n k) r) here (each 0 r refl) in
+      AllSent-append (MessageNames P E) (release_of (operand_name n place) r r.source) (releases_from n (suc place) rs)
       (names_release_of (operand_name n place) r r.source first.own first.source)
       (names_releases n (suc place) rs (λ j q e.
       let next : place + suc j ≡ suc place + j = omega arith in
-      subst (λ k. OperandNames P (operand_name n k) q) next (each (suc j) q e)))
+      subst (λ k. OperandNames P E (operand_name n k) q) next (each (suc j) q e)))
 
   names_finished_in : (m : Numbered Flying) (n : ℕ) (x : Option Flying) → get m n ≡ x → FlightNames m
       → FlightOutcome (finished_in m n x)
@@ -257,7 +257,7 @@ module _ (P : OpName → Type 0) where
     sent =
         names_releases n 0 x.operands (λ j r f.
         let same : j ≡ 0 + j = omega arith in
-        subst (λ k. OperandNames P (operand_name n k) r) same (each n x e j r f));
+        subst (λ k. OperandNames P E (operand_name n k) r) same (each n x e j r f));
   }
 
   pub names_after_finish : (m : Numbered Flying) (n : ℕ) → FlightNames m → FlightOutcome (flight_after_finish m n)
@@ -269,12 +269,12 @@ module _ (P : OpName → Type 0) where
       → FlightNames (flight_after_start m n x)
   names_started m n x e each = names_flying m n (record x { stage = stage.Running }) each (each n x e)
 
-  names_storage_of : (source : Option Source) → WhereThere (SourceNames P) source → StorageNames P (storage_of source)
+  names_storage_of : (source : Option Source) → WhereThere (SourceNames P E) source → StorageNames P (storage_of source)
   names_storage_of None told = tt
   names_storage_of (Some source) told = told.1
 
   names_storages : (f : ℕ → OpName) (rs : List OperandState)
-      → ((j : ℕ) (r : OperandState) → slice_get rs j ≡ Some r → OperandNames P (f j) r) → (i : ℕ) (s : StorageName)
+      → ((j : ℕ) (r : OperandState) → slice_get rs j ≡ Some r → OperandNames P E (f j) r) → (i : ℕ) (s : StorageName)
       → slice_get (map (λ r. storage_of r.source) rs) i ≡ Some s → StorageNames P s
   names_storages f [] each i s e = absurd (none-some s e)
   names_storages f (r ∷ rs) each zero s e =
@@ -282,7 +282,7 @@ module _ (P : OpName → Type 0) where
       (names_storage_of r.source (each 0 r refl).source)
   names_storages f (r ∷ rs) each (suc i) s e = names_storages (λ k. f (suc k)) rs (λ j. each (suc j)) i s e
 
-  pub names_storages_of : (n : ℕ) (x : Flying) → FlyingNames P n x → EachOf (StorageNames P) (storages_of x)
+  pub names_storages_of : (n : ℕ) (x : Flying) → FlyingNames P E n x → EachOf (StorageNames P) (storages_of x)
   names_storages_of n x each = names_storages (operand_name n) x.operands each
 
   names_zeroed : (limits : Limits) (s : Stores) (object : Range) (storage : StorageName) → ContentsNames s.contents
@@ -359,18 +359,18 @@ module _ (P : OpName → Type 0) where
     names_held held bank false each = each
 
     names_live_message : (operand : Operand) (e : Entry) (mode : Mode) → P e.latest
-        → MessageNames P (live_message o operand e mode)
+        → MessageNames P E (live_message o operand e mode)
     names_live_message operand e Input latest = (name, latest)
     names_live_message operand e Output latest = (name, name, latest)
     names_live_message operand e Inout latest = (name, tt, latest)
 
     names_decode_message : (operand : Operand) (e : Option Entry) → WhereThere (λ (e : Entry). P e.latest) e
-        → MessageNames P (decode_message o operand e)
+        → MessageNames P E (decode_message o operand e)
     names_decode_message operand None latest = (name, tt, tt)
     names_decode_message operand (Some e) latest = names_live_message operand e operand.mode latest
 
     pub names_sent_by_decode : (operand : Operand) (e : Option Entry) → WhereThere (λ (e : Entry). P e.latest) e
-        → AllSent (MessageNames P) (sent_by_decode o operand e)
+        → AllSent (MessageNames P E) (sent_by_decode o operand e)
     names_sent_by_decode operand e latest = (names_decode_message operand e latest, (name, tt))
 
   -- what stands at a key
@@ -388,9 +388,9 @@ module _ (P : OpName → Type 0) where
       each_inserted nat_order (λ base (e : Entry). P e.latest) entries base (record e { retiring = true }) each
       (each base e is)
 
-  pub names_idle_by : (entries : Numbered Entry) (v : OpName) (base : ℕ) (may : Bool) → EntriesNames entries → P v
+  pub names_idle_by : (entries : Numbered Entry) (v : OpName) (base : ℕ) (may : Bool) → EntriesNames entries → E v
       → EntriesNames (idle_by entries v base (get entries base) may).part
-      × AllSent (MessageNames P) (idle_by entries v base (get entries base) may).sent
+      × AllSent (MessageNames P E) (idle_by entries v base (get entries base) may).sent
   names_idle_by entries v base true each name =
       (names_retiring entries base (get entries base) refl each, (name, tt))
   names_idle_by entries v base false each name = (each, (name, tt))
@@ -414,29 +414,29 @@ module _ (P : OpName → Type 0) where
 
   -- of each copy's version and buffer
   abbrev pub CopiesNames : Numbered CopyState → Type 0
-  CopiesNames copies = EachEntry (λ bank c. P c.version × P c.buffer) copies
+  CopiesNames copies = EachEntry (λ bank c. E c.version × P c.buffer) copies
 
   pub names_copies_retired : (copies : Numbered CopyState) (bank : ℕ) (v : OpName) (object : Range)
-      (storage : Option StorageName) → CopiesNames copies → P v → WhereThere (StorageNames P) storage
+      (storage : Option StorageName) → CopiesNames copies → E v → WhereThere (StorageNames P) storage
       → CopiesNames (copies_after_retire copies bank v object storage)
-      × AllSent (MessageNames P) (sent_by_retire v object storage)
+      × AllSent (MessageNames P E) (sent_by_retire v object storage)
   names_copies_retired copies bank v object None each name there = (each, tt)
   names_copies_retired copies bank v object (Some Home) each name there = (each, ((name, tt), tt))
   names_copies_retired copies bank v object (Some (Buffer n)) each name there = (
-    each_inserted nat_order (λ bank (c : CopyState). P c.version × P c.buffer) copies bank (new_copy v object n) each
+    each_inserted nat_order (λ bank (c : CopyState). E c.version × P c.buffer) copies bank (new_copy v object n) each
         (name, there),
     tt,
   )
 
   pub names_copied : (copies : Numbered CopyState) (bank : ℕ) (c : CopyState) (last : Bool) → CopiesNames copies
-      → P c.version × P c.buffer
-      → CopiesNames (copies_after_copy copies bank c last) × AllSent (MessageNames P) (sent_by_copy c last)
+      → E c.version × P c.buffer
+      → CopiesNames (copies_after_copy copies bank c last) × AllSent (MessageNames P E) (sent_by_copy c last)
   names_copied copies bank c true each names = (
-    each_removed nat_order (λ bank (c : CopyState). P c.version × P c.buffer) copies bank each,
+    each_removed nat_order (λ bank (c : CopyState). E c.version × P c.buffer) copies bank each,
     (names, tt),
   )
   names_copied copies bank c false each names = (
-    each_inserted nat_order (λ bank (c : CopyState). P c.version × P c.buffer) copies bank
+    each_inserted nat_order (λ bank (c : CopyState). E c.version × P c.buffer) copies bank
         (record c { moved = c.moved + piece_len c }) each names,
     tt,
   )

@@ -46,7 +46,9 @@ pub fn stages()
 
 /// Each name in the stations, the workers, the tables for renaming and versioning, the copy engines, and the messages
 /// but decodes is of an operand that has been decoded: its task was taken, its place is one of its task's, and its
-/// decode isn't under way.
+/// decode isn't under way. The names of registered versions and copies, of readers in a version's chain, of operands that
+/// are ready, and of ready, link, release, bye, idle, nack, retire and gone messages are of operands whose open and use
+/// aren't under way either.
 pub fn names()
     ensures { NamesLaw }
 {}
