@@ -29,16 +29,13 @@ use Rattle.tss_laws.proofs.OpeningLemmas.{AreOpeningsSound}
 use Rattle.tss_laws.proofs.EnlistedNames.{AreOpeningsSound-after_event, AreOpeningsSound-initial_state}
 use Rattle.tss_laws.proofs.JointLemmas.{joint_settled, joint_open, joint_use, joint_release}
 use Rattle.tss_laws.proofs.AskingLemmas.{Asking, IsJoint-Asking, IsAside, asking_posted_all, decodes_aside, decode_aside, asking_new, asking_nacked, asking_granted, asking_refused, asking_retired}
+use Rattle.tss_laws.proofs.PlainLemmas.{some_unit}
 
 -- ---- all events
 
 -- of a state
 abbrev pub AskingOf : State → Type 0
 AskingOf S = Asking S.versions S.mail
-
-some_unit : (o : Option (Unit {0})) → is_some o ≡ true → o ≡ Some tt
-some_unit None e = absurd (true≢false (sym e))
-some_unit (Some tt) e = refl
 
 module _ (m : Machine) (ts : List Task) (S : State) (s : AreOpeningsSound m ts S) (h : AskingOf S) where
   ask_call : (d : MainState × Option Task) → AskingOf (after_call S d)

@@ -1,6 +1,6 @@
 -- Every name is of a decoded operand, and after open and use of an enlisted one.
 use Rattle.std.proofs.Common.{◌≡◌, true, true≢false, ◌≢◌, ◌⊎◌, inl, inr, List, [], Option, Some, None, refl, sym, ap, ◌∙◌, subst}
-use Rattle.std.specs.FinMap.{get, remove, get-empty}
+use Rattle.std.specs.FinMap.{get, get-empty}
 use Rattle.std.proofs.lemmas.Option.{none-some}
 use Rattle.tss_base.specs.declared.operand.OpName.{OpName}
 use Rattle.tss_base.specs.declared.operand.Mode.{Mode}
@@ -10,10 +10,10 @@ use Rattle.tss_base.specs.declared.operand.Task.{Task}
 use Rattle.tss_base.specs.declared.machine.Machine.{Machine}
 use Rattle.tss_base.specs.declared.event.Event.{Event}
 use Rattle.tss_base.specs.declared.event.Event.TheVariants as event
-use Rattle.tss_base.specs.Names.{name_cmp, Named}
+use Rattle.tss_base.specs.Names.{name_cmp}
 use Rattle.tss_base.specs.Image.{ImageState}
-use Rattle.tss_maps.proofs.Keys.{name_order, decide_key}
-use Rattle.tss_maps.proofs.Changes.{beside_inserted, at_removed, beside_removed, decide_get}
+use Rattle.tss_maps.proofs.Keys.{name_order}
+use Rattle.tss_maps.proofs.Changes.{beside_inserted, at_removed, decide_get}
 use Rattle.tss_protocol.specs.Mail.{OpenContents, Message, Mail, posted, taken}
 use Rattle.tss_protocol.specs.State.{State, Entry, initial_state}
 use Rattle.tss_protocol.specs.Renaming.{live_message, decode_message}
@@ -29,13 +29,7 @@ use Rattle.tss_laws.proofs.GatewayLemmas.{IsFrontSound-after_event, IsFrontSound
 use Rattle.tss_laws.proofs.NameEvents.{StateNames-after_event, StateNames-initial_state, each_name}
 use Rattle.tss_laws.proofs.DecodedNames.{state_weaker, DecodedBy, still_decoded, decoded_now, EnlistedIn}
 use Rattle.tss_laws.proofs.OpeningLemmas.{KeepsOpenings, AreOpeningsSound, openings_main, openings_take, openings_ready, openings_link, openings_bye, openings_start, openings_exec, openings_finish, openings_release, openings_idle, openings_nack, openings_retire, openings_copy, openings_gone, opens_after_event}
-
--- where nothing stood, nothing stands after a removal
-still_none : {X : Type 0} (m : Named X) (k q : OpName) → get m q ≡ None → get (remove m k) q ≡ None
-still_none m k q none = elim (decide_key name_order q k) [
-  | inl same ↦ ap (get (remove m k)) same ∙ at_removed name_order m k
-  | inr other ↦ beside_removed name_order m k q other ∙ none
-]
+use Rattle.tss_laws.proofs.PlainLemmas.{still_none}
 
 -- neither the open nor the use of an operand is under way
 abbrev pub IsPast : State → OpName → Type 0

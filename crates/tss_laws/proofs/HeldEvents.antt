@@ -33,8 +33,9 @@ use Rattle.tss_laws.proofs.SentLemmas.{AllSent, after_ready-all, after_link-all,
 use Rattle.tss_laws.proofs.RunLemmas.{IsKept, law_from}
 use Rattle.tss_laws.proofs.OpeningLemmas.{AreOpeningsSound, no_version_yet}
 use Rattle.tss_laws.proofs.EnlistedNames.{AreOpeningsSound-after_event, AreOpeningsSound-initial_state}
-use Rattle.tss_laws.proofs.JointLemmas.{joint_settled, joint_open, joint_use, joint_release, none_from_test}
+use Rattle.tss_laws.proofs.JointLemmas.{joint_settled, joint_open, joint_use, joint_release}
 use Rattle.tss_laws.proofs.HeldLemmas.{Holding, IsJoint-Holding, held_decoded, held_opened, held_written, held_dies, held_copied, held_moved, held_home, held_gone}
+use Rattle.tss_laws.proofs.PlainLemmas.{none_from_test}
 
 -- ---- messages that hold nothing
 
@@ -86,10 +87,6 @@ decodes_nothing n place (o ∷ os) = (tt, decodes_nothing n (suc place) os)
 -- of a state
 abbrev pub HoldingOf : Machine → State → Type 0
 HoldingOf m S = Holding m.sizes S.places S.copies S.versions S.mail
-
-some_unit : (o : Option (Unit {0})) → is_some o ≡ true → o ≡ Some tt
-some_unit None e = absurd (true≢false (sym e))
-some_unit (Some tt) e = refl
 
 module _ (m : Machine) (ts : List Task) (S : State) (s : AreOpeningsSound m ts S) (h : HoldingOf m S) where
   -- the mail with more messages that hold nothing

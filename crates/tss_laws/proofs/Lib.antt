@@ -1,3 +1,4 @@
+pub mod PlainLemmas
 pub mod SentLemmas
 pub mod FrontLemmas
 pub mod SpawnLemmas
@@ -8,10 +9,12 @@ pub mod GatewayLemmas
 pub mod SlotLemmas
 pub mod BudgetLemmas
 pub mod BackLemmas
+pub mod QueueLemmas
 pub mod StageLemmas
 pub mod StageEvents
 pub mod NameLemmas
 pub mod VersionNames
+pub mod StationNames
 pub mod UnitNames
 pub mod NameEvents
 pub mod DecodedNames

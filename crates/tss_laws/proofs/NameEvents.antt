@@ -26,7 +26,8 @@ use Rattle.tss_laws.specs.Names.{EachEntry, EachOf, StorageNames, MessageNames, 
 use Rattle.tss_laws.proofs.SentLemmas.{AllSent}
 use Rattle.tss_laws.proofs.NameLemmas.{EachSent, each_inserted, each_removed, each_empty, each_posted_all, each_taken, each_no_mail, each_message}
 use Rattle.tss_laws.proofs.VersionNames.{VersionsNames, names_open, names_use, names_release, names_nack, names_retire}
-use Rattle.tss_laws.proofs.UnitNames.{FlightNames, ContentsNames, EntriesNames, HeldNames, CopiesNames, memory_stretch, names_taken, names_after_ready, names_after_link, names_after_bye, names_after_finish, names_started, names_storages_of, names_outputs_zeroed, names_written, names_entry, names_held, names_sent_by_decode, latest_at, names_idle_by, names_buffers_gone, names_contents_gone, names_entries_gone, names_copies_retired, names_copied}
+use Rattle.tss_laws.proofs.StationNames.{FlightNames, names_taken, names_after_ready, names_after_link, names_after_bye, names_after_finish, names_started, names_storages_of}
+use Rattle.tss_laws.proofs.UnitNames.{ContentsNames, EntriesNames, HeldNames, CopiesNames, memory_stretch, names_outputs_zeroed, names_written, names_entry, names_held, names_sent_by_decode, latest_at, names_idle_by, names_buffers_gone, names_contents_gone, names_entries_gone, names_copies_retired, names_copied}
 
 module _ (P E : OpName → Type 0) where
   -- of the names in each worker's storages

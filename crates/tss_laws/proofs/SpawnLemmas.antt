@@ -22,6 +22,7 @@ use Rattle.tss_model.specs.MainStep.{MainState, Flat, Call, ExitCall, Spawn, Bar
 use Rattle.tss_protocol.specs.State.{State}
 use Rattle.tss_protocol.specs.MainEvent.{flat_of, call_next, may_call, main_by, after_call}
 use Rattle.tss_protocol.specs.UnitMachine.{IsEnabled, is_enabled, after_event}
+use Rattle.tss_laws.proofs.PlainLemmas.{none_from_test}
 use Rattle.tss_laws.specs.Tasks.{with_spawned, spawned_by_main}
 use Rattle.tss_laws.proofs.FrontLemmas.{front_of, back_of}
 
@@ -189,10 +190,6 @@ pub record SpawnsOne (m : Machine) (ts us : List Task) (S T : State) : Type 0 wh
 abbrev pub SpawnsAtMostOne : Machine → List Task → List Task → State → State → Type 0
 SpawnsAtMostOne m ts us S T = SpawnsNothing ts us S T ⊎ SpawnsOne m ts us S T
 
-is_none-None : {X : Type 0} (o : Option X) → is_none o ≡ true → o ≡ None
-is_none-None None e = refl
-is_none-None (Some x) e = absurd (cc)
-
 module _ (m : Machine) (ts : List Task) (S : State) where
   spawns_by_call : (r : Result Task ℕ) → spawn_of (spawn_call S.main.registers) S.home S.main.epoch m.limits S.main.spawned ≡ r
       → S.inbox ≡ None
@@ -219,7 +216,7 @@ module _ (m : Machine) (ts : List Task) (S : State) where
   spawns_by (Some ExitCall) may = inl (record { list = refl; front = refl; back = refl })
   spawns_by (Some Spawn) may =
       spawns_by_call (spawn_of (spawn_call S.main.registers) S.home S.main.epoch m.limits S.main.spawned) refl
-      (is_none-None S.inbox may)
+      (none_from_test S.inbox may)
   spawns_by (Some Barrier) may = inl (record { list = refl; front = refl; back = refl })
   spawns_by (Some Print) may = inl (record {
     list = refl;
