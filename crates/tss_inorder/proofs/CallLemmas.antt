@@ -1,6 +1,6 @@
 -- Where main's calls lead.
-use Rattle.std.proofs.Common.{◌≡◌, ℕ, suc, ◌+◌, Bool, false, List, [], ◌∷◌, ◌++◌, length, Option, Some, None, Result, Ok, refl, sym, ap, ◌∙◌, append-nil, append_assoc}
-use Rattle.std.specs.Prelude.{◌==◌, nat_lt, is_none, flat_map}
+use Rattle.std.proofs.Common.{◌≡◌, ℕ, suc, ◌+◌, false, List, [], ◌∷◌, ◌++◌, length, Option, Result, Ok, sym, ap, ◌∙◌, append-nil, append_assoc}
+use Rattle.std.specs.Prelude.{◌==◌, nat_lt, is_none}
 use Rattle.std.proofs.lemmas.Bool.{cond-false}
 use Rattle.tss_base.specs.declared.range.Range.{Range}
 use Rattle.tss_base.specs.declared.operand.Task.{Task}
@@ -12,7 +12,7 @@ use Rattle.tss_model.specs.Registers.{Registers, onward}
 use Rattle.tss_model.specs.Access.{touches, operands_of}
 use Rattle.tss_model.specs.Spawn.{spawn_of, name_objects, objects_of}
 use Rattle.tss_model.specs.TaskRun.{task_end}
-use Rattle.tss_model.specs.MainStep.{Piece, Spawn, Print, Flat, MainState, output_of, spawn_call, spawn_on, print_range, print_call}
+use Rattle.tss_model.specs.MainStep.{Piece, Spawn, Print, MainState, output_of, spawn_call, spawn_on, print_range, print_call}
 use Rattle.tss_model.specs.InOrder.{main_after_task, call_ran}
 use Rattle.tss_inorder.specs.Flat.{called}
 use Rattle.tss_inorder.proofs.FlatLemmas.{main_now, flat_now}

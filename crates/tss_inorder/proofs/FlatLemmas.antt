@@ -1,27 +1,26 @@
 -- One step of the flat machine, by what main's core does.
-use Rattle.std.proofs.Common.{◌≡◌, ℕ, zero, suc, ◌+◌, ◌-◌, ◌<◌, ◌≤◌, Bool, true, false, List, [], nat_le, Option, Some, None, refl, sym, ap, subst, ◌∙◌, arith}
+use Rattle.std.proofs.Common.{◌≡◌, ℕ, suc, ◌+◌, ◌-◌, ◌<◌, Bool, true, false, List, [], nat_le, Option, Some, None, refl, sym, ap, subst, ◌∙◌, arith}
 use Rattle.std.specs.Prelude.{cond}
 use Rattle.std.proofs.lemmas.Bool.{cond-true, cond-false, leb-false}
 use Rattle.tss_base.specs.declared.range.Range.{Range}
 use Rattle.tss_base.specs.declared.ending.Ending.{Ending}
-use Rattle.tss_base.specs.declared.ending.Ending.TheVariants.{MainTrap, Refused}
 use Rattle.tss_base.specs.declared.machine.Limits.{Limits}
 use Rattle.tss_base.specs.Image.{SegmentState, ImageState}
 use Rattle.tss_model.specs.Memory.{Memory, byte_at, code_word, frozen}
-use Rattle.tss_model.specs.Registers.{Registers, register_at, trap_of}
-use Rattle.tss_model.specs.Causes.{fetch_outside, main_touch, main_budget_spent}
+use Rattle.tss_model.specs.Registers.{Registers, register_at}
+use Rattle.tss_model.specs.Causes.{main_budget_spent}
 use Rattle.tss_model.specs.Access.{MainActor}
-use Rattle.tss_model.specs.Core.{Stepped, Executed, Called, Ended, Trapped, Touched, core_step}
+use Rattle.tss_model.specs.Core.{Stepped, Executed, Called, Ended, Trapped, Touched}
 use Rattle.tss_model.specs.TaskRun.{repeated}
-use Rattle.tss_model.specs.MainStep.{Piece, MainState, Flat, output_of, main_ended, main_refused, has_spent, flat_written, main_on, main_core, main_step, call_of, called_by, next_call}
-use Rattle.tss_model.specs.InOrder.{flat_start, flat_by, flat_step, ReferenceState, reference_of, in_order}
+use Rattle.tss_model.specs.MainStep.{Piece, MainState, Flat, output_of, main_ended, main_refused, flat_written, main_on, main_core, main_step, call_of, called_by, next_call}
+use Rattle.tss_model.specs.InOrder.{flat_start, flat_by, flat_step, reference_of, in_order}
 use Rattle.tss_core.specs.declared.stepping.Outcome.{Outcome}
 use Rattle.tss_core.specs.declared.stepping.Outcome.TheVariants.{Call}
 use Rattle.tss_core.specs.Steps.{outcome_of, registers_after, write_of}
 use Rattle.tss_inorder.specs.Endings.{ending_after}
 use Rattle.tss_inorder.specs.declared.flat.FlatMachine.{FlatMachine}
-use Rattle.tss_inorder.specs.Flat.{main_of, flat_of, core_of, KeepsRest, LeadsTo, Advances, called, Calls, RunsTo}
-use Rattle.tss_inorder.proofs.StepLemmas.{repeated-still, repeated-suc, repeated-reached, Completes, core_step-completes}
+use Rattle.tss_inorder.specs.Flat.{main_of, flat_of, core_of, KeepsRest, LeadsTo, Advances, called, RunsTo}
+use Rattle.tss_inorder.proofs.StepLemmas.{repeated-suc, repeated-reached, Completes, core_step-completes}
 
 module _ (code : List SegmentState) (limits : Limits) where
   -- a machine that has ended stays as it is

@@ -1,6 +1,5 @@
 -- The images of the tests: 512 bytes of code, and some bytes that can be written.
 use Rattle.std.proofs.Common.{◌≡◌, ℕ, ◌≤◌, ◌<◌, true, false, List, [], ◌∷◌, length, refl, arith}
-use Rattle.std.specs.Prelude.{AllPairs}
 use Rattle.std.proofs.lemmas.List.Elements.{All-cons, All-nil}
 use Rattle.std.proofs.lemmas.List.Quantifiers.{all_pairs_push}
 use Rattle.tss_base.specs.Image.{SegmentState, IsAccepted, IsSegment, segment_end}

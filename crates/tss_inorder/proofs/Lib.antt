@@ -6,6 +6,7 @@ pub mod ViewLemmas
 pub mod TaskLemmas
 pub mod RunLemmas
 pub mod SpawnPlaces
+pub mod RangeLemmas
 pub mod FlatLemmas
 pub mod CallLemmas
 pub mod OpenLemmas

@@ -1,12 +1,12 @@
 -- The memory of an accepted image lies beside a task's scratch.
-use Rattle.std.proofs.Common.{◌≡◌, ℕ, zero, suc, ◌+◌, ◌<◌, ◌≤◌, Bool, true, false, List, [], ◌∷◌, ◌++◌, length, map, get_or, refl, sym, ap, ◌∙◌, arith}
-use Rattle.std.specs.Prelude.{◌&&◌, not, max, min}
+use Rattle.std.proofs.Common.{◌≡◌, ℕ, suc, ◌<◌, ◌≤◌, Bool, true, List, [], ◌∷◌, length, map, get_or, refl, ◌∙◌, arith}
+use Rattle.std.specs.Prelude.{not, max, min}
 use Rattle.std.specs.List.{list_all}
 use Rattle.std.proofs.lemmas.Bool.{and_from, le-ltb, not_from_false}
 use Rattle.std.proofs.lemmas.List.Folds.{list_all-append, list_all-map}
 use Rattle.tss_base.specs.Range.{end_of, meets}
 use Rattle.tss_base.specs.Image.{SegmentState, ImageState, IsAccepted, segment_end, segments_end}
-use Rattle.tss_model.specs.Memory.{MemoryRange, Memory, loaded, memory_range, segment_range, scratch_range, stack_range}
+use Rattle.tss_model.specs.Memory.{loaded, memory_range, segment_range, scratch_range, stack_range}
 use Rattle.tss_inorder.specs.Sound.{beside_scratch}
 
 -- what passes at each place passes as a whole

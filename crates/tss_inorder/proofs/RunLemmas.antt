@@ -1,6 +1,6 @@
 -- A task's run through its steps, and its outputs before it.
-use Rattle.std.proofs.Common.{◌≡◌, ℕ, suc, ◌+◌, ◌-◌, ◌<◌, ◌≤◌, Bool, true, false, List, ◌∷◌, length, drop, get_or, Option, Some, refl, sym, ap, subst, ◌∙◌, drop-cons, add-one}
-use Rattle.std.specs.Prelude.{not, cond}
+use Rattle.std.proofs.Common.{◌≡◌, ℕ, suc, ◌+◌, ◌-◌, ◌<◌, Bool, true, false, List, length, drop, get_or, Option, Some, refl, sym, ap, subst, ◌∙◌, drop-cons, add-one}
+use Rattle.std.specs.Prelude.{cond}
 use Rattle.std.proofs.lemmas.Option.{slice_get-get_or}
 use Rattle.tss_base.specs.declared.operand.Mode.{Mode}
 use Rattle.tss_base.specs.declared.operand.Mode.TheVariants.{Input, Output, Inout}
@@ -9,7 +9,7 @@ use Rattle.tss_base.specs.declared.ending.Trap.{Trap}
 use Rattle.tss_model.specs.Memory.{MemoryRange, Memory, range_of, zeroed}
 use Rattle.tss_model.specs.Registers.{Registers}
 use Rattle.tss_model.specs.Access.{reads, writes}
-use Rattle.tss_model.specs.TaskRun.{TaskState, TaskEnd, repeated, end_of_task, zeroed_output, zeroed_outputs}
+use Rattle.tss_model.specs.TaskRun.{TaskState, repeated, end_of_task, zeroed_output, zeroed_outputs}
 use Rattle.tss_inorder.specs.declared.views.TaskView.{TaskView}
 use Rattle.tss_inorder.specs.Sound.{is_placed, are_placed}
 use Rattle.tss_inorder.specs.Running.{IsSameTask, task_of, flat_task_step, step_of_view, GoesOn, EndsWith}

@@ -1,8 +1,8 @@
 -- The operands of a spawned task lie where they may: in memory, and in memory that can be written where they are written.
-use Rattle.std.proofs.Common.{◌≡◌, ℕ, zero, suc, ◌+◌, ◌-◌, Bool, true, false, List, [], ◌∷◌, ◌++◌, length, map, take, Option, Some, None, Result, Ok, Err, refl, sym, ap, subst, ◌∙◌}
+use Rattle.std.proofs.Common.{◌≡◌, ℕ, suc, ◌-◌, Bool, true, false, List, [], ◌∷◌, ◌++◌, length, take, Option, Some, None, Result, Ok, Err, refl, sym, ap, subst, ◌∙◌}
 use Rattle.std.specs.Prelude.{◌&&◌, ◌==◌, nat_lt, nat_le, not, cond, is_some, filter, replicate}
 use Rattle.std.specs.List.{list_any, list_all}
-use Rattle.std.proofs.lemmas.Bool.{and_parts, and_from, both_ways, eqb-true, not_from_false, not_from_true, not-true, not-false, cases_Bool}
+use Rattle.std.proofs.lemmas.Bool.{and_parts, and_from, both_ways, eqb-true, not_from_false, not-false}
 use Rattle.std.proofs.lemmas.List.Folds.{list_all-append, list_all-map}
 use Rattle.tss_base.specs.declared.range.Range.{Range}
 use Rattle.tss_base.specs.declared.operand.Mode.{Mode}
@@ -13,7 +13,7 @@ use Rattle.tss_base.specs.declared.machine.Limits.{Limits}
 use Rattle.tss_model.specs.Memory.{MemoryRange, Memory, range_of}
 use Rattle.tss_model.specs.Access.{writes, operands_of, touches}
 use Rattle.tss_model.specs.Causes.{too_many_operands, list_place, main_touch, bad_length, bad_base, object_outside, overlap, epoch_full, too_many_tasks}
-use Rattle.tss_model.specs.Spawn.{SpawnCall, Entry, same_range, name_object, name_objects, objects_of, is_bad_length, is_outside, overlaps, operand_checked, mode_checked, mode_of, entry_checked, after_first, with_rest, entries_checked, entries_at, is_input, is_output, merged_mode, merged_on, merged_operands, no_operand, seven, task_of, task_checked, is_misplaced, list_range, spawn_of}
+use Rattle.tss_model.specs.Spawn.{SpawnCall, Entry, same_range, name_object, name_objects, objects_of, is_bad_length, is_outside, overlaps, operand_checked, mode_checked, mode_of, entry_checked, after_first, with_rest, entries_checked, entries_at, is_input, is_output, merged_mode, merged_on, merged_operands, no_operand, task_of, task_checked, is_misplaced, list_range, spawn_of}
 use Rattle.tss_inorder.specs.Sound.{is_placed, are_placed}
 use Rattle.tss_inorder.proofs.PlaceLemmas.{placed_in}
 

@@ -1,5 +1,5 @@
 -- A step that is repeated, and the instructions that a core's step completes.
-use Rattle.std.proofs.Common.{◌≡◌, ℕ, zero, suc, ◌+◌, ◌%◌, Bool, true, false, List, Option, Some, None, refl, ap, ◌∙◌}
+use Rattle.std.proofs.Common.{◌≡◌, ℕ, zero, suc, ◌+◌, ◌%◌, Bool, true, false, Option, Some, None, refl, ap, ◌∙◌}
 use Rattle.std.specs.Prelude.{cond, ◌==◌, slice_set}
 use Rattle.tss_isa.specs.declared.instr.Instr.{Instr}
 use Rattle.tss_isa.specs.declared.instr.Instr.TheVariants.{Lui, Auipc, Jal, Jalr, Branch, Load, Store, OpImm, Op, Fence, Ecall, Ebreak}
@@ -7,9 +7,9 @@ use Rattle.tss_isa.specs.declared.instr.LoadKind.{LoadKind}
 use Rattle.tss_isa.specs.declared.instr.StoreKind.{StoreKind}
 use Rattle.tss_isa.specs.InstrTable.{instr_of}
 use Rattle.tss_model.specs.Causes.{jump_misaligned, load_misaligned, store_misaligned}
-use Rattle.tss_model.specs.Registers.{Registers, register_at, with_register, next_pc, completed, onward, end_pc, trap_of}
+use Rattle.tss_model.specs.Registers.{Registers, register_at, with_register, next_pc, completed, end_pc, trap_of}
 use Rattle.tss_model.specs.Access.{Actor, Loads, Stores, Access, Granted, Denied, Touch, access_of}
-use Rattle.tss_model.specs.Core.{Write, Stepped, Executed, Called, Ended, Trapped, Touched, result_in, jump_to, branch_if, load_on, load_from, load_range, load_width, loaded_value, store_on, store_to, store_range, store_width, stored_value, execute, execute_word, execute_fetched, core_step, moved, even, passes, op_result, op_of}
+use Rattle.tss_model.specs.Core.{Write, Stepped, Executed, Called, Ended, Trapped, Touched, result_in, jump_to, branch_if, load_on, load_from, load_range, load_width, loaded_value, store_on, store_to, store_range, store_width, stored_value, execute, execute_word, execute_fetched, core_step, passes}
 use Rattle.tss_model.specs.TaskRun.{repeated}
 
 -- a step that leaves things as they are leaves them so however often it is done

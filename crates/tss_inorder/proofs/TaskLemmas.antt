@@ -1,10 +1,9 @@
 -- One step of a task by what its core does, and a task to its end.
-use Rattle.std.proofs.Common.{◌≡◌, ℕ, zero, suc, ◌+◌, ◌-◌, ◌<◌, ◌≤◌, Bool, true, false, List, nat_le, Option, Some, None, refl, sym, ap, subst, ◌∙◌, arith}
-use Rattle.std.specs.Prelude.{◌||◌, ◌==◌, cond, is_some}
+use Rattle.std.proofs.Common.{◌≡◌, ℕ, suc, ◌+◌, ◌-◌, ◌<◌, true, false, List, nat_le, Option, Some, None, refl, sym, ap, subst, ◌∙◌, arith}
+use Rattle.std.specs.Prelude.{◌==◌, cond}
 use Rattle.std.proofs.lemmas.Bool.{cond-true, cond-false, leb-false}
 use Rattle.tss_base.specs.declared.operand.Operand.{Operand}
 use Rattle.tss_base.specs.declared.operand.Task.{Task}
-use Rattle.tss_base.specs.declared.ending.Trap.{Trap}
 use Rattle.tss_base.specs.declared.machine.Limits.{Limits}
 use Rattle.tss_base.specs.Image.{SegmentState}
 use Rattle.tss_model.specs.Memory.{MemoryRange, Memory, scratch_range, covers, zeros, byte_at, list_put, code_word}
@@ -12,7 +11,7 @@ use Rattle.tss_model.specs.Registers.{Registers, register_at, task_registers, tr
 use Rattle.tss_model.specs.Causes.{call_in_task, budget_spent}
 use Rattle.tss_model.specs.Access.{TaskActor, operands_of}
 use Rattle.tss_model.specs.Core.{Write, Stepped, Executed, Called, Ended, Trapped, Touched, core_step}
-use Rattle.tss_model.specs.TaskRun.{TaskState, TaskEnd, repeated, is_over, task_step, task_byte, task_write, task_on, task_trapped, memory_write, zeroed_outputs, end_of_task, task_end}
+use Rattle.tss_model.specs.TaskRun.{TaskState, TaskEnd, repeated, is_over, task_step, task_byte, task_on, task_trapped, memory_write, zeroed_outputs, end_of_task, task_end}
 use Rattle.tss_core.specs.declared.stepping.Outcome.{Outcome}
 use Rattle.tss_core.specs.Steps.{outcome_of, registers_after, write_of}
 use Rattle.tss_inorder.specs.Seen.{scratch_after, memory_after}

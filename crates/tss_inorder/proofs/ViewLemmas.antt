@@ -1,10 +1,9 @@
 -- What main and a task read, and what they see after a write.
-use Rattle.std.proofs.Common.{◌≡◌, ℕ, zero, suc, ◌+◌, ◌-◌, ◌<◌, ◌≤◌, ◌⊎◌, inl, inr, Bool, true, false, List, length, nat_le, nat_lt, Option, Some, None, Result, Ok, Err, refl, sym, ap, subst, ◌∙◌, arith}
+use Rattle.std.proofs.Common.{◌≡◌, ℕ, zero, suc, ◌+◌, ◌-◌, ◌<◌, ◌≤◌, ◌⊎◌, inl, inr, Bool, true, false, List, length, nat_le, nat_lt, Option, Some, Ok, refl, sym, ap, subst, ◌∙◌, arith}
 use Rattle.std.specs.Prelude.{◌&&◌, ◌||◌, cond, slice_index, IsTrue}
 use Rattle.std.specs.List.{list_any}
 use Rattle.std.specs.Int.{bytes_low_first}
-use Rattle.std.proofs.lemmas.Bool.{and_parts, and_from, both_ways, cases_Bool, cond-true, cond-false, le-leb, lt-ltb, leb-true, ltb-true}
-use Rattle.std.proofs.lemmas.Bool.Decides.{nat_tests}
+use Rattle.std.proofs.lemmas.Bool.{and_parts, and_from, both_ways, cases_Bool, cond-true, cond-false, le-leb, lt-ltb, leb-true}
 use Rattle.tss_base.specs.declared.range.Range.{Range}
 use Rattle.tss_base.specs.declared.operand.Operand.{Operand}
 use Rattle.tss_base.specs.Range.{end_of, contains}
@@ -12,7 +11,7 @@ use Rattle.tss_base.specs.Image.{SegmentState}
 use Rattle.tss_model.specs.Memory.{MemoryRange, Memory, range_of, scratch_range, covers, byte_at, put_bytes, list_put, number_at}
 use Rattle.tss_model.specs.Access.{Purpose, Loads, Stores, Access, Granted, Denied, main_access, task_access, writes, is_fixed}
 use Rattle.tss_model.specs.Core.{Write, low_bytes}
-use Rattle.tss_core.specs.Views.{IsAfter, is_width, byte_after, answer_on, load_answer, store_answer, write_on, stored}
+use Rattle.tss_core.specs.Views.{IsAfter, is_width, byte_after, answer_on, load_answer, write_on, stored}
 use Rattle.tss_inorder.specs.Sound.{beside_scratch}
 use Rattle.tss_inorder.specs.Seen.{main_sight, task_sees, task_sight, scratch_after, memory_after}
 use Rattle.tss_inorder.proofs.ByteLemmas.{place_of, byte_after-inside, byte_after-outside, list_put-inside, list_put-outside, put_bytes-byte, number_at-same}

@@ -7,7 +7,7 @@ use Rattle.tss_model.specs.Memory.{MemoryRange, Memory, byte_at}
 use Rattle.tss_model.specs.Registers.{Registers, register_at, trap_of}
 use Rattle.tss_model.specs.Causes.{call_in_task}
 use Rattle.tss_model.specs.Access.{TaskActor}
-use Rattle.tss_model.specs.TaskRun.{TaskState, TaskEnd, repeated, task_step, memory_write, end_of_task}
+use Rattle.tss_model.specs.TaskRun.{TaskState, repeated, task_step, memory_write, end_of_task}
 use Rattle.tss_core.specs.declared.stepping.Outcome.{Outcome}
 use Rattle.tss_core.specs.declared.stepping.Outcome.TheVariants.{Next, Call, Ended, Trapped, Touched}
 use Rattle.tss_inorder.specs.declared.views.TaskView.{TaskView}

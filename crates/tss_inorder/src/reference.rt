@@ -1,5 +1,6 @@
 // The execution in program order.
 ghost use Rattle.std.specs.Prelude.{◌≡◌, ◌≤◌, IfOk};
+ghost use Rattle.tss_model.specs.Memory.{loaded};
 ghost use Rattle.tss_model.specs.InOrder.{in_order};
 
 use crate::flat::FlatMachine;
@@ -63,7 +64,9 @@ impl Reference {
 /// an epoch may name, the bytes that may be printed, and the scratch of one task.
 pub fn run_in_order(alloc: Global, image: &Image, limits: &Limits) -> Result<Reference, NoMemory>
     requires { limits.now.max_operands ≤ 7 }
-    ensures { IfOk result (λ r. r ≡ in_order image.now limits.now) }
+    ensures exact { IfOk result (λ r. r ≡ in_order image.now limits.now) }
+    // Its memory has the ranges of the image's.
+    ensures ranges { IfOk result (λ r. r.memory.ranges ≡ (loaded image.now).ranges) }
 {
     let mut machine = FlatMachine::open(alloc, image, limits)?;
     let ending = machine.run();

@@ -10,3 +10,4 @@ pub mod Openings
 pub mod Tables
 pub mod Asking
 pub mod Held
+pub mod MainInOrder

@@ -10,6 +10,7 @@ ghost use Rattle.tss_laws.specs.Openings.{OpeningsLaw};
 ghost use Rattle.tss_laws.specs.Tables.{TablesLaw};
 ghost use Rattle.tss_laws.specs.Asking.{AskingLaw};
 ghost use Rattle.tss_laws.specs.Held.{HeldPlacesLaw};
+ghost use Rattle.tss_laws.specs.MainInOrder.{MainInOrderLaw, MainCutOffLaw, MainStoresLaw};
 
 /// Spawned tasks are numbered from 1 in their order, at most as many as there may be, and each with at most as many
 /// operands as it may have. The inbox has none but the last of them. A task in flight stands under its number and was
@@ -75,4 +76,17 @@ pub fn asking()
 /// object.
 pub fn held_places()
     ensures { HeldPlacesLaw }
+{}
+
+/// One event of main. Where main's registers, number of spawned tasks, epoch, pieces and ending are those of program
+/// order after as many steps of main, and home has its bytes wherever main may load, the first holds again after the
+/// event, or the task that it spawned traps in program order. A task that went to the inbox is the one that program
+/// order starts there. Home still agrees with program order at each address where it did, but for the objects of that
+/// task, which main may not load from then on; so a barrier, after which main may load more, adds nothing to that. Once a
+/// task that main has spawned traps, program order ends with it, and what main has printed with fewer tasks spawned stays
+/// its output. Whatever went before, the event changes home only at addresses that main may load.
+pub fn main_event()
+    ensures in_order { MainInOrderLaw }
+    ensures cut_off { MainCutOffLaw }
+    ensures stores { MainStoresLaw }
 {}

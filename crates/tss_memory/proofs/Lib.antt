@@ -1,9 +1,10 @@
-mod RangeLemmas
+pub mod RangeLemmas
 mod PlaceLemmas
 mod EntryLemmas
 mod PartLemmas
 mod WriteLemmas
 mod ReadLemmas
 mod LoadLemmas
+mod LoadingLemmas
 mod SegmentLemmas
 mod StripedLemmas

@@ -1,13 +1,13 @@
 -- What holds of each range of memory, by its place, and that a list has nothing that passes a test.
 use Rattle.std.proofs.Common.{◌≡◌, ℕ, ◌<◌, ◌≤◌, Bool, true, false, inl, inr, Option, Some, None, List, length, refl, sym, subst, ◌∙◌, arith, nat_le}
-use Rattle.std.specs.Prelude.{IsSome, IsSomeAnd, slice_get, find, option_map}
+use Rattle.std.specs.Prelude.{IsSome, IsSomeAnd, IsTrue, slice_get, find, option_map}
 use Rattle.std.proofs.lemmas.Option.{slice_get_within, slice_get_past, get_or_from_slice_get, same_Some, none-some}
 use Rattle.std.proofs.lemmas.Bool.{and_parts, leb-true, lt-leb, and_left, and_right, le-leb, leb-false, and_from, and_cases, both_ways, cases_lt}
 use Rattle.tss_base.specs.declared.range.Range.{Range}
 use Rattle.tss_base.specs.Range.{end_of, contains}
-use Rattle.tss_maps.proofs.Places.{find_first, find_there}
+use Rattle.tss_maps.proofs.Places.{find_first, find_nowhere, find_there}
 use Rattle.tss_model.specs.Memory.{MemoryRange, range_of}
-use Rattle.tss_memory.specs.Ranges.{AreRanges, CanRead, IsPlaced, memory_end}
+use Rattle.tss_memory.specs.Ranges.{AreRanges, CanRead, IsInside, IsPlaced, memory_end}
 
 -- what a test of an option says
 pub some_and : {A : Type 0} (o : Option A) (P : A → Type 0) → IsSomeAnd o P → (x : A) × (o ≡ Some x) × P x
@@ -86,3 +86,17 @@ module _ (ranges : List MemoryRange) (are : AreRanges ranges) where
             omega arith
         | inr none ↦ omega arith
       ]
+
+-- an option that isn't none has an image
+mapped_some : {A B : Type 0} (f : A → B) (o : Option A) → (o ≡ None → ⊥) → IsSome (option_map f o)
+mapped_some f (Some x) h = refl
+mapped_some f None h = absurd (h refl)
+
+-- what lies in the range of memory at a place can be read
+pub readable_inside : (ranges : List MemoryRange) (i : ℕ) (r : Range) → IsInside ranges i r →
+    CanRead ranges r.base r.len
+readable_inside ranges i r inside some =
+    let there = some_and (slice_get ranges i) (λ m. IsTrue (contains m.range r)) inside in
+    mapped_some (λ m. m.writable) (find (λ m. contains m.range r) ranges)
+    (λ none. both_ways (contains (there.0).range r)
+    (find_nowhere (λ m. contains m.range r) ranges none i there.0 there.1) there.2)

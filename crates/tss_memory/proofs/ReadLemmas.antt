@@ -1,14 +1,14 @@
 -- Reads in one block are reads in the memory that the blocks are.
 use Rattle.std.proofs.Common.{◌≡◌, ℕ, zero, suc, ◌+◌, ◌-◌, ◌*◌, ◌<◌, Option, Some, List, length, get_or, refl, sym, ap, subst, ◌∙◌, arith, add-zero, zero-add, true}
-use Rattle.std.specs.Prelude.{slice_get, slice_index, IsTrue, IsSomeAnd, option_map, unwrap_or}
+use Rattle.std.specs.Prelude.{slice_get, slice_index, IsTrue, IsSomeAnd, unwrap_or}
 use Rattle.std.proofs.lemmas.List.{same_lists, get_or_default}
 use Rattle.std.proofs.lemmas.List.FromFn.{length-map-range_with_len, get_or-map-range_with_len}
-use Rattle.std.proofs.lemmas.Option.{unwrap_or-slice_get, get_or_from_slice_get, slice_get-map, same_Some}
+use Rattle.std.proofs.lemmas.Option.{unwrap_or-slice_get, get_or_from_slice_get, slice_get-map}
 use Rattle.tss_base.specs.declared.range.Range.{Range}
 use Rattle.tss_base.specs.Range.{contains}
 use Rattle.tss_model.specs.Memory.{MemoryRange, byte_at, bytes_of, number_at}
 use Rattle.tss_memory.specs.declared.found.Found.{Found}
-use Rattle.tss_memory.specs.Ranges.{IsFound}
+use Rattle.tss_memory.specs.Ranges.{IsFound, IsInside}
 use Rattle.tss_memory.specs.Blocks.{BlockState, AreBlocks, IsInBlock, block_range, memory_of, memory_range_of, block_part, ranges_in}
 use Rattle.tss_memory.proofs.RangeLemmas.{some_and, some_mapped, contains_parts}
 use Rattle.tss_memory.proofs.PartLemmas.{length-part_of, get_or-part_of}
@@ -27,16 +27,28 @@ number_at-same f g a b (suc n) same =
     later : (x k : ℕ) → suc x + k ≡ x + suc k
     later x k = omega arith
 
--- where a range of memory was found there is a block, in which the range lies
+-- where a range lies in the range of memory at a place there is a block, in which it lies
+pub placed_in : (blocks : List BlockState) (i : ℕ) (r : Range) → IsInside (ranges_in blocks) i r →
+    (b : BlockState) × (slice_get blocks i ≡ Some b) × (contains (block_range b) r ≡ true)
+placed_in blocks i r inside =
+    let m = some_and (slice_get (ranges_in blocks) i) (λ m. IsTrue (contains m.range r)) inside in
+    let b = some_mapped memory_range_of (slice_get blocks i) m.0
+    (sym (slice_get-map memory_range_of blocks i) ∙ m.1) in
+    (b.0, b.1, ap (λ (x : MemoryRange). contains x.range r) b.2 ∙ m.2)
+
+-- where a range of memory was found the range lies
+inside_found : (ranges : List MemoryRange) (f : Found) (r : Range) → IsFound ranges f r → IsInside ranges f.index r
+inside_found ranges f r found =
+    let m = some_and (slice_get ranges f.index)
+    (λ m. (m.writable ≡ f.writable) × IsTrue (contains m.range r)) found in
+    subst (λ (o : Option MemoryRange). IsSomeAnd o (λ x. IsTrue (contains x.range r))) (sym m.1) m.2.1
+
+-- and there is a block, in which it lies
 pub found_in : (blocks : List BlockState) (f : Found) (r : Range) → IsFound (ranges_in blocks) f r →
     IsInBlock blocks r f.index
 found_in blocks f r found =
-    let m = some_and (slice_get (ranges_in blocks) f.index)
-    (λ m. (m.writable ≡ f.writable) × IsTrue (contains m.range r)) found in
-    let b = some_mapped memory_range_of (slice_get blocks f.index) m.0
-    (sym (slice_get-map memory_range_of blocks f.index) ∙ m.1) in
-    let held : contains (block_range b.0) r ≡ true = ap (λ (x : MemoryRange). contains x.range r) b.2 ∙ m.2.1 in
-    subst (λ (o : Option BlockState). IsSomeAnd o (λ x. IsTrue (contains (block_range x) r))) (sym b.1) held
+    let there = placed_in blocks f.index r (inside_found (ranges_in blocks) f r found) in
+    subst (λ (o : Option BlockState). IsSomeAnd o (λ x. IsTrue (contains (block_range x) r))) (sym there.1) there.2
 
 -- the bytes of a range in a block
 module _ (blocks : List BlockState) (are : AreBlocks blocks) (i : ℕ) (b : BlockState)
@@ -56,7 +68,7 @@ module _ (blocks : List BlockState) (are : AreBlocks blocks) (i : ℕ) (b : Bloc
       let parts = contains_parts (block_range b) r held in
       length-part_of b.bytes (r.base - b.base) r.len (omega arith)
 
-  bytes_of-part : block_part b r ≡ bytes_of (memory_of blocks) r
+  pub bytes_of-part : block_part b r ≡ bytes_of (memory_of blocks) r
   bytes_of-part =
       same_lists (block_part b r) (bytes_of (memory_of blocks) r)
       (length-part ∙ sym (length-map-range_with_len (byte_at (memory_of blocks)) r.base r.len))

@@ -1,11 +1,11 @@
 -- Segments side by side, as the tests build them, make an accepted image.
-use Rattle.std.proofs.Common.{◌≡◌, ℕ, ◌+◌, ◌<◌, ◌≤◌, true, List, [], ◌∷◌, ◌++◌, length, refl, ◌∙◌, arith, length-append}
+use Rattle.std.proofs.Common.{◌≡◌, ℕ, ◌+◌, ◌<◌, ◌≤◌, true, List, [], ◌∷◌, ◌++◌, length, ◌∙◌, arith, length-append}
 use Rattle.std.specs.Prelude.{sum_by, All, AllPairs, Any}
 use Rattle.std.proofs.lemmas.List.{get_or_append_left}
-use Rattle.std.proofs.lemmas.List.Elements.{All-get_or, All-nil, All-push, All-weaker}
+use Rattle.std.proofs.lemmas.List.Elements.{All-get_or, All-push, All-weaker}
 use Rattle.std.proofs.lemmas.List.Quantifiers.{all_pairs_push, Any-push}
 use Rattle.std.proofs.lemmas.List.Sums.{sum_by-append}
-use Rattle.tss_base.specs.Image.{SegmentState, IsAccepted, IsSegment, HasCodeAt, segment_end}
+use Rattle.tss_base.specs.Image.{SegmentState, IsSegment, HasCodeAt, segment_end}
 
 -- segments side by side from 0x10000 up to an address
 pub record AreStriped (segments : List SegmentState) (at : ℕ) : Type 0 where

@@ -38,3 +38,7 @@ CanWrite ranges at n = 0 < n → range_of ranges (record { base = at; len = n })
 -- what was found is the place of a range of memory that contains r, and whether that can be written
 abbrev pub IsFound : List MemoryRange → Found → Range → Type 0
 IsFound ranges f r = IsSomeAnd (slice_get ranges f.index) (λ m. (m.writable ≡ f.writable) × IsTrue (contains m.range r))
+
+-- r lies in the range of memory at this place
+abbrev pub IsInside : List MemoryRange → ℕ → Range → Type 0
+IsInside ranges i r = IsSomeAnd (slice_get ranges i) (λ m. IsTrue (contains m.range r))

@@ -138,7 +138,7 @@ pub(crate) fn blocks_of(alloc: Global, image: &Image) -> Result<Vec<Block>, Allo
 }
 
 /// Puts a zero in each place.
-fn clear(bytes: &mut [u8])
+pub(crate) fn clear(bytes: &mut [u8])
     ensures { bytes.new ≡ zeros (length bytes.old) }
 {
     bytes.fill(0);

@@ -7,6 +7,7 @@
 mod block;
 mod code;
 mod found;
+mod loading;
 mod numbers;
 mod placing;
 mod space;
@@ -15,4 +16,5 @@ mod tests;
 
 pub use code::Code;
 pub use found::Found;
+pub use loading::copy_as_loaded;
 pub use space::Space;

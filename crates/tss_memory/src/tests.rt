@@ -1,5 +1,8 @@
 // What no clause says: that loading succeeds, also at the largest sizes; and the calls on values from outside.
-use crate::Space;
+ghost use Rattle.std.specs.Prelude.{◌≡◌};
+ghost use Rattle.tss_model.specs.Memory.{loaded};
+
+use crate::{Space, copy_as_loaded};
 use std::alloc::Global;
 use std::process::Abort;
 use std::test::Fail;
@@ -27,10 +30,26 @@ fn striped(rt: &impl Abort, alloc: Global, count: u8, len: u32) -> Result<Image,
 }
 
 /// Writes the byte at an address, which can be written, and reads it again.
-fn write_and_read(rt: &impl Abort, space: &mut Space, at: u32) {
+fn write_and_read(rt: &impl Abort, space: &mut Space, at: u32)
+    ensures { space.new.ranges ≡ space.old.ranges }
+{
     assert_eq!(rt; space.range_of(&Range { base: at, len: 1 }), Some(true));
     space.set(at, 0xA5);
     assert_eq!(rt; space.byte(at), 0xA5);
+}
+
+/// Reads the four bytes from an address on as they were loaded.
+fn is_loaded(rt: &impl Abort, image: &Image, space: &Space, at: u32, expected: [u8; 4])
+    requires { space.now.ranges ≡ (loaded image.now).ranges }
+{
+    let r = Range { base: at, len: 4 };
+    let found = space.find(&r, 0);
+    assert!(rt; found.is_some());
+    if let Some(found) = found {
+        let mut bytes = [0xEE; 4];
+        copy_as_loaded(image, found.index, &r, &mut bytes);
+        assert_eq!(rt; bytes, expected);
+    }
 }
 
 #[test]
@@ -112,5 +131,18 @@ fn numbers_have_their_lowest_byte_first(rt: HostRuntime) -> Result<(), Fail> {
     assert_eq!(rt; bytes, [1, 1, 0x0A, 0x0B, 0x0C, 0x0D, 1, 1]);
     space.copy_in(FIRST, &[7; 8]);
     assert_eq!(rt; space.number(found, &word), 0x07070707);
+    Ok(())
+}
+
+#[test]
+fn overwritten_bytes_are_told_as_loaded(rt: HostRuntime) -> Result<(), Fail> {
+    let image = striped(&rt, rt.alloc(), 2, 6)?;
+    let (mut space, _code) = Space::load(rt.alloc(), &image)?;
+    write_and_read(&rt, &mut space, FIRST + 2);
+    write_and_read(&rt, &mut space, FIRST + 11);
+    write_and_read(&rt, &mut space, 0xFFFEFFFF);
+    is_loaded(&rt, &image, &space, FIRST + 2, [1; 4]);
+    is_loaded(&rt, &image, &space, FIRST + 8, [2; 4]);
+    is_loaded(&rt, &image, &space, 0xFFFEFFFC, [0; 4]);
     Ok(())
 }

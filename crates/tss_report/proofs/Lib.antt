@@ -1,1 +1,6 @@
 pub mod PieceLemmas
+mod SizeLemmas
+mod PeakLemmas
+mod RowLemmas
+mod ImageLemmas
+mod MachineLemmas

@@ -114,3 +114,58 @@ pub finished_part : (o p r : Option (List ℕ)) (kept keeps xs : List ℕ) → C
 finished_part o p r kept keeps xs first then =
     subst (λ l. PutsPrefix o r (kept ++ l)) (append-nil xs)
     (prefix_then o p r kept keeps xs [] first (subst (PutsPrefix p r) (sym (append-nil keeps)) then))
+
+-- ---- a text of which a part is left
+
+-- what came before what is left was put
+pub record HasPut (old : Option (List ℕ)) (kept : List ℕ) (new : Option (List ℕ)) (keeps : List ℕ)
+    (before now : ℕ) (text left : List ℕ) : Type 0 where
+  pub done : List ℕ
+  pub parts : text ≡ done ++ left
+  pub put : Carries old kept new keeps done
+  pub never_falls : before ≤ now
+
+-- nothing was put, and all is left
+pub none_put : (o : Option (List ℕ)) (kept : List ℕ) (before : ℕ) (text left : List ℕ) → text ≡ left →
+    HasPut o kept o kept before before text left
+none_put o kept before text left e =
+    record { done = []; parts = e; put = carries_none o kept; never_falls = omega arith }
+
+module _ {o p : Option (List ℕ)} {kept keeps : List ℕ} {before mid : ℕ} {text left : List ℕ}
+    (has : HasPut o kept p keeps before mid text left) where
+  -- one part more was put
+  pub more_put : {r : Option (List ℕ)} {rest : List ℕ} {now : ℕ} (part more : List ℕ) → left ≡ part ++ more →
+      Carries p keeps r rest part → mid ≤ now → HasPut o kept r rest before now text more
+  more_put {r = r} {rest = rest} part more e then le = record {
+    done = has.done ++ part;
+    parts = has.parts ∙ ap (λ l. has.done ++ l) e ∙ sym (append_assoc has.done part more);
+    put = carries_then o p r kept keeps rest has.done part has.put then;
+    never_falls = risen_through has.never_falls le;
+  }
+
+  -- one part more failed, so the whole did
+  pub failed_put : {r : Option (List ℕ)} {rest : List ℕ} {now : ℕ} {result : Result (Unit {0}) Failed} →
+      (part more : List ℕ) →
+      left ≡ part ++ more → PutsPrefix p r (keeps ++ part) → Rose mid now → mid ≤ now → IsErr result →
+      Emits o kept r rest before now result text
+  failed_put {r = r} {rest = rest} {now = now} {result = result} part more e err cause grows failed =
+      fails_after o p r kept keeps rest before mid now result text has.done part more
+      (has.parts ∙ ap (λ l. has.done ++ l) e) has.put has.never_falls err cause grows failed
+
+  -- the last part was put, or failed
+  pub last_put : {r : Option (List ℕ)} {rest : List ℕ} {now : ℕ} {result : Result (Unit {0}) Failed} →
+      Emits p keeps r rest mid now result left → Emits o kept r rest before now result text
+  last_put {r = r} {rest = rest} {now = now} {result = result} then =
+      same_text (sym has.parts)
+      (emits_after o p r kept keeps rest before mid now result has.done left has.put has.never_falls then)
+
+  -- nothing is left
+  pub all_put : left ≡ [] → Emits o kept p keeps before mid (Ok tt) text
+  all_put e =
+      let whole : text ≡ has.done = has.parts ∙ ap (λ l. has.done ++ l) e ∙ append-nil has.done in
+      record {
+        ok = subst (Carries o kept p keeps) (sym whole) has.put;
+        err = tt;
+        cause = tt;
+        never_falls = has.never_falls;
+      }

@@ -1,15 +1,15 @@
 -- The report of a run: how it ended, its tasks, its output, and the rows of memory that have changed.
-use Rattle.std.specs.Prelude.{ℕ, List, [], ◌∷◌, ◌++◌, length, codes}
+use Rattle.std.specs.Prelude.{ℕ, List, [], ◌∷◌, ◌++◌, length, codes, Option, Some, None}
 use Rattle.std.specs.Fmt.{decimal}
-use Rattle.std.specs.Int.{w32, to_be_bytes}
+use Rattle.tss_report.specs.Digits.{hex_word}
 use Rattle.tss_report.specs.Pieces.{joined}
-use Rattle.hex.specs.Hex.{encode_lower}
+use Rattle.tss_report.specs.Rows.{changed_text}
+use Rattle.tss_report.specs.Peaks.{peaks_text}
 use Rattle.tss_base.specs.declared.ending.Ending.{Ending}
 use Rattle.tss_base.specs.declared.ending.Ending.TheVariants.{Exit, MainTrap, TaskTrap, Refused}
-
--- eight lower-case hexadecimal digits
-abbrev pub hex_word : ℕ → List ℕ
-hex_word n = encode_lower (to_be_bytes w32 n)
+use Rattle.tss_base.specs.declared.event.Counts.{Counts}
+use Rattle.tss_base.specs.declared.event.Peaks.{Peaks}
+use Rattle.tss_model.specs.Memory.{Memory}
 
 -- the lines that say how a run ended, how many tasks were spawned, and what was printed, by their parts
 abbrev pub ending_text : Ending → List ℕ
@@ -30,3 +30,21 @@ output_text bytes = joined (codes "output " ∷ decimal (length bytes) ∷ codes
 -- the part of a report that says ending, tasks and output
 abbrev pub summary_text : Ending → ℕ → List ℕ → List ℕ
 summary_text ending tasks output = ending_text ending ++ (tasks_text tasks ++ output_text output)
+
+-- the rows of memory that have changed: none after a task's trap
+abbrev pub memory_text : Ending → Memory → Memory → List ℕ
+memory_text (TaskTrap task t) old new = []
+memory_text (Exit status) old new = changed_text old new
+memory_text (MainTrap t) old new = changed_text old new
+memory_text (Refused number pc) old new = changed_text old new
+
+-- the peaks, where there are any
+abbrev pub told_peaks : Option Peaks → Counts → List ℕ
+told_peaks None size = []
+told_peaks (Some p) size = peaks_text size p
+
+-- the report of a run: the ending, the tasks, the output, the rows by which memory differs from memory as loaded, and
+-- the peaks, each with its size
+abbrev pub report_text : Ending → ℕ → List ℕ → Memory → Memory → Option Peaks → Counts → List ℕ
+report_text ending tasks output old new peaks size =
+    summary_text ending tasks output ++ (memory_text ending old new ++ told_peaks peaks size)

@@ -1,1 +1,1 @@
-pub mod StraightLemmas
+pub mod AnswerLemmas

@@ -1,3 +1,1 @@
-pub mod Straight
 pub mod Answer
-pub mod Lines

@@ -1,8 +1,7 @@
 -- An access that the rule grants to main lies in a range of memory.
-use Rattle.std.proofs.Common.{◌≡◌, ap, sym, ◌∙◌, Some}
+use Rattle.std.proofs.Common.{ap, sym, ◌∙◌}
 use Rattle.std.specs.Prelude.{option_map}
 use Rattle.tss_memory.specs.declared.found.Found.{Found}
-use Rattle.tss_core.specs.Rule.{purpose_of}
 use Rattle.tss_inorder.proofs.GrantLemmas.{main_unplaced, main_stored}
 use Rattle.tss_inorder.proofs.placing.main_place.Goals as goal
 

@@ -1,5 +1,5 @@
 -- An access that the rule grants to a task, and that lies outside its scratch, lies in a range of memory.
-use Rattle.std.proofs.Common.{◌≡◌, ap, sym, ◌∙◌, Some}
+use Rattle.std.proofs.Common.{ap, sym, ◌∙◌}
 use Rattle.std.specs.Prelude.{option_map}
 use Rattle.tss_memory.specs.declared.found.Found.{Found}
 use Rattle.tss_inorder.proofs.GrantLemmas.{task_unplaced, task_stored}

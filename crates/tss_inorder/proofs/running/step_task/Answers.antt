@@ -1,5 +1,5 @@
 -- One step of a task is one of the definition's.
-use Rattle.std.proofs.Common.{◌≡◌, Some, refl, sym, subst, ◌∙◌, arith}
+use Rattle.std.proofs.Common.{Some, refl, sym, subst, ◌∙◌, arith}
 use Rattle.std.proofs.lemmas.Bool.{eq-eqb, ne_eqb, le-leb, lt-leb}
 use Rattle.tss_core.specs.Steps.{step_of}
 use Rattle.tss_inorder.specs.Seen.{task_sight}

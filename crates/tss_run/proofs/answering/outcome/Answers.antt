@@ -1,33 +1,43 @@
--- A file that is too long.
-use Rattle.std.proofs.Common.{◌≡◌, ℕ, ◌<◌, ◌≤◌, List, Option, Some, None, Bool, true, Err, IfSome, length, replicate, refl, sym, ap, ◌∙◌, arith}
-use Rattle.std.specs.Prelude.{nat_lt, if◌then◌else◌}
-use Rattle.std.proofs.lemmas.Bool.Decides.{nat_tests}
-use Rattle.std.proofs.lemmas.List.{length-replicate}
-use Rattle.tss_outside.specs.Outside.{Held}
-use Rattle.tss_elf.specs.Elf.{image_of}
-use Rattle.tss_run.specs.declared.outcome.Outcome.TheVariants.{TooLong}
-use Rattle.tss_run.specs.Answer.{bytes_outcome, image_outcome, image_limit}
+-- The outcome is the first cause in the order of the work, or the run.
+use Rattle.std.proofs.Common.{◌≡◌, Some, Err, IfSome, refl, sym, subst}
+use Rattle.tss_base.specs.declared.machine.Key.TheVariants.{MaxOperands}
+use Rattle.tss_outside.specs.Outside.{Rose}
+use Rattle.tss_report.proofs.PieceLemmas.{rises_since}
+use Rattle.tss_run.specs.declared.outcome.Input.TheVariants as input
+use Rattle.tss_run.specs.Answer.{Names, words_of, image_from, Reads}
+use Rattle.tss_run.proofs.AnswerLemmas.{reads_weaker, answers_err, no_machine, no_image, ran}
 use Rattle.tss_run.proofs.answering.outcome.Goals as goal
 
-below : (m n : ℕ) → m < n → nat_lt m n ≡ true
-below m n h = grind (arith, nat_tests)
+pub returns-in_err-machine-clause-answers : goal.returns-in_err-machine-clause-answers
+returns-in_err-machine-clause-answers g c =
+    let n : Names = record { image = c.in-Some.image.now; machine = c.in-Some.machine.now } in
+    answers_err (words_of c.args.words.now) _ _ c.from_residual.result c.in_err-machine.field-0.0 c.from_residual.ensures.1
+    (no_machine (words_of c.args.words.now) (g.F.Files.held c.args.files.now) _ n (sym c.in-Some.ensures) c.in_err-machine.field-0.0
+    c.in_err-machine.ensures.exact)
 
-long_outcome : (bytes : List ℕ) → image_limit < length bytes → TooLong ≡ bytes_outcome bytes
-long_outcome bytes h =
-    sym (ap (λ b. if b then TooLong else image_outcome bytes (image_of bytes)) (below image_limit (length bytes) h))
+pub returns-in_err-image-clause-answers : goal.returns-in_err-image-clause-answers
+returns-in_err-image-clause-answers g c =
+    let n : Names = record { image = c.in-Some.image.now; machine = c.in-Some.machine.now } in
+    let e = c.in_err-image.field-0.0 in
+    let told = g.F.Files.held c.args.files.now in
+    let start = g.F.Files.read_faults c.args.files.now n.image in
+    let mid = g.F.Files.read_faults c.machine_in.new.files n.image in
+    let end = g.F.Files.read_faults c.image_in.new.files n.image in
+    answers_err (words_of c.args.words.now) _ _ c.from_residual-in_err-image.result e c.from_residual-in_err-image.ensures.1
+    (no_image (words_of c.args.words.now) told _ n (sym c.in-Some.ensures) c.in_ok-machine.machine c.in_ok-machine.ensures.exact.0
+    c.in_ok-machine.ensures.exact.1 c.in_ok-machine.ensures.exact.2 e
+    (reads_weaker image_from input.Image told (Rose mid end) (Rose start end) n.image (Err e)
+    (rises_since start mid end (c.in_ok-machine.ensures.never_falls n.image))
+    (subst (λ t. Reads image_from input.Image t (Rose mid end) n.image (Err e)) c.machine_in.ensures.held c.in_err-image.ensures.exact)))
 
--- there are bytes so long, those that are held where that is told
-long_bytes : (held : Option Held) (name : List ℕ) (n : ℕ) → image_limit < n → IfSome held (λ h. (b : List ℕ) × (h name ≡ Some b) × (n ≤ length b)) → (bytes : List ℕ) × IfSome held (λ h. h name ≡ Some bytes) × (TooLong ≡ bytes_outcome bytes)
-long_bytes None name n long more =
-    let len = length-replicate {A = ℕ} n 0 in
-    (replicate n 0, tt, long_outcome (replicate n 0) (omega (arith, len, long)))
-long_bytes (Some h) name n long more =
-    let len = more.2 in
-    (more.0, more.1, long_outcome more.0 (omega (arith, len, long)))
+pub run_in_order-requires : goal.run_in_order-requires
+run_in_order-requires g c = (c.in_ok-machine.ensures.ok.limits MaxOperands c.in_ok-machine.machine.limits.max_operands refl).1
 
-pub returns-in-Err-TooLong-clause-answers : goal.returns-in-Err-TooLong-clause-answers
-returns-in-Err-TooLong-clause-answers g c =
-    let n = c.in-Err-TooLong.field-0-0 in
-    let is = c.in-Err-TooLong.is ∙ ap Err c.in-Err-TooLong.field-0-is in
-    let found = long_bytes _ c.in-Some.name.now n (c.read.ensures.too_long n is) (c.read.ensures.longer n is) in
-    (c.in-Some.name.now, found.0, found.1, record { named = sym c.in-Some.ensures; is = found.2 })
+pub returns-clause-answers : goal.returns-clause-answers
+returns-clause-answers g c =
+    let n : Names = record { image = c.in-Some.image.now; machine = c.in-Some.machine.now } in
+    let image = c.in_ok-image.ensures.exact in
+    ran (words_of c.args.words.now) (g.F.Files.held c.args.files.now)
+    (λ f. Rose (g.F.Files.read_faults c.args.files.now f) (g.F.Files.read_faults c.image_in.new.files f)) n (sym c.in-Some.ensures) c.in_ok-machine.machine c.in_ok-machine.ensures.exact.0
+    c.in_ok-machine.ensures.exact.1 c.in_ok-machine.ensures.exact.2 c.in_ok-image.image c.in_ok-reference.reference image.0
+    (subst (λ t. IfSome t (λ h. h n.image ≡ Some image.0)) c.machine_in.ensures.held image.1) image.2 c.in_ok-reference.ensures.exact

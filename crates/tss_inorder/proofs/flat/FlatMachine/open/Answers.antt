@@ -1,5 +1,5 @@
 -- What a machine keeps, as it is opened.
-use Rattle.std.proofs.Common.{◌≡◌, ap, ◌∙◌, arith}
+use Rattle.std.proofs.Common.{ap, ◌∙◌, arith}
 use Rattle.tss_model.specs.Memory.{Memory}
 use Rattle.tss_operands.specs.Naming.{EpochState}
 use Rattle.tss_inorder.specs.Sound.{beside_scratch}

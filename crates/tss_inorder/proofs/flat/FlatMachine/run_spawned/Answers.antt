@@ -1,6 +1,5 @@
 -- An accepted spawn, whose task runs at once.
-use Rattle.std.proofs.Common.{◌≡◌, ℕ, Some, None, refl, sym, ap, ◌∙◌}
-use Rattle.tss_base.specs.declared.range.Range.{Range}
+use Rattle.std.proofs.Common.{Some, None, refl, sym, ap, ◌∙◌}
 use Rattle.tss_model.specs.Registers.{Registers}
 use Rattle.tss_model.specs.MainStep.{spawn_call}
 use Rattle.tss_operands.specs.Naming.{EpochState}

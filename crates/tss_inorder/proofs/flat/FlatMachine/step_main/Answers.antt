@@ -1,5 +1,5 @@
 -- One step of main is one of the definition's.
-use Rattle.std.proofs.Common.{◌≡◌, Some, None, refl, sym, ap, ◌∙◌, arith}
+use Rattle.std.proofs.Common.{Some, sym, ◌∙◌, arith}
 use Rattle.std.proofs.lemmas.Bool.{le-leb, lt-leb}
 use Rattle.tss_base.specs.declared.ending.Ending.TheVariants.{Refused}
 use Rattle.tss_inorder.specs.Flat.{flat_of}

@@ -1,0 +1,49 @@
+-- What an event leaves of other objects and other tasks, and scopes of one object with fewer tasks.
+use Rattle.std.proofs.Common.{◌≡◌, ℕ, Some, sym, ap, ◌∙◌, subst}
+use Rattle.std.proofs.lemmas.Option.{same_Some}
+use Rattle.tss_base.specs.declared.range.Range.{Range}
+use Rattle.tss_base.specs.declared.operand.OpName.{OpName}
+use Rattle.tss_base.specs.declared.machine.Machine.{Machine}
+use Rattle.tss_base.specs.declared.event.Event.{Event}
+use Rattle.tss_base.specs.Range.{Covers}
+use Rattle.tss_protocol.specs.State.{State}
+use Rattle.tss_protocol.specs.UnitMachine.{IsEnabled, after_event}
+use Rattle.tss_locality.specs.Extents.{SameOn, object_part, task_part}
+use Rattle.tss_locality.specs.Scopes.{Scope, IsApart, Closed}
+use Rattle.tss_locality.specs.Concerns.{Concerns}
+use Rattle.tss_locality.specs.Objects.{Objects, object_scope, Every}
+use Rattle.tss_locality.proofs.Parts.{same_object, same_task}
+use Rattle.tss_locality.proofs.EachEvent.{ChangesOnly-after_event}
+use Rattle.tss_locality.proofs.FamilyScopes.{closed_family}
+
+module _ (c : Scope) (m : Machine) (S : State) (closed : Closed c S) (e : Event) (on : IsEnabled m S e)
+    (concerns : Concerns c m S e) where
+  -- an object that the event doesn't concern has the same part after it
+  pub same_object-after_event : (operands : OpName → Type 0) (x : Range) → IsApart c operands x →
+      SameOn (object_part operands x) S (after_event m S e)
+  same_object-after_event operands x apart =
+      same_object c operands x S (after_event m S e) apart (ChangesOnly-after_event c m S closed e on concerns)
+
+  -- a task that it doesn't concern has the same part after it
+  pub same_task-after_event : (n : ℕ) → (c.tasks n → ⊥) → SameOn (task_part n) S (after_event m S e)
+  same_task-after_event n other =
+      same_task c n S (after_event m S e) other (ChangesOnly-after_event c m S closed e on concerns)
+
+module _ (f : Objects) (x : Range) (tasks : ℕ → Type 0) where
+  -- the links of an object stay in it whatever the tasks
+  pub closed_tasks : (S : State) → Closed (object_scope f x Every) S → Closed (object_scope f x tasks) S
+  closed_tasks S closed =
+      let c = object_scope f x Every in
+      closed_family (object_scope f x tasks) S (record {
+        of_name = λ o p. (c, record { closed = closed; within = record { names = λ o p. p; objects = λ x p. p } }, p);
+        of_object = λ y p. (c, record { closed = closed; within = record { names = λ o p. p; objects = λ x p. p } }, p);
+      })
+
+  -- another object, with another base and other addresses, is apart from it
+  pub apart_object : (y : Range) → (x.base ≡ y.base → ⊥) → ((a : ℕ) → Covers x a → Covers y a → ⊥) →
+      IsApart (object_scope f x tasks) (λ o. f o ≡ Some y) y
+  apart_object y bases addresses = record {
+    names = λ o in_y in_x. bases (ap (λ (r : Range). r.base) (same_Some x y (sym in_x ∙ in_y)));
+    base = λ z is_x same. bases (ap (λ (r : Range). r.base) (sym is_x) ∙ sym same);
+    addresses = λ a in_y inside. addresses a (subst (λ z. Covers z a) inside.1 inside.2) in_y;
+  }

@@ -1,0 +1,128 @@
+// Files and sinks that fail.
+ghost use Rattle.std.specs.Prelude.{All, IsTrue, take};
+ghost use Rattle.tss_outside.specs.MemFiles.{is_known};
+ghost use Rattle.tss_run.specs.Answer.{words_of};
+
+use super::{description, expect, image, words};
+use crate::answering::tss_main;
+use std::alloc::Global;
+use std::process::Abort;
+use std::test::Fail;
+use tss_outside::{HonestFiles, HonestSink, MemFiles, MemSink, RealFiles};
+
+/// Main exits with 7.
+const EXIT_SEVEN: &str = "130570009308100073000000";
+
+/// Main prints a page of zeros and exits.
+const PAGE: &str =
+    "3705020013050500b715000093850500b708000093884800730000003705000013050500b70800009388180073000000";
+
+/// Whether the files know each word, as the top call asks.
+fn knows_words(files: &MemFiles, words: &[String]) -> bool
+    ensures { IsTrue result → All (λ w. IsTrue (is_known files.now w)) (take 8 (words_of words.now)) }
+{
+    for word in words {
+        if !files.knows(word.as_str()) {
+            return false;
+        }
+    }
+    true
+}
+
+/// Checks the answer where the read of this number fails.
+fn expect_read_fault(rt: &impl Abort, alloc: Global, number: u32, text: &[u8]) -> Result<(), Fail> {
+    let mut files = MemFiles::new(alloc);
+    files.put("inorder", &[])?;
+    files.put("image", image(alloc, EXIT_SEVEN)?.as_slice())?;
+    files.put("machine", description(alloc, "", "")?.as_str().as_bytes())?;
+    files.fail_read(number)?;
+    let texts = words(alloc, &["inorder", "image", "machine"])?;
+    let words = texts.as_slice();
+    let mut out = MemSink::new(alloc, 256)?;
+    let known = knows_words(&files, words);
+    assert!(rt; known);
+    assert_eq!(rt; tss_main(alloc, words, &mut files, &mut out), 7);
+    assert!(rt; out.bytes() == text);
+    Ok(())
+}
+
+#[test]
+fn a_read_that_fails_is_told(rt: HostRuntime) -> Result<(), Fail> {
+    expect_read_fault(&rt, rt.alloc(), 1, b"read machine\n")?;
+    expect_read_fault(&rt, rt.alloc(), 2, b"read image\n")
+}
+
+#[test]
+fn files_of_one_byte_too_many_are_long(rt: HostRuntime) -> Result<(), Fail> {
+    let alloc = rt.alloc();
+    let long_machine = vec![in alloc; 0u8; 65_537]?;
+    let image = image(alloc, EXIT_SEVEN)?;
+    expect(&rt, alloc, &long_machine, &image, 7, b"long machine\n")?;
+    let machine = description(alloc, "", "")?;
+    let long_image = vec![in alloc; 0u8; 33_554_433]?;
+    expect(
+        &rt,
+        alloc,
+        machine.as_str().as_bytes(),
+        &long_image,
+        7,
+        b"long image\n",
+    )
+}
+
+/// Checks the answer where the write of this number fails, and how many bytes were written before.
+fn expect_write_fault(
+    rt: &impl Abort,
+    alloc: Global,
+    code: &str,
+    number: u32,
+    written: usize,
+) -> Result<(), Fail> {
+    let mut files = HonestFiles::new(alloc);
+    files.put("image", image(alloc, code)?.as_slice())?;
+    files.put(
+        "machine",
+        description(alloc, "output_bytes", "4096")?
+            .as_str()
+            .as_bytes(),
+    )?;
+    let words = words(alloc, &["inorder", "image", "machine"])?;
+    let mut out = MemSink::new(alloc, 8192)?;
+    out.fail_write(number)?;
+    assert_eq!(rt; tss_main(alloc, words.as_slice(), &mut files, &mut out), 8);
+    assert_eq!(rt; out.bytes().len(), written);
+    Ok(())
+}
+
+#[test]
+fn a_write_that_fails_is_told(rt: HostRuntime) -> Result<(), Fail> {
+    let alloc = rt.alloc();
+    expect_write_fault(&rt, alloc, EXIT_SEVEN, 1, 0)?;
+    expect_write_fault(&rt, alloc, PAGE, 1, 0)?;
+    expect_write_fault(&rt, alloc, PAGE, 2, 4096)
+}
+
+#[test]
+fn honest_files_and_an_honest_sink_have_no_faults(rt: HostRuntime) -> Result<(), Fail> {
+    let alloc = rt.alloc();
+    let mut files = HonestFiles::new(alloc);
+    files.put("image", image(alloc, EXIT_SEVEN)?.as_slice())?;
+    files.put("machine", description(alloc, "", "")?.as_str().as_bytes())?;
+    let words = words(alloc, &["inorder", "image", "machine"])?;
+    let mut out = HonestSink::new();
+    assert_eq!(rt; tss_main(alloc, words.as_slice(), &mut files, &mut out), 0);
+    Ok(())
+}
+
+#[test]
+fn a_missing_file_and_a_folder_are_not_read(rt: HostRuntime) -> Result<(), Fail> {
+    let alloc = rt.alloc();
+    std::fs::create_dir(&rt, "folder")?;
+    for name in ["missing", "folder"] {
+        let words = words(alloc, &["inorder", name, name])?;
+        let mut files = RealFiles::new(&rt, words.as_slice());
+        let mut out = HonestSink::new();
+        assert_eq!(rt; tss_main(alloc, words.as_slice(), &mut files, &mut out), 7);
+    }
+    Ok(())
+}

@@ -1,0 +1,27 @@
+// Words that are no command.
+use super::words;
+use crate::answering::tss_main;
+use std::process::Abort;
+use std::test::Fail;
+use tss_outside::{HonestFiles, MemSink};
+
+#[test]
+fn other_words_show_the_usage(rt: HostRuntime) -> Result<(), Fail> {
+    let alloc = rt.alloc();
+    for texts in [
+        [].as_slice(),
+        &["--help"],
+        &["inorder"],
+        &["inorder", "image"],
+        &["inorder", "image", "machine", "more"],
+        &["Inorder", "image", "machine"],
+    ] {
+        let words = words(alloc, texts)?;
+        let mut files = HonestFiles::new(alloc);
+        let mut out = MemSink::new(alloc, 256)?;
+        let answered = tss_main(alloc, words.as_slice(), &mut files, &mut out);
+        assert_eq!(rt; answered, 6);
+        assert!(rt; out.bytes() == b"usage: inorder IMAGE MACHINE\n".as_slice());
+    }
+    Ok(())
+}
