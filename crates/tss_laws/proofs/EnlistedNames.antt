@@ -40,7 +40,8 @@ past_kept S T o k h = (ap (λ m. get m o) k.opens ∙ h.0, ap (λ m. get m o) k.
 
 -- ---- an operand beside another that is decoded
 
-module _ (mail : Mail) (q o : OpName) (other : o ≢ q) (operand : Operand) (h : (get mail.opens o ≡ None) × (get mail.uses o ≡ None)) where
+module _ (mail : Mail) (q o : OpName) (other : o ≢ q) (operand : Operand)
+    (h : (get mail.opens o ≡ None) × (get mail.uses o ≡ None)) where
   abbrev IsPastWith : Message → Type 0
   IsPastWith x = (get (posted mail x).opens o ≡ None) × (get (posted mail x).uses o ≡ None)
 

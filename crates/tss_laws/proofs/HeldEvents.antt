@@ -138,7 +138,8 @@ module _ (m : Machine) (ts : List Task) (S : State) (s : AreOpeningsSound m ts S
     -- with the operand's message and place
     abbrev HoldsWith : Option Entry → Mode → Message → Type 0
     HoldsWith entry mode x =
-        Holding m.sizes (places_after_decode S.places o (bank_of m.sizes operand.object) (takes_place entry mode)) S.copies
+        Holding m.sizes
+        (places_after_decode S.places o (bank_of m.sizes operand.object) (takes_place entry mode)) S.copies
         S.versions (posted (taken S.mail (event.Decode o)) x)
 
     hold_live : (e : Entry) (mode : Mode) → HoldsWith (Some e) mode (live_message o operand e mode)
@@ -252,7 +253,8 @@ module _ (m : Machine) (ts : List Task) (S : State) (s : AreOpeningsSound m ts S
       → Holding m.sizes S.places (copies_after_copy S.copies b c last) S.versions
       (posted_all S.mail (sent_by_copy c last))
   hold_copied b c e true =
-      held_home m.sizes S.places S.copies S.versions S.mail.opens S.mail.gones h b c (retired c.object (Some c.buffer)) e
+      held_home m.sizes S.places S.copies S.versions S.mail.opens S.mail.gones h b c
+      (retired c.object (Some c.buffer)) e
       refl
   hold_copied b c e false =
       held_moved m.sizes S.places S.copies S.versions S.mail.opens S.mail.gones h b c

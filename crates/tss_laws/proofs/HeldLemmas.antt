@@ -239,7 +239,8 @@ module _ (sizes : Sizes) (places : Named ℕ) (copies : Numbered CopyState) (vs 
         copied = λ a k f. elim (from_inserted nat_order copies b d a k f) [
           | inl new ↦
               let r = h.copied b c e in (
-                ap (λ (k : CopyState). get places k.version) new.1 ∙ ap (get places) version ∙ r.0 ∙ ap Some (sym new.0),
+                ap (λ (k : CopyState). get places k.version) new.1 ∙ ap (get places) version ∙ r.0
+                    ∙ ap Some (sym new.0),
                 ap (λ (k : CopyState). bank_of sizes k.object) new.1
                     ∙ ap (bank_of sizes) object
                     ∙ r.1

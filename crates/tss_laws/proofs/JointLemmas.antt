@@ -1,4 +1,5 @@
--- A fact that joins the versions with the mail, kept by the events of the versioning tables where a few changes keep it.
+-- A fact that joins the versions with the mail, kept by the events of the versioning tables where a few changes keep
+-- it.
 use Rattle.std.proofs.Common.{◌≡◌, ℕ, zero, suc, Bool, true, false, if◌then◌else◌, List, [], ◌∷◌, ◌++◌, Option, Some, None, refl, sym, subst}
 use Rattle.std.specs.Prelude.{not, ◌&&◌, ◌==◌, is_none}
 use Rattle.std.specs.FinMap.{get}

@@ -99,7 +99,8 @@ module _ (P E : OpName → Type 0) where
         let latest = latest_at P E S.entries h.2 base entry refl in (
           h.0,
           h.1,
-          each_inserted nat_order (λ base e. P e.latest) S.entries base _ h.2 (names_entry P E o name operand entry latest),
+          each_inserted nat_order (λ base e. P e.latest) S.entries base _ h.2
+              (names_entry P E o name operand entry latest),
           names_held P E o name S.places bank (takes_place entry operand.mode) h.3,
           names_held P E o name S.buffers bank (takes_buffer entry operand.mode) h.4,
           h.5,
@@ -231,7 +232,8 @@ module _ (P E : OpName → Type 0) where
     names_of_retire v None e = with_mail (event.Retire v)
     names_of_retire v (Some x) e =
         let here = h.6 v x e in
-        let d = names_copies_retired P E S.copies (bank_of m.sizes x.object) v x.object x.storage h.7 here.0 here.1.storage in
+        let d = names_copies_retired P E S.copies
+        (bank_of m.sizes x.object) v x.object x.storage h.7 here.0 here.1.storage in
         (h.0, h.1, h.2, h.3, h.4, h.5, names_retire P E S.versions v h.6, d.0, mail_after (event.Retire v) _ d.1)
 
     names_copy : (b : ℕ) (c : Option CopyState) → get S.copies b ≡ c → StateNames (after_copy S b c)
@@ -272,8 +274,10 @@ module _ (P E : OpName → Type 0) where
     StateNames-after_event event.Take decoded enlisted = names_take S.inbox
     StateNames-after_event (event.Decode o) decoded enlisted = names_decode o (decoded o refl) (get S.mail.decodes o)
     StateNames-after_event (event.Ack o) decoded enlisted = with_mail (event.Ack o)
-    StateNames-after_event (event.Open o) decoded enlisted = names_of_open o (enlisted o (inl refl)) (get S.mail.opens o) refl
-    StateNames-after_event (event.Use o) decoded enlisted = names_of_use o (enlisted o (inr refl)) (get S.mail.uses o) refl
+    StateNames-after_event (event.Open o) decoded enlisted =
+        names_of_open o (enlisted o (inl refl)) (get S.mail.opens o) refl
+    StateNames-after_event (event.Use o) decoded enlisted =
+        names_of_use o (enlisted o (inr refl)) (get S.mail.uses o) refl
     StateNames-after_event (event.Ready o) decoded enlisted = names_of_ready o (get S.mail.readies o) refl
     StateNames-after_event (event.Link o) decoded enlisted = names_of_link o (get S.mail.links o) refl
     StateNames-after_event (event.Start w) decoded enlisted = names_start w S.queue

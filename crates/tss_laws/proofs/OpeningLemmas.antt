@@ -90,7 +90,8 @@ module _ (ts : List Task) (opens : Named OpenContents) (uses : Named OpName) (vs
   opens_with_open o c operand no_use no_version = record {
     opens = λ q d e. elim (from_inserted name_order opens o c q d e) [
       | inl here ↦
-          subst (λ (d : OpenContents). IsOperandOf ts q d.operand × (get uses q ≡ None) × (get vs q ≡ None)) (sym here.1)
+          subst (λ (d : OpenContents). IsOperandOf ts q d.operand × (get uses q ≡ None) × (get vs q ≡ None))
+          (sym here.1)
           (subst (λ q. IsOperandOf ts q c.operand × (get uses q ≡ None) × (get vs q ≡ None)) (sym here.0)
           (operand, no_use, no_version))
       | inr before ↦ h.opens q d before.1
@@ -214,7 +215,8 @@ module _ (m : Machine) (S : State) where
       openings_sent S _ _ (record { opens = refl; uses = refl; versions = all_from S.versions })
       (after_ready-later S.flight o source)
 
-  pub openings_link : (o : OpName) (c : Option OpName) → KeepsOpenings S (link_message_taken (without S (event.Link o)) o c)
+  pub openings_link : (o : OpName) (c : Option OpName)
+      → KeepsOpenings S (link_message_taken (without S (event.Link o)) o c)
   openings_link o None = record { opens = refl; uses = refl; versions = all_from S.versions }
   openings_link o (Some next) =
       openings_sent S _ _ (record { opens = refl; uses = refl; versions = all_from S.versions })

@@ -311,7 +311,8 @@ abbrev pub IsPlaced : TasksFact
 IsPlaced m ts S = Placed (standing_of S)
 
 -- the task in the inbox isn't in flight
-inbox_not_in_flight : (m : Machine) (ts : List Task) (S T : State) → IsStaged m ts S → (p : TakesTask m S T) → (s : Stage)
+inbox_not_in_flight : (m : Machine) (ts : List Task) (S T : State) → IsStaged m ts S → (p : TakesTask m S T)
+    → (s : Stage)
     → StandsAt S.flight p.task.number s → ⊥
 inbox_not_in_flight m ts S T h p s a =
     let taken = (h.0.flight p.task.number a.0 a.1).taken.1 in

@@ -227,7 +227,8 @@ staged_still m ts S T h same = (
 -- every event keeps it
 pub IsStaged-after_event : IsKept IsStaged
 IsStaged-after_event =
-    kept_by_standing IsStaged IsStaged staged_spawned staged_taken staged_readied staged_changed staged_started staged_executed
+    kept_by_standing IsStaged IsStaged staged_spawned staged_taken staged_readied staged_changed staged_started
+    staged_executed
     staged_finished staged_still
 
 -- the first state has it

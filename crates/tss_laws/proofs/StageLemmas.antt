@@ -207,7 +207,8 @@ module _ (m : Machine) (ts : List Task) (p : Standing) (h : Stages m ts p) where
         (λ q other i. i) (λ q other on. on) (λ q i. inl i) h.workers
 
   -- link, bye: the task goes on at its stage
-  pub stages_went_on : (n : ℕ) (x y : Flying) → get p.flight n ≡ Some x → y.stage ≡ x.stage → is_complete y ≡ is_complete x
+  pub stages_went_on : (n : ℕ) (x y : Flying) → get p.flight n ≡ Some x → y.stage ≡ x.stage
+      → is_complete y ≡ is_complete x
       → Stages m ts (record p { flight = remaining_tasks p.flight n y })
   stages_went_on n x y there same complete =
       let before = h.waiting n x there in

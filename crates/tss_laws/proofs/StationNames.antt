@@ -118,7 +118,8 @@ module _ (P E : OpName → Type 0) where
     pub names_after_ready : (source : Source) → E o × SourceNames P E source → WokenNames (after_ready m o source)
     names_after_ready source told = names_woken_in source told (get m o.task) refl
 
-    names_link_after_link : (source : Option Source) (next : OpName) → E next → LinkNames E (link_after_link source next)
+    names_link_after_link : (source : Option Source) (next : OpName) → E next
+        → LinkNames E (link_after_link source next)
     names_link_after_link None next name = name
     names_link_after_link (Some source) next name = tt
 

@@ -49,7 +49,8 @@ module _ {X : Type 0} (f : Operand → X) where
       let is : o ≡ x = cc in
       let here : place + 0 ≡ place = omega arith in
       ap (λ p. get (spread f (insert m (operand_name task place) (f o)) task (suc place) os) (operand_name task p)) here
-      ∙ beside_spread (insert m (operand_name task place) (f o)) task (suc place) os (operand_name task place) (omega arith)
+      ∙ beside_spread (insert m (operand_name task place) (f o)) task (suc place) os (operand_name task place)
+      (omega arith)
       ∙ at_inserted name_order m (operand_name task place) (f o)
       ∙ ap (λ x. Some (f x)) is
   at_spread m task place (o ∷ os) (suc i) x e =

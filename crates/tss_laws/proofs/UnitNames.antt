@@ -116,7 +116,8 @@ module _ (P E : OpName → Type 0) where
   names_written_in s None w each name = each
   names_written_in s (Some p) w each name = names_written_to s p.object p.storage w each name
 
-  pub names_written : (os : List Operand) (ss : List StorageName) → EachOf (StorageNames P) ss → (s : Stores) (w : Write)
+  pub names_written : (os : List Operand) (ss : List StorageName) → EachOf (StorageNames P) ss
+      → (s : Stores) (w : Write)
       → ContentsNames s.contents → ContentsNames (worker_write (placed_in os ss) s w).contents
   names_written os ss names s w each =
       names_written_in s (placed_at (placed_in os ss) w.at) w each (names_found os ss w.at names)

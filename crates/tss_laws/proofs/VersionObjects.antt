@@ -95,7 +95,8 @@ module _ (B : OpName → Range → Type 0) where
   object-first o object s Output = refl
   object-first o object s Inout = refl
 
-  module _ (vs : Named Version) (o : OpName) (c : OpenContents) (each : EachObject vs) (new : B o c.operand.object) where
+  module _ (vs : Named Version) (o : OpName) (c : OpenContents) (each : EachObject vs)
+      (new : B o c.operand.object) where
     objects_followed : (f : Follow) → EachObject (followed vs o c f)
     objects_followed f =
         objects_changed (λ p. record p { successor = Some (record f { version = o }) }) (λ y. refl) _ f.version
