@@ -1,5 +1,5 @@
 -- Every event leaves each task in flight where its stage says.
-use Rattle.std.proofs.Common.{◌≡◌, ℕ, ◌≤◌, inl, inr, true, List, [], ◌∷◌, map, length, Option, Some, None, refl, sym, ap, ◌∙◌, subst, arith, true≢false, suc}
+use Rattle.std.proofs.Common.{◌≡◌, false, ℕ, ◌≤◌, inl, inr, true, List, [], ◌∷◌, map, length, Option, Some, None, refl, sym, ap, ◌∙◌, subst, arith, true≢false, suc}
 use Rattle.std.specs.FinMap.{get, get-empty}
 use Rattle.std.proofs.lemmas.Option.{none-some}
 use Rattle.tss_base.specs.declared.operand.Operand.{Operand}
@@ -11,7 +11,7 @@ use Rattle.tss_maps.proofs.Keys.{nat_order}
 use Rattle.tss_maps.proofs.Changes.{from_inserted}
 use Rattle.tss_model.specs.Access.{operands_of}
 use Rattle.tss_protocol.specs.State.{Flying, State, initial_state}
-use Rattle.tss_protocol.specs.Stations.{is_complete, new_operand, first_stage, entered, flight_after_take, storages_of, task_after_ready}
+use Rattle.tss_protocol.specs.Stations.{is_gone, is_complete, new_operand, first_stage, entered, flight_after_take, storages_of, task_after_ready}
 use Rattle.tss_protocol.specs.UnitMachine.{queue_with, is_queued}
 use Rattle.tss_laws.specs.Tasks.{task_at, taken_by, HasTaskNumbers, IsInFlight}
 use Rattle.tss_laws.proofs.BackLemmas.{Standing, standing_by, standing_of, still_ready-slice_set, ReadiesOperand, ChangesTask, StartsTask, ExecutesTask, FinishesTask, kept_by_standing}
@@ -30,6 +30,10 @@ use Rattle.tss_laws.proofs.StageLemmas.{TakenBy, CompleteAt, WaitsForOperands, S
 
 -- ---- a task that is taken
 
+-- a new task of these operands
+abbrev entered_with : Task → List Operand → Flying
+entered_with t os = record { task = t; stage = first_stage os; operands = map new_operand os }
+
 -- a new task waits, or is queued where it has no operands
 entered_waits : (t : Task) (os : List Operand) → operands_of t ≡ os → WaitsForOperands (entered t)
 entered_waits t [] e =
@@ -40,6 +44,11 @@ entered_waits t (o ∷ os) e = (
   λ w. ap (λ os. is_complete (record (entered t) { operands = map new_operand os })) e,
   λ c. ap first_stage e,
 )
+
+-- it is in flight
+entered_stays : (t : Task) (os : List Operand) → operands_of t ≡ os → is_gone (entered t) ≡ false
+entered_stays t [] e = ap (λ os. is_gone (entered_with t os)) e
+entered_stays t (o ∷ os) e = ap (λ os. is_gone (entered_with t os)) e
 
 entered_never_runs : (t : Task) (os : List Operand) → operands_of t ≡ os → (entered t).stage ≡ stage.Running → ⊥
 entered_never_runs t [] e at = queued≢running (sym (ap first_stage e) ∙ at)
@@ -71,6 +80,7 @@ module _ (m : Machine) (ts : List Task) (p : Standing) (h : Stages m ts p) where
     waiting = h.waiting;
     queued = h.queued;
     running = h.running;
+    staying = h.staying;
     queue = λ n e. let r = h.queue n e in (taken n r.0, r.1);
     workers = λ w b e.
         works_now m ts us p (record p { spawned = spawned; inbox = inbox }) w b (h.workers w b e)
@@ -119,6 +129,10 @@ module _ (m : Machine) (ts : List Task) (p : Standing) (h : Stages m ts p) where
         | inl here ↦
             absurd (entered_never_runs t (operands_of t) refl (ap (λ (y : Flying). y.stage) (sym here.1) ∙ at))
         | inr old ↦ h.running n x old.1 at
+      ];
+      staying = λ n x e. elim (from_inserted nat_order p.flight t.number (entered t) n x e) [
+        | inl here ↦ ap is_gone here.1 ∙ entered_stays t (operands_of t) refl
+        | inr old ↦ h.staying n x old.1
       ];
       queue = λ n e. elim (from_queue p.queue t.number (is_queued (entered t).stage) n e) [
         | inl before ↦ let r = h.queue n before in (taken n r.0, still_complete n r.0 r.1)
@@ -239,6 +253,7 @@ IsStaged-initial_state m i = (
     waiting = λ n x e. absurd (none-some x (sym (get-empty nat_cmp n) ∙ e));
     queued = λ n x e at. absurd (none-some x (sym (get-empty nat_cmp n) ∙ e));
     running = λ n x e at. absurd (none-some x (sym (get-empty nat_cmp n) ∙ e));
+    staying = λ n x e. absurd (none-some x (sym (get-empty nat_cmp n) ∙ e));
     queue = λ n e. absurd (true≢false (sym e));
     workers = λ w b e. absurd (none-some b (sym (get-empty nat_cmp w) ∙ e));
   },
@@ -249,6 +264,7 @@ has_stages m ts S h = record {
   waiting = h.1.waiting;
   queued = h.1.queued;
   running = h.1.running;
+  staying = h.1.staying;
   queue = λ n e. let r = h.1.queue n e in record { taken = r.0; complete = r.1 };
   workers = λ w b e.
       let r = h.1.workers w b e in

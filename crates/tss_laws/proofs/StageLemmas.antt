@@ -1,6 +1,7 @@
 -- Each task in flight stands where its stage says, and what is queued or runs has its operands.
 use Rattle.std.proofs.Common.{◌≡◌, ◌≢◌, ◌↔◌, ℕ, ◌<◌, ◌≤◌, ◌⊎◌, inl, inr, Bool, true, false, if◌then◌else◌, List, [], ◌∷◌, ◌++◌, length, Option, Some, None, refl, sym, ap, ◌∙◌, subst, arith, true≢false}
-use Rattle.std.specs.Prelude.{◌==◌}
+use Rattle.std.specs.List.{list_all}
+use Rattle.std.specs.Prelude.{◌&&◌, ◌==◌}
 use Rattle.std.specs.FinMap.{get, insert, remove}
 use Rattle.std.proofs.lemmas.Bool.{or_right}
 use Rattle.std.proofs.lemmas.Option.{none-some, same_Some}
@@ -12,7 +13,7 @@ use Rattle.tss_maps.proofs.Keys.{nat_order, decide_key}
 use Rattle.tss_maps.proofs.Changes.{at_inserted, beside_inserted, from_inserted, beside_removed, from_removed}
 use Rattle.tss_model.specs.Access.{operands_of}
 use Rattle.tss_protocol.specs.State.{Flying, Busy}
-use Rattle.tss_protocol.specs.Stations.{is_complete, is_gone, remaining_tasks, flight_after_start, finished_in, storages_of}
+use Rattle.tss_protocol.specs.Stations.{is_complete, has_finished, has_left, is_gone, remaining_tasks, flight_after_start, finished_in, storages_of}
 use Rattle.tss_protocol.specs.Workers.{busy_at_start}
 use Rattle.tss_protocol.specs.UnitMachine.{queue_with}
 use Rattle.tss_laws.specs.Tasks.{task_at, taken_by}
@@ -66,6 +67,7 @@ pub record Stages (m : Machine) (ts : List Task) (p : Standing) : Type 0 where
   pub waiting : (n : ℕ) (x : Flying) → get p.flight n ≡ Some x → WaitsForOperands x
   pub queued : (n : ℕ) (x : Flying) → get p.flight n ≡ Some x → x.stage ≡ stage.Queued → in_queue n p.queue ≡ true
   pub running : (n : ℕ) (x : Flying) → get p.flight n ≡ Some x → x.stage ≡ stage.Running → OnWorker p.workers n
+  pub staying : (n : ℕ) (x : Flying) → get p.flight n ≡ Some x → is_gone x ≡ false
   pub queue : (n : ℕ) → in_queue n p.queue ≡ true → TakenBy p n × CompleteAt p.flight n
   pub workers : (w : ℕ) (b : Busy) → get p.workers w ≡ Some b → Works m ts p w b
 
@@ -95,17 +97,26 @@ past_waiting x complete past = (λ e. absurd (past e), λ e. absurd (true≢fals
 
 -- ---- a change of one task in flight
 
--- at n stands y, if anything, and all others are as they were
+-- at n stands y, if anything, which stays in flight, and all others are as they were
 abbrev pub ChangesAt : Numbered Flying → Numbered Flying → ℕ → Flying → Type 0
 ChangesAt m k n y =
-    (q : ℕ) (z : Flying) → get k q ≡ Some z → ((q ≡ n) × (z ≡ y)) ⊎ ((q ≢ n) × (get m q ≡ Some z))
+    (q : ℕ) (z : Flying)
+    → get k q ≡ Some z
+    → ((q ≡ n) × (z ≡ y) × (is_gone y ≡ false)) ⊎ ((q ≢ n) × (get m q ≡ Some z))
+
+changes_inserted : (m : Numbered Flying) (n : ℕ) (y : Flying) → is_gone y ≡ false → ChangesAt m (insert m n y) n y
+changes_inserted m n y stays q z e =
+    elim (from_inserted nat_order m n y q z e) [
+      | inl here ↦ inl (here.0, here.1, stays)
+      | inr before ↦ inr before
+    ]
 
 changes_remaining : (m : Numbered Flying) (n : ℕ) (y : Flying) → ChangesAt m (remaining_tasks m n y) n y
-changes_remaining m n y =
-    elim (is_gone y) as (λ b. ChangesAt m (if b then remove m n else insert m n y) n y) [
-      | true ↦ λ q z e. inr (from_removed nat_order m n q z e)
-      | false ↦ from_inserted nat_order m n y
-    ]
+changes_remaining m n y = by (is_gone y) refl
+  where
+    by : (b : Bool) → is_gone y ≡ b → ChangesAt m (if b then remove m n else insert m n y) n y
+    by true gone q z e = inr (from_removed nat_order m n q z e)
+    by false stays q z e = changes_inserted m n y stays q z e
 
 -- where the change leaves it complete, a task that is complete stays so
 complete_changed : (m k : Numbered Flying) (n : ℕ) (x y : Flying) → get m n ≡ Some x → ChangesAt m k n y
@@ -153,6 +164,10 @@ module _ (m : Machine) (ts : List Task) (p : Standing) (h : Stages m ts p) where
             subst (OnWorker workers) (sym here.0) (running (ap (λ (w : Flying). w.stage) (sym here.1) ∙ at))
         | inr before ↦ others_running q before.0 (h.running q z before.1 at)
       ];
+      staying = λ q z e. elim (changes q z e) [
+        | inl here ↦ ap is_gone here.1 ∙ here.2
+        | inr before ↦ h.staying q z before.1
+      ];
       queue = λ q e. elim (from q e) [
         | inl before ↦
             let r = h.queue q before in
@@ -190,7 +205,7 @@ module _ (m : Machine) (ts : List Task) (p : Standing) (h : Stages m ts p) where
     stages_readied_by true e =
         stages_changed n x (queued_if true) there
         (insert p.flight n (queued_if true)) (p.queue ++ n ∷ []) p.workers
-        (from_inserted nat_order p.flight n (queued_if true))
+        (changes_inserted p.flight n (queued_if true) refl)
         (past_waiting (queued_if true) e (λ w. waiting≢queued (sym w)))
         still (λ at. now_queued p.queue n) (λ at. absurd (queued≢running at))
         (λ q other. still_queued p.queue n true q) (λ q other on. on)
@@ -200,7 +215,9 @@ module _ (m : Machine) (ts : List Task) (p : Standing) (h : Stages m ts p) where
         ])
         h.workers
     stages_readied_by false e =
-        stages_changed n x y there (insert p.flight n y) p.queue p.workers (from_inserted nat_order p.flight n y)
+        stages_changed n x y there (insert p.flight n y) p.queue p.workers
+        (changes_inserted p.flight n y
+        (ap (λ s. has_finished s && list_all (λ r. has_left r.farewell) y.operands) (not_before e)))
         (λ at. e, not_before)
         still (λ at. absurd (waiting≢queued (sym (not_before e) ∙ at)))
         (λ at. absurd (waiting≢running (sym (not_before e) ∙ at)))
@@ -231,7 +248,7 @@ module _ (m : Machine) (ts : List Task) (p : Standing) (h : Stages m ts p) where
       let ready = h.queue t at_t in
       let y : Flying = record x { stage = stage.Running } in
       stages_changed t x y there (insert p.flight t y) rest (insert p.workers w (busy_at_start x))
-      (from_inserted nat_order p.flight t y)
+      (changes_inserted p.flight t y refl)
       (past_waiting y (ready.1 x there) (λ e. waiting≢running (sym e)))
       (λ e. e) (λ e. absurd (queued≢running (sym e)))
       (λ e. (w, busy_at_start x, at_inserted nat_order p.workers w (busy_at_start x), number))
@@ -264,6 +281,7 @@ module _ (m : Machine) (ts : List Task) (p : Standing) (h : Stages m ts p) where
   stages_executed w b c there task storages within = record {
     waiting = h.waiting;
     queued = h.queued;
+    staying = h.staying;
     running = λ n x e at.
         let on = h.running n x e at in
         elim (decide_key nat_order on.0 w) [
@@ -317,6 +335,7 @@ module _ (m : Machine) (ts : List Task) (p : Standing) (h : Stages m ts p) where
     running = λ n x f at.
         others_stay w b.task.number b there refl n
         (λ same. none-some x (sym e ∙ ap (get p.flight) (sym same) ∙ f)) (h.running n x f at);
+    staying = h.staying;
     queue = h.queue;
     workers = λ v c f.
         works_now m ts ts p (record p { workers = remove p.workers w }) v c

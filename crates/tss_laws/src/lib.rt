@@ -37,8 +37,8 @@ pub fn decode_order()
     ensures { DecodeOrderLaw }
 {}
 
-/// A task in flight waits exactly where one of its operands isn't ready, one that is queued is in the ready queue, and
-/// one that runs is on a worker. What is in the queue or on a worker was taken and has its operands. A busy worker is
+/// A task in flight waits exactly where one of its operands isn't ready, one that is queued is in the ready queue, one
+/// that runs is on a worker, and one that has finished has an operand whose farewell isn't done. What is in the queue or on a worker was taken and has its operands. A busy worker is
 /// one of the machine's, has a storage for each operand of its task, and has completed no more instructions than a task
 /// may.
 pub fn stages()
