@@ -18,6 +18,7 @@ pub mod StationNames
 pub mod UnitNames
 pub mod NameEvents
 pub mod DecodedNames
+pub mod VersionFacts
 pub mod VersionObjects
 pub mod OpeningLemmas
 pub mod EnlistedNames
