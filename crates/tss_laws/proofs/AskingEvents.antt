@@ -25,19 +25,17 @@ use Rattle.tss_laws.specs.Tasks.{TasksFact}
 use Rattle.tss_laws.specs.Asking.{HasAsking, AskingLaw}
 use Rattle.tss_laws.proofs.SentLemmas.{after_ready-all, after_link-all, flight_after_finish-all}
 use Rattle.tss_laws.proofs.RunLemmas.{IsKept, law_from}
-use Rattle.tss_laws.proofs.OpeningLemmas.{AreOpeningsSound, AreOpeningsSound-after_event, AreOpeningsSound-initial_state}
+use Rattle.tss_laws.proofs.OpeningLemmas.{AreOpeningsSound}
+use Rattle.tss_laws.proofs.EnlistedNames.{AreOpeningsSound-after_event, AreOpeningsSound-initial_state}
 use Rattle.tss_laws.proofs.JointLemmas.{joint_settled, joint_open, joint_use, joint_release}
 use Rattle.tss_laws.proofs.AskingLemmas.{Asking, IsJoint-Asking, IsAside, asking_posted_all, decodes_aside, decode_aside, asking_new, asking_nacked, asking_granted, asking_refused, asking_retired}
+use Rattle.tss_laws.proofs.PlainLemmas.{some_unit}
 
 -- ---- all events
 
 -- of a state
 abbrev pub AskingOf : State → Type 0
 AskingOf S = Asking S.versions S.mail
-
-some_unit : (o : Option (Unit {0})) → is_some o ≡ true → o ≡ Some tt
-some_unit None e = absurd (true≢false (sym e))
-some_unit (Some tt) e = refl
 
 module _ (m : Machine) (ts : List Task) (S : State) (s : AreOpeningsSound m ts S) (h : AskingOf S) where
   ask_call : (d : MainState × Option Task) → AskingOf (after_call S d)
@@ -110,7 +108,8 @@ module _ (m : Machine) (ts : List Task) (S : State) (s : AreOpeningsSound m ts S
   ask_release o (Some r) = joint_release Asking IsJoint-Asking S.versions (taken S.mail (event.Release o)) h o r
 
   ask_idle_by : (v : OpName) (i : IdleContents) → get S.mail.idles v ≡ Some i → (may : Bool)
-      → Asking S.versions (posted_all (taken S.mail (event.Idle v)) (idle_by S.entries v i.base (get S.entries i.base) may).sent)
+      → Asking S.versions
+      (posted_all (taken S.mail (event.Idle v)) (idle_by S.entries v i.base (get S.entries i.base) may).sent)
   ask_idle_by v i e true = asking_granted S.versions S.mail h v i e
   ask_idle_by v i e false = asking_nacked S.versions S.mail h v i e
 
@@ -120,7 +119,8 @@ module _ (m : Machine) (ts : List Task) (S : State) (s : AreOpeningsSound m ts S
   ask_idle v (Some i) e on = ask_idle_by v i e (may_retire v i.count (get S.entries i.base))
 
   ask_nack_by : (v : OpName) → get S.mail.nacks v ≡ Some tt → (x : Option Version) → get S.versions v ≡ x
-      → Asking (nacked_at S.versions v x).part (posted_all (taken S.mail (event.Nack v)) (nacked_at S.versions v x).sent)
+      → Asking (nacked_at S.versions v x).part
+      (posted_all (taken S.mail (event.Nack v)) (nacked_at S.versions v x).sent)
   ask_nack_by v there None e =
       let r = (h.nacks v there).0 in absurd (none-some r.1.0 (sym e ∙ r.1.1))
   ask_nack_by v there (Some x) e =
@@ -203,4 +203,5 @@ IsAskingSound-initial_state m i = (
 
 -- the law
 pub asking_of_runs : AskingLaw
-asking_of_runs = law_from IsAskingSound HasAsking IsAskingSound-initial_state IsAskingSound-after_event (λ m ts S h. h.1)
+asking_of_runs =
+    law_from IsAskingSound HasAsking IsAskingSound-initial_state IsAskingSound-after_event (λ m ts S h. h.1)

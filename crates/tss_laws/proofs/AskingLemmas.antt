@@ -250,7 +250,8 @@ module _ (vs : Named Version) (m : Mail) (h : Asking vs m) (v : OpName) where
       }
 
   -- it may retire
-  pub asking_granted : (i : IdleContents) → get m.idles v ≡ Some i → Asking vs (posted (taken m (event.Idle v)) (Retire v))
+  pub asking_granted : (i : IdleContents) → get m.idles v ≡ Some i
+      → Asking vs (posted (taken m (event.Idle v)) (Retire v))
   asking_granted i e =
       let here = h.idles v i e in
       record {

@@ -16,6 +16,7 @@ use Rattle.tss_protocol.specs.Workers.{can_start, busy_at_start, busy_after, can
 use Rattle.tss_protocol.specs.MainEvent.{call_next}
 use Rattle.tss_protocol.specs.UnitMachine.{is_enabled, after_event, queue_with, with_woken, with_flight, without, stores_of, open_message_taken, use_message_taken, ready_message_taken, link_message_taken, after_start, start_task, after_exec, after_finish, release_message_taken, bye_message_taken, idle_message_taken, retire_version, after_copy, gone_message_taken}
 use Rattle.tss_model.specs.Access.{TaskActor, operands_of}
+use Rattle.tss_laws.proofs.PlainLemmas.{none_from_test}
 use Rattle.tss_laws.specs.Tasks.{TasksFact, spawned_by_main}
 use Rattle.tss_laws.proofs.FrontLemmas.{Front, front_of, Back, back_of, KeepsFront, KeepsFront-after_event}
 use Rattle.tss_laws.proofs.SpawnLemmas.{SpawnsOne, SpawnsAtMostOne, spawns_main}
@@ -183,10 +184,6 @@ pub record StartsTask (m : Machine) (S T : State) (w : ℕ) : Type 0 where
         queue = rest;
         workers = insert S.workers w (busy_at_start task);
       }
-
-none_from_test : {X : Type 0} (o : Option X) → is_none o ≡ true → o ≡ None
-none_from_test None e = refl
-none_from_test (Some x) e = absurd (cc)
 
 module _ (m : Machine) (S : State) (w : ℕ) where
   starts_task : (t : ℕ) (ts : List ℕ) (x : Option Flying) → S.queue ≡ t ∷ ts → get S.flight t ≡ x

@@ -111,7 +111,8 @@ module _ (actor : Actor) (byte : ℕ → ℕ) (r : Registers) where
 
 -- ---- a task
 
-module _ {M : Type 0} (byte : M → ℕ → ℕ) (write : M → Write → M) (budget : ℕ) (code : List SegmentState) (actor : Actor) where
+module _ {M : Type 0} (byte : M → ℕ → ℕ) (write : M → Write → M) (budget : ℕ) (code : List SegmentState)
+    (actor : Actor) where
   -- what is executed below the budget is within it
   within-task_on : (s : TaskState M) (x : Stepped) → CompletesOne s.registers x → s.registers.done < budget
       → (task_on write s x).registers.done ≤ budget
@@ -129,7 +130,8 @@ module _ {M : Type 0} (byte : M → ℕ → ℕ) (write : M → Write → M) (bu
       by : (a b : Bool) → nat_le budget s.registers.done ≡ b
           → (if a then s
           else if b then task_trapped s (trap_of s.registers budget_spent 0)
-          else task_on write s (core_step actor (task_byte byte s) (code_word code) s.registers)).registers.done ≤ budget
+          else task_on write s (core_step actor (task_byte byte s)
+          (code_word code) s.registers)).registers.done ≤ budget
       by true b e = within
       by false true e = within
       by false false e =

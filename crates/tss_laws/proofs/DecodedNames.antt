@@ -1,5 +1,5 @@
 -- Every name in the machine is of an operand that was decoded.
-use Rattle.std.proofs.Common.{◌≡◌, ◌<◌, ◌≤◌, inl, inr, List, [], ◌∷◌, Option, Some, None, sym, ap, ◌∙◌, subst, arith}
+use Rattle.std.proofs.Common.{◌≡◌, ◌<◌, ◌≤◌, inl, inr, List, ◌∷◌, Option, Some, None, sym, ap, ◌∙◌, subst, arith}
 use Rattle.std.specs.FinMap.{get, remove}
 use Rattle.std.proofs.lemmas.Option.{none-some}
 use Rattle.tss_base.specs.declared.operand.OpName.{OpName}
@@ -10,23 +10,22 @@ use Rattle.tss_base.specs.declared.event.Event.TheVariants as event
 use Rattle.tss_base.specs.declared.event.LinkState.{LinkState}
 use Rattle.tss_base.specs.declared.event.LinkState.TheVariants as link
 use Rattle.tss_base.specs.declared.event.Follow.{Follow}
-use Rattle.tss_base.specs.Image.{ImageState}
 use Rattle.tss_maps.proofs.Keys.{name_order, decide_key}
 use Rattle.tss_maps.proofs.Changes.{decide_get, at_removed, beside_removed}
 use Rattle.tss_model.specs.Access.{operands_of}
 use Rattle.tss_protocol.specs.Mail.{StorageName, Home, Buffer, Source, Message, Decode, Ack, Open, Use, Ready, Link, Release, Bye, Idle, Nack, Retire, Gone}
-use Rattle.tss_protocol.specs.State.{State, OperandState, Version, initial_state}
+use Rattle.tss_protocol.specs.State.{State, OperandState, Version}
 use Rattle.tss_protocol.specs.UnitMachine.{IsEnabled, after_event}
-use Rattle.tss_laws.specs.Tasks.{TasksFact, taken_by, spawned_after_event, IsOperandOf}
+use Rattle.tss_laws.specs.Tasks.{TasksFact, taken_by, IsOperandOf}
 use Rattle.tss_laws.proofs.SpawnLemmas.{SpawnsOne}
-use Rattle.tss_laws.specs.Names.{WhereThere, StorageNames, SourceNames, LinkNames, OperandNames, VersionNames, MessageNames, IsDecoded, HasDecodedNames, NamesLaw}
+use Rattle.tss_laws.specs.Names.{WhereThere, StorageNames, SourceNames, LinkNames, OperandNames, VersionNames, MessageNames}
 use Rattle.tss_laws.proofs.FrontLemmas.{Front, front_of}
 use Rattle.tss_laws.proofs.TakeLemmas.{spread, from_spread, TakesTask, DecodesOperand, decodes_decode}
-use Rattle.tss_laws.proofs.RunLemmas.{IsKept, IsKeptAs, kept_by_front, law_from}
+use Rattle.tss_laws.proofs.RunLemmas.{IsKeptAs, kept_by_front}
 use Rattle.tss_laws.proofs.NumberLemmas.{last_taken_before, taken_newest}
-use Rattle.tss_laws.proofs.GatewayLemmas.{IsFrontSound, operand_still, of_taken, IsFrontSound-after_event, IsFrontSound-initial_state}
+use Rattle.tss_laws.proofs.GatewayLemmas.{IsFrontSound, operand_still, of_taken}
 use Rattle.tss_laws.proofs.NameLemmas.{each_sent_weaker}
-use Rattle.tss_laws.proofs.NameEvents.{StateNames, StateNames-after_event, StateNames-initial_state, each_name}
+use Rattle.tss_laws.proofs.NameEvents.{StateNames}
 
 -- ---- a weaker fact
 
@@ -34,38 +33,38 @@ where_weaker : {X : Type 0} (A B : X → Type 0) (o : Option X) → ((x : X) →
 where_weaker A B None weaker h = tt
 where_weaker A B (Some x) weaker h = weaker x h
 
-module _ (P Q : OpName → Type 0) (weaker : (o : OpName) → P o → Q o) where
+module _ (P Q E F : OpName → Type 0) (weaker : (o : OpName) → P o → Q o) (still : (o : OpName) → E o → F o) where
   storage_weaker : (s : StorageName) → StorageNames P s → StorageNames Q s
   storage_weaker Home h = tt
   storage_weaker (Buffer n) h = weaker n h
 
-  source_weaker : (s : Source) → SourceNames P s → SourceNames Q s
-  source_weaker s h = (weaker s.version h.0, storage_weaker s.storage h.1)
+  source_weaker : (s : Source) → SourceNames P E s → SourceNames Q F s
+  source_weaker s h = (still s.version h.0, storage_weaker s.storage h.1)
 
-  link_weaker : (l : LinkState) → LinkNames P l → LinkNames Q l
+  link_weaker : (l : LinkState) → LinkNames E l → LinkNames F l
   link_weaker link.Nothing h = tt
-  link_weaker (link.Held next) h = weaker next h
+  link_weaker (link.Held next) h = still next h
   link_weaker link.Passed h = tt
 
-  operand_weaker : (o : OpName) (r : OperandState) → OperandNames P o r → OperandNames Q o r
+  operand_weaker : (o : OpName) (r : OperandState) → OperandNames P E o r → OperandNames Q F o r
   operand_weaker o r h = record {
-    own = where_weaker (λ (s : Source). P o) (λ (s : Source). Q o) r.source (λ s. weaker o) h.own;
-    source = where_weaker (SourceNames P) (SourceNames Q) r.source source_weaker h.source;
+    own = where_weaker (λ (s : Source). E o) (λ (s : Source). F o) r.source (λ s. still o) h.own;
+    source = where_weaker (SourceNames P E) (SourceNames Q F) r.source source_weaker h.source;
     link = link_weaker r.link h.link;
   }
 
-  version_weaker : (x : Version) → VersionNames P x → VersionNames Q x
+  version_weaker : (x : Version) → VersionNames P E x → VersionNames Q F x
   version_weaker x h = record {
     storage = where_weaker (StorageNames P) (StorageNames Q) x.storage storage_weaker h.storage;
-    head = where_weaker P Q x.head weaker h.head;
-    tail = where_weaker P Q x.tail weaker h.tail;
+    head = where_weaker E F x.head still h.head;
+    tail = where_weaker E F x.tail still h.tail;
     predecessor = where_weaker P Q x.predecessor weaker h.predecessor;
     successor =
-        where_weaker (λ (f : Follow). P f.version) (λ (f : Follow). Q f.version) x.successor (λ f. weaker f.version)
+        where_weaker (λ (f : Follow). E f.version) (λ (f : Follow). F f.version) x.successor (λ f. still f.version)
         h.successor;
   }
 
-  message_weaker : (x : Message) → MessageNames P x → MessageNames Q x
+  message_weaker : (x : Message) → MessageNames P E x → MessageNames Q F x
   message_weaker (Decode o operand) h = tt
   message_weaker (Ack o) h = weaker o h
   message_weaker (Open o c) h = (
@@ -74,17 +73,17 @@ module _ (P Q : OpName → Type 0) (weaker : (o : OpName) → P o → Q o) where
     where_weaker (λ (f : Follow). P f.version) (λ (f : Follow). Q f.version) c.follows (λ f. weaker f.version) h.2,
   )
   message_weaker (Use o v) h = (weaker o h.0, weaker v h.1)
-  message_weaker (Ready o source) h = (weaker o h.0, source_weaker source h.1)
-  message_weaker (Link o next) h = (weaker o h.0, weaker next h.1)
-  message_weaker (Release o r) h = (weaker o h.0, weaker r.version h.1)
-  message_weaker (Bye o promised) h = weaker o h
-  message_weaker (Idle v asking) h = weaker v h
-  message_weaker (Nack v) h = weaker v h
-  message_weaker (Retire v) h = weaker v h
-  message_weaker (Gone v g) h = (weaker v h.0, where_weaker P Q g.buffer weaker h.1)
+  message_weaker (Ready o source) h = (still o h.0, source_weaker source h.1)
+  message_weaker (Link o next) h = (still o h.0, still next h.1)
+  message_weaker (Release o r) h = (still o h.0, still r.version h.1)
+  message_weaker (Bye o promised) h = still o h
+  message_weaker (Idle v asking) h = still v h
+  message_weaker (Nack v) h = still v h
+  message_weaker (Retire v) h = still v h
+  message_weaker (Gone v g) h = (still v h.0, where_weaker P Q g.buffer weaker h.1)
 
   -- of all names in a state
-  state_weaker : (S : State) → StateNames P S → StateNames Q S
+  pub state_weaker : (S : State) → StateNames P E S → StateNames Q F S
   state_weaker S h = (
     (λ n x e place r f. operand_weaker _ r (h.0 n x e place r f)),
     (λ w b e i s f. storage_weaker s (h.1 w b e i s f)),
@@ -92,9 +91,9 @@ module _ (P Q : OpName → Type 0) (weaker : (o : OpName) → P o → Q o) where
     (λ v bank e. weaker v (h.3 v bank e)),
     (λ n bank e. weaker n (h.4 n bank e)),
     (λ n bytes e. weaker n (h.5 n bytes e)),
-    (λ v x e. let here = h.6 v x e in (weaker v here.0, version_weaker x here.1)),
-    (λ bank c e. let here = h.7 bank c e in (weaker c.version here.0, weaker c.buffer here.1)),
-    each_sent_weaker (MessageNames P) (MessageNames Q) S.mail message_weaker h.8,
+    (λ v x e. let here = h.6 v x e in (still v here.0, version_weaker x here.1)),
+    (λ bank c e. let here = h.7 bank c e in (still c.version here.0, weaker c.buffer here.1)),
+    each_sent_weaker (MessageNames P E) (MessageNames Q F) S.mail message_weaker h.8,
   )
 
 -- ---- decoded operands
@@ -160,7 +159,7 @@ decoded_beside o q m ts S T h p =
     subst (λ f. DecodedBy ts f o) (sym p.front) (d.0, d.1, none)
 
 -- an operand stays decoded
-still_decoded : (o : OpName) → IsKeptAs (HasDecoded o) (λ m ts S. DecodedBy ts (front_of S) o)
+pub still_decoded : (o : OpName) → IsKeptAs (HasDecoded o) (λ m ts S. DecodedBy ts (front_of S) o)
 still_decoded o =
     kept_by_front (HasDecoded o) (λ m ts S. DecodedBy ts (front_of S) o)
     (decoded_spawned o) (decoded_taken o)
@@ -169,7 +168,7 @@ still_decoded o =
     (λ m ts S T h k. subst (λ f. DecodedBy ts f o) (sym k.front) h.1)
 
 -- and is decoded by its decode
-decoded_now : (m : Machine) (ts : List Task) (S : State) (o : OpName) → IsFrontSound m ts S
+pub decoded_now : (m : Machine) (ts : List Task) (S : State) (o : OpName) → IsFrontSound m ts S
     → IsEnabled m S (event.Decode o) → DecodedBy ts (front_of (after_event m S (event.Decode o))) o
 decoded_now m ts S o h on =
     let p = decodes_decode m S o on in
@@ -179,31 +178,11 @@ decoded_now m ts S o h on =
 
 -- ---- all names
 
--- in a state with a sound front
+-- an enlisted operand: neither its decode, nor its open, nor its use is under way
+abbrev pub EnlistedIn : List Task → State → OpName → Type 0
+EnlistedIn ts S o =
+    DecodedBy ts (front_of S) o × (get S.mail.opens o ≡ None) × (get S.mail.uses o ≡ None)
+
+-- in a state with a sound front all names are of decoded operands, or of enlisted ones
 abbrev pub AreNamesDecoded : TasksFact
-AreNamesDecoded m ts S = IsFrontSound m ts S × StateNames (DecodedBy ts (front_of S)) S
-
--- every event keeps it
-pub AreNamesDecoded-after_event : IsKept AreNamesDecoded
-AreNamesDecoded-after_event m ts S e h on =
-    let P = DecodedBy ts (front_of S) in
-    let Q = DecodedBy (spawned_after_event m S ts e) (front_of (after_event m S e)) in (
-      IsFrontSound-after_event m ts S e h.0 on,
-      StateNames-after_event Q m S (state_weaker P Q (λ o p. still_decoded o m ts S e (h.0, p) on) S h.1) e
-          (λ o is.
-          subst (λ e. IsEnabled m S e → DecodedBy (spawned_after_event m S ts e) (front_of (after_event m S e)) o)
-          (sym is) (decoded_now m ts S o h.0) on),
-    )
-
--- the first state has it
-pub AreNamesDecoded-initial_state : (m : Machine) (i : ImageState) → AreNamesDecoded m [] (initial_state i)
-AreNamesDecoded-initial_state m i = (
-  IsFrontSound-initial_state m i,
-  StateNames-initial_state (DecodedBy [] (front_of (initial_state i))) i,
-)
-
--- the law
-pub names_of_runs : NamesLaw
-names_of_runs =
-    law_from AreNamesDecoded HasDecodedNames AreNamesDecoded-initial_state AreNamesDecoded-after_event
-    (λ m ts S h. each_name (IsDecoded ts S) S h.1)
+AreNamesDecoded m ts S = IsFrontSound m ts S × StateNames (DecodedBy ts (front_of S)) (EnlistedIn ts S) S

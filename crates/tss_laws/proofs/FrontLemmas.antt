@@ -219,7 +219,8 @@ module _ (m : Machine) (S : State) where
   front_finish : (w : ℕ) (b : Option Busy) → KeepsFront S (after_finish S w b)
   front_finish w None = record { front = refl; flight = all_come S.flight }
   front_finish w (Some b) =
-      front_sent S _ _ (record { front = refl; flight = come_finished_in S.flight b.task.number (get S.flight b.task.number) refl })
+      front_sent S _ _
+      (record { front = refl; flight = come_finished_in S.flight b.task.number (get S.flight b.task.number) refl })
       (flight_after_finish-later S.flight b.task.number)
 
   front_release : (o : OpName) (c : Option ReleaseContents)

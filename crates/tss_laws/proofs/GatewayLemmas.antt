@@ -40,7 +40,8 @@ IsFrontSound m ts S = HasTaskNumbers m ts S × Acknowledges ts (front_of S)
 
 -- ---- a spawn
 
-pub operand_still : (u : Task) (ts : List Task) (o : OpName) (x : Operand) → IsOperandOf ts o x → IsOperandOf (u ∷ ts) o x
+pub operand_still : (u : Task) (ts : List Task) (o : OpName) (x : Operand) → IsOperandOf ts o x
+    → IsOperandOf (u ∷ ts) o x
 operand_still u ts o x h =
     record { task = h.task; spawned = still_at u ts o.task h.task h.spawned; place = h.place }
 

@@ -31,9 +31,11 @@ use Rattle.tss_laws.specs.Tasks.{TasksFact}
 use Rattle.tss_laws.specs.Held.{IsCopied, HoldsPlaces, HasHeldPlaces, HeldPlacesLaw}
 use Rattle.tss_laws.proofs.SentLemmas.{AllSent, after_ready-all, after_link-all, flight_after_finish-all}
 use Rattle.tss_laws.proofs.RunLemmas.{IsKept, law_from}
-use Rattle.tss_laws.proofs.OpeningLemmas.{AreOpeningsSound, AreOpeningsSound-after_event, AreOpeningsSound-initial_state, no_version_yet}
-use Rattle.tss_laws.proofs.JointLemmas.{joint_settled, joint_open, joint_use, joint_release, none_from_test}
+use Rattle.tss_laws.proofs.OpeningLemmas.{AreOpeningsSound, no_version_yet}
+use Rattle.tss_laws.proofs.EnlistedNames.{AreOpeningsSound-after_event, AreOpeningsSound-initial_state}
+use Rattle.tss_laws.proofs.JointLemmas.{joint_settled, joint_open, joint_use, joint_release}
 use Rattle.tss_laws.proofs.HeldLemmas.{Holding, IsJoint-Holding, held_decoded, held_opened, held_written, held_dies, held_copied, held_moved, held_home, held_gone}
+use Rattle.tss_laws.proofs.PlainLemmas.{none_from_test}
 
 -- ---- messages that hold nothing
 
@@ -86,10 +88,6 @@ decodes_nothing n place (o ∷ os) = (tt, decodes_nothing n (suc place) os)
 abbrev pub HoldingOf : Machine → State → Type 0
 HoldingOf m S = Holding m.sizes S.places S.copies S.versions S.mail
 
-some_unit : (o : Option (Unit {0})) → is_some o ≡ true → o ≡ Some tt
-some_unit None e = absurd (true≢false (sym e))
-some_unit (Some tt) e = refl
-
 module _ (m : Machine) (ts : List Task) (S : State) (s : AreOpeningsSound m ts S) (h : HoldingOf m S) where
   -- the mail with more messages that hold nothing
   hold_sent : (n : Mail) (xs : List Message) → AllSent HoldsNothing xs
@@ -121,12 +119,12 @@ module _ (m : Machine) (ts : List Task) (S : State) (s : AreOpeningsSound m ts S
     no_gone_yet : get S.mail.gones o ≡ None
     no_gone_yet = elim (decide_get S.mail.gones o) [
       | inl e ↦ e
-      | inr g ↦ absurd (undecoded (s.0.1.8.10 o g.0 g.1).0.2)
+      | inr g ↦ absurd (undecoded (s.0.1.8.10 o g.0 g.1).0.0.2)
     ]
 
     no_copy_yet : IsCopied S.copies o → ⊥
     no_copy_yet k =
-        undecoded (ap (get S.mail.decodes) (sym k.3) ∙ (s.0.1.7 k.0 k.1 k.2).0.2)
+        undecoded (ap (get S.mail.decodes) (sym k.3) ∙ (s.0.1.7 k.0 k.1 k.2).0.0.2)
 
     hold_opens : (c : OpenContents) → c.operand ≡ operand
         → HoldsPlaces m.sizes (insert S.places o (bank_of m.sizes operand.object)) S.copies S.versions
@@ -140,7 +138,8 @@ module _ (m : Machine) (ts : List Task) (S : State) (s : AreOpeningsSound m ts S
     -- with the operand's message and place
     abbrev HoldsWith : Option Entry → Mode → Message → Type 0
     HoldsWith entry mode x =
-        Holding m.sizes (places_after_decode S.places o (bank_of m.sizes operand.object) (takes_place entry mode)) S.copies
+        Holding m.sizes
+        (places_after_decode S.places o (bank_of m.sizes operand.object) (takes_place entry mode)) S.copies
         S.versions (posted (taken S.mail (event.Decode o)) x)
 
     hold_live : (e : Entry) (mode : Mode) → HoldsWith (Some e) mode (live_message o operand e mode)
@@ -254,7 +253,8 @@ module _ (m : Machine) (ts : List Task) (S : State) (s : AreOpeningsSound m ts S
       → Holding m.sizes S.places (copies_after_copy S.copies b c last) S.versions
       (posted_all S.mail (sent_by_copy c last))
   hold_copied b c e true =
-      held_home m.sizes S.places S.copies S.versions S.mail.opens S.mail.gones h b c (retired c.object (Some c.buffer)) e
+      held_home m.sizes S.places S.copies S.versions S.mail.opens S.mail.gones h b c
+      (retired c.object (Some c.buffer)) e
       refl
   hold_copied b c e false =
       held_moved m.sizes S.places S.copies S.versions S.mail.opens S.mail.gones h b c

@@ -13,17 +13,7 @@ use Rattle.tss_protocol.specs.State.{Version, CopyState}
 use Rattle.tss_protocol.specs.Buffers.{new_copy}
 use Rattle.tss_laws.specs.Held.{IsCopied, HoldsPlaces}
 use Rattle.tss_laws.proofs.JointLemmas.{IsJoint}
-
--- where nothing stood, nothing stands after a removal
-still_none : {X : Type 0} (m : Named X) (k q : OpName) → get m q ≡ None → get (remove m k) q ≡ None
-still_none m k q none = elim (decide_key name_order q k) [
-  | inl same ↦ ap (get (remove m k)) same ∙ at_removed name_order m k
-  | inr other ↦ beside_removed name_order m k q other ∙ none
-]
-
--- a key at which something stands isn't one at which nothing does
-apart : {X : Type 0} (m : Named X) (q k : OpName) (x : X) → get m q ≡ Some x → get m k ≡ None → q ≢ k
-apart m q k x there none same = none-some x (sym none ∙ ap (get m) (sym same) ∙ there)
+use Rattle.tss_laws.proofs.PlainLemmas.{name_apart, still_none}
 
 module _ (sizes : Sizes) (places : Named ℕ) (copies : Numbered CopyState) (vs : Named Version)
     (os : Named OpenContents) (gs : Named GoneContents) (h : HoldsPlaces sizes places copies vs os gs) where
@@ -57,7 +47,7 @@ module _ (sizes : Sizes) (places : Named ℕ) (copies : Numbered CopyState) (vs 
         ];
         versions = λ v x e.
             let r = h.versions v x e in
-            let other = apart vs v o x e no_version in (
+            let other = name_apart vs v o x e no_version in (
               beside_inserted name_order places o bank v other ∙ r.0,
               beside_inserted name_order os o c v other ∙ r.1,
               r.2,
@@ -65,7 +55,7 @@ module _ (sizes : Sizes) (places : Named ℕ) (copies : Numbered CopyState) (vs 
             );
         gones = λ v g e.
             let r = h.gones v g e in
-            (beside_inserted name_order places o bank v (apart gs v o g e no_gone) ∙ r.0, r.1);
+            (beside_inserted name_order places o bank v (name_apart gs v o g e no_gone) ∙ r.0, r.1);
         copied = λ b d e.
             let r = h.copied b d e in
             (beside_inserted name_order places o bank d.version (λ same. no_copy (b, d, e, same)) ∙ r.0, r.1);
@@ -124,7 +114,7 @@ module _ (sizes : Sizes) (places : Named ℕ) (copies : Numbered CopyState) (vs 
         ];
         opens = λ q d f.
             let r = h.opens q d f in
-            (r.0, beside_inserted name_order vs v y q (apart os q v d f here.1) ∙ r.1, r.2, r.3);
+            (r.0, beside_inserted name_order vs v y q (name_apart os q v d f here.1) ∙ r.1, r.2, r.3);
         versions = λ q z f. elim (from_inserted name_order vs v y q z f) [
           | inl new ↦ (
             ap (get places) new.0
@@ -156,7 +146,7 @@ module _ (sizes : Sizes) (places : Named ℕ) (copies : Numbered CopyState) (vs 
         ];
         opens = λ q d f.
             let r = h.opens q d f in
-            let other = apart os q v d f here.1 in
+            let other = name_apart os q v d f here.1 in
             (r.0, still_none vs v q r.1, beside_inserted name_order gs v g q other ∙ r.2, r.3);
         versions = λ q z f.
             let old = from_removed name_order vs v q z f in
@@ -207,12 +197,12 @@ module _ (sizes : Sizes) (places : Named ℕ) (copies : Numbered CopyState) (vs 
         ];
         opens = λ q d f.
             let r = h.opens q d f in
-            (r.0, still_none vs v q r.1, r.2, not_now q (apart os q v d f here.1) r.3);
+            (r.0, still_none vs v q r.1, r.2, not_now q (name_apart os q v d f here.1) r.3);
         versions = λ q z f.
             let old = from_removed name_order vs v q z f in
             let r = h.versions q z old.1 in
             (r.0, r.1, r.2, not_now q old.0 r.3);
-        gones = λ q g f. let r = h.gones q g f in (r.0, not_now q (apart gs q v g f here.2) r.1);
+        gones = λ q g f. let r = h.gones q g f in (r.0, not_now q (name_apart gs q v g f here.2) r.1);
         copied = λ b d f. elim (from_inserted nat_order copies bank c b d f) [
           | inl new ↦ (
             ap (λ (d : CopyState). get places d.version) new.1 ∙ here.0 ∙ ap Some (sym new.0),
@@ -249,7 +239,8 @@ module _ (sizes : Sizes) (places : Named ℕ) (copies : Numbered CopyState) (vs 
         copied = λ a k f. elim (from_inserted nat_order copies b d a k f) [
           | inl new ↦
               let r = h.copied b c e in (
-                ap (λ (k : CopyState). get places k.version) new.1 ∙ ap (get places) version ∙ r.0 ∙ ap Some (sym new.0),
+                ap (λ (k : CopyState). get places k.version) new.1 ∙ ap (get places) version ∙ r.0
+                    ∙ ap Some (sym new.0),
                 ap (λ (k : CopyState). bank_of sizes k.object) new.1
                     ∙ ap (bank_of sizes) object
                     ∙ r.1

@@ -1,5 +1,6 @@
--- A fact that joins the versions with the mail, kept by the events of the versioning tables where a few changes keep it.
-use Rattle.std.proofs.Common.{◌≡◌, ℕ, zero, suc, Bool, true, false, if◌then◌else◌, List, [], ◌∷◌, ◌++◌, Option, Some, None, refl, sym, subst, true≢false}
+-- A fact that joins the versions with the mail, kept by the events of the versioning tables where a few changes keep
+-- it.
+use Rattle.std.proofs.Common.{◌≡◌, ℕ, zero, suc, Bool, true, false, if◌then◌else◌, List, [], ◌∷◌, ◌++◌, Option, Some, None, refl, sym, subst}
 use Rattle.std.specs.Prelude.{not, ◌&&◌, ◌==◌, is_none}
 use Rattle.std.specs.FinMap.{get}
 use Rattle.std.proofs.lemmas.Bool.{and_parts}
@@ -13,6 +14,7 @@ use Rattle.tss_base.specs.Names.{Named}
 use Rattle.tss_protocol.specs.Mail.{StorageName, Source, GoneContents, OpenContents, ReleaseContents, Message, Ready, Link, Bye, Idle, Gone, Mail, posted, posted_all}
 use Rattle.tss_protocol.specs.State.{Version}
 use Rattle.tss_protocol.specs.Versions.{Versioned, Settling, sending, put_version, drop_version, version_changed, change_version, change_named, ready_with, buffer_of, may_die, may_ask, is_count, followed_by, unlinked, settle_how, settle_asking, unchanged, settle_by, settle_at, settle, settled, new_version, first_version, followed, opened_how, opened_by, after_open, enlisted, used_alone, used_behind, used_at, after_use, head_ready, produced_now, is_last, released_once, released_by, released_at, after_release}
+use Rattle.tss_laws.proofs.PlainLemmas.{none_from_test}
 
 -- such facts, and the changes that keep them: a version is written over with one that asks as it did, one that doesn't
 -- ask dies, one asks, and messages of stations are sent
@@ -32,10 +34,6 @@ pub record IsJoint (J : Named Version → Mail → Type 0) : Type 0 where
 pub posted_all-append : (m : Mail) (xs ys : List Message) → posted_all m (xs ++ ys) ≡ posted_all (posted_all m xs) ys
 posted_all-append m [] ys = refl
 posted_all-append m (x ∷ xs) ys = posted_all-append (posted m x) xs ys
-
-pub none_from_test : {X : Type 0} (o : Option X) → is_none o ≡ true → o ≡ None
-none_from_test None e = refl
-none_from_test (Some x) e = absurd (true≢false (sym e))
 
 module _ (J : Named Version → Mail → Type 0) (k : IsJoint J) where
   -- of an outcome, with its messages in the mail

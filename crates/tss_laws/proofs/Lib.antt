@@ -1,3 +1,4 @@
+pub mod PlainLemmas
 pub mod SentLemmas
 pub mod FrontLemmas
 pub mod SpawnLemmas
@@ -8,15 +9,19 @@ pub mod GatewayLemmas
 pub mod SlotLemmas
 pub mod BudgetLemmas
 pub mod BackLemmas
+pub mod QueueLemmas
 pub mod StageLemmas
 pub mod StageEvents
 pub mod NameLemmas
 pub mod VersionNames
+pub mod StationNames
 pub mod UnitNames
 pub mod NameEvents
 pub mod DecodedNames
+pub mod VersionFacts
 pub mod VersionObjects
 pub mod OpeningLemmas
+pub mod EnlistedNames
 pub mod PlaceLemmas
 pub mod TableLemmas
 pub mod JointLemmas

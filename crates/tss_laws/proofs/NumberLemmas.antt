@@ -160,7 +160,8 @@ module _ (m : Machine) (ts : List Task) (S T : State) (h : HasTaskNumbers m ts S
     each = h.each;
     inbox = λ t e. absurd (none-some t (sym (ap (λ f. f.inbox) p.front) ∙ e));
     flight = λ n y e.
-        elim (from_inserted nat_order S.flight p.task.number (entered p.task) n y (ap (λ b. get b.flight n) (sym p.back) ∙ e)) [
+        let there = ap (λ b. get b.flight n) (sym p.back) ∙ e in
+        elim (from_inserted nat_order S.flight p.task.number (entered p.task) n y there) [
           | inl here ↦ record {
             number = ap (λ (x : Flying). x.task.number) here.1 ∙ sym here.0;
             taken = subst (IsTaken T) (sym here.0) taken_itself;
@@ -225,4 +226,5 @@ HasTaskNumbers-initial_state m i = record {
 
 -- the law
 pub numbers_of_runs : TaskNumbersLaw
-numbers_of_runs = law_from HasTaskNumbers HasTaskNumbers HasTaskNumbers-initial_state HasTaskNumbers-after_event (λ m ts S h. h)
+numbers_of_runs =
+    law_from HasTaskNumbers HasTaskNumbers HasTaskNumbers-initial_state HasTaskNumbers-after_event (λ m ts S h. h)

@@ -1,6 +1,6 @@
 -- Of an operand's decode, open, use and version there is one at most.
 use Rattle.std.proofs.Common.{◌≡◌, ◌≢◌, ℕ, suc, ◌⊎◌, inl, inr, Bool, List, [], ◌∷◌, Option, Some, None, refl, sym, ap, ◌∙◌, subst}
-use Rattle.std.specs.FinMap.{get, insert, remove, get-empty}
+use Rattle.std.specs.FinMap.{get, insert, remove}
 use Rattle.std.proofs.lemmas.Option.{none-some}
 use Rattle.tss_base.specs.declared.range.Range.{Range}
 use Rattle.tss_base.specs.declared.operand.OpName.{OpName}
@@ -11,14 +11,13 @@ use Rattle.tss_base.specs.declared.operand.Task.{Task}
 use Rattle.tss_base.specs.declared.machine.Machine.{Machine}
 use Rattle.tss_base.specs.declared.event.Event.{Event}
 use Rattle.tss_base.specs.declared.event.Event.TheVariants as event
-use Rattle.tss_base.specs.Names.{name_cmp, Named}
-use Rattle.tss_base.specs.Image.{ImageState}
+use Rattle.tss_base.specs.Names.{Named}
 use Rattle.tss_maps.proofs.Keys.{name_order, decide_key}
 use Rattle.tss_maps.proofs.Changes.{beside_inserted, from_inserted, at_removed, beside_removed, from_removed, decide_get}
 use Rattle.tss_model.specs.Access.{operands_of}
 use Rattle.tss_model.specs.MainStep.{MainState, Call, main_call}
 use Rattle.tss_protocol.specs.Mail.{Source, OpenContents, ReleaseContents, IdleContents, GoneContents, Message, Mail, posted, posted_all, taken}
-use Rattle.tss_protocol.specs.State.{State, Flying, Busy, Entry, Version, CopyState, initial_state}
+use Rattle.tss_protocol.specs.State.{State, Flying, Busy, Entry, Version, CopyState}
 use Rattle.tss_protocol.specs.Names.{operand_name}
 use Rattle.tss_protocol.specs.Gateway.{decodes_from}
 use Rattle.tss_protocol.specs.Renaming.{live_message, decode_message}
@@ -27,12 +26,10 @@ use Rattle.tss_protocol.specs.Buffers.{is_last_piece}
 use Rattle.tss_protocol.specs.MainEvent.{call_next, main_by, after_call}
 use Rattle.tss_protocol.specs.UnitMachine.{IsEnabled, after_event, with_sent, without, after_take, decode_message_taken, open_message_taken, use_message_taken, ready_message_taken, link_message_taken, after_start, start_task, after_exec, after_finish, release_message_taken, bye_message_taken, idle_message_taken, nack_message_taken, retire_version, after_copy, gone_message_taken}
 use Rattle.tss_laws.specs.Tasks.{TasksFact, spawned_after_event, spawned_by_main, IsOperandOf}
-use Rattle.tss_laws.specs.Openings.{HasOpenings, OpeningsLaw}
 use Rattle.tss_laws.proofs.SentLemmas.{AllSent, IsLater, posted_all-later, after_open-later, after_use-later, after_release-later, after_nack-later, after_ready-later, after_link-later, flight_after_finish-later, after_idle-later, sent_by_retire-later, sent_by_copy-later}
 use Rattle.tss_laws.proofs.SpawnLemmas.{SpawnsAtMostOne, spawns_main}
-use Rattle.tss_laws.proofs.RunLemmas.{IsKept, law_from}
 use Rattle.tss_laws.proofs.GatewayLemmas.{operand_still}
-use Rattle.tss_laws.proofs.DecodedNames.{AreNamesDecoded, AreNamesDecoded-after_event, AreNamesDecoded-initial_state}
+use Rattle.tss_laws.proofs.DecodedNames.{AreNamesDecoded}
 use Rattle.tss_laws.proofs.VersionObjects.{objects_open, objects_use, objects_release, objects_nack, objects_retire}
 
 -- the facts, over the three maps
@@ -93,7 +90,8 @@ module _ (ts : List Task) (opens : Named OpenContents) (uses : Named OpName) (vs
   opens_with_open o c operand no_use no_version = record {
     opens = λ q d e. elim (from_inserted name_order opens o c q d e) [
       | inl here ↦
-          subst (λ (d : OpenContents). IsOperandOf ts q d.operand × (get uses q ≡ None) × (get vs q ≡ None)) (sym here.1)
+          subst (λ (d : OpenContents). IsOperandOf ts q d.operand × (get uses q ≡ None) × (get vs q ≡ None))
+          (sym here.1)
           (subst (λ q. IsOperandOf ts q c.operand × (get uses q ≡ None) × (get vs q ≡ None)) (sym here.0)
           (operand, no_use, no_version))
       | inr before ↦ h.opens q d before.1
@@ -200,30 +198,31 @@ module _ (m : Machine) (S : State) where
   openings_call (main, None) = record { opens = refl; uses = refl; versions = all_from S.versions }
   openings_call (main, Some t) = record { opens = refl; uses = refl; versions = all_from S.versions }
 
-  openings_main : (c : Option Call) → KeepsOpenings S (main_by m S c)
+  pub openings_main : (c : Option Call) → KeepsOpenings S (main_by m S c)
   openings_main None = record { opens = refl; uses = refl; versions = all_from S.versions }
   openings_main (Some call) = openings_call (main_call m.limits S.home S.main call)
 
-  openings_take : (t : Option Task) → KeepsOpenings S (after_take S t)
+  pub openings_take : (t : Option Task) → KeepsOpenings S (after_take S t)
   openings_take None = record { opens = refl; uses = refl; versions = all_from S.versions }
   openings_take (Some t) =
       let same = posted_all-taken S.mail t.number 0 (operands_of t) in
       record { opens = same.0; uses = same.1; versions = all_from S.versions }
 
-  openings_ready : (o : OpName) (c : Option Source)
+  pub openings_ready : (o : OpName) (c : Option Source)
       → KeepsOpenings S (ready_message_taken (without S (event.Ready o)) o c)
   openings_ready o None = record { opens = refl; uses = refl; versions = all_from S.versions }
   openings_ready o (Some source) =
       openings_sent S _ _ (record { opens = refl; uses = refl; versions = all_from S.versions })
       (after_ready-later S.flight o source)
 
-  openings_link : (o : OpName) (c : Option OpName) → KeepsOpenings S (link_message_taken (without S (event.Link o)) o c)
+  pub openings_link : (o : OpName) (c : Option OpName)
+      → KeepsOpenings S (link_message_taken (without S (event.Link o)) o c)
   openings_link o None = record { opens = refl; uses = refl; versions = all_from S.versions }
   openings_link o (Some next) =
       openings_sent S _ _ (record { opens = refl; uses = refl; versions = all_from S.versions })
       (after_link-later S.flight o next)
 
-  openings_bye : (o : OpName) (c : Option Bool) → KeepsOpenings S (bye_message_taken (without S (event.Bye o)) o c)
+  pub openings_bye : (o : OpName) (c : Option Bool) → KeepsOpenings S (bye_message_taken (without S (event.Bye o)) o c)
   openings_bye o None = record { opens = refl; uses = refl; versions = all_from S.versions }
   openings_bye o (Some promised) = record { opens = refl; uses = refl; versions = all_from S.versions }
 
@@ -231,15 +230,15 @@ module _ (m : Machine) (S : State) where
   openings_start_task w t ts None = record { opens = refl; uses = refl; versions = all_from S.versions }
   openings_start_task w t ts (Some x) = record { opens = refl; uses = refl; versions = all_from S.versions }
 
-  openings_start : (w : ℕ) (queue : List ℕ) → KeepsOpenings S (after_start m S w queue)
+  pub openings_start : (w : ℕ) (queue : List ℕ) → KeepsOpenings S (after_start m S w queue)
   openings_start w [] = record { opens = refl; uses = refl; versions = all_from S.versions }
   openings_start w (t ∷ ts) = openings_start_task w t ts (get S.flight t)
 
-  openings_exec : (w : ℕ) (b : Option Busy) → KeepsOpenings S (after_exec m S w b)
+  pub openings_exec : (w : ℕ) (b : Option Busy) → KeepsOpenings S (after_exec m S w b)
   openings_exec w None = record { opens = refl; uses = refl; versions = all_from S.versions }
   openings_exec w (Some b) = record { opens = refl; uses = refl; versions = all_from S.versions }
 
-  openings_finish : (w : ℕ) (b : Option Busy) → KeepsOpenings S (after_finish S w b)
+  pub openings_finish : (w : ℕ) (b : Option Busy) → KeepsOpenings S (after_finish S w b)
   openings_finish w None = record { opens = refl; uses = refl; versions = all_from S.versions }
   openings_finish w (Some b) =
       openings_sent S _ _ (record { opens = refl; uses = refl; versions = all_from S.versions })
@@ -248,7 +247,7 @@ module _ (m : Machine) (S : State) where
   abbrev Before : OpName → Range → Type 0
   Before v r = (y : Version) × (get S.versions v ≡ Some y) × (r ≡ y.object)
 
-  openings_release : (o : OpName) (c : Option ReleaseContents)
+  pub openings_release : (o : OpName) (c : Option ReleaseContents)
       → KeepsOpenings S (release_message_taken (without S (event.Release o)) o c)
   openings_release o None = record { opens = refl; uses = refl; versions = all_from S.versions }
   openings_release o (Some r) =
@@ -256,20 +255,20 @@ module _ (m : Machine) (S : State) where
       (record { opens = refl; uses = refl; versions = objects_release Before S.versions (all_from S.versions) o r })
       (after_release-later S.versions o r)
 
-  openings_idle : (v : OpName) (c : Option IdleContents)
+  pub openings_idle : (v : OpName) (c : Option IdleContents)
       → KeepsOpenings S (idle_message_taken (without S (event.Idle v)) v c)
   openings_idle v None = record { opens = refl; uses = refl; versions = all_from S.versions }
   openings_idle v (Some i) =
       openings_sent S _ _ (record { opens = refl; uses = refl; versions = all_from S.versions })
       (after_idle-later S.entries v i.base i.count)
 
-  openings_nack : (v : OpName) → KeepsOpenings S (nack_message_taken (without S (event.Nack v)) v)
+  pub openings_nack : (v : OpName) → KeepsOpenings S (nack_message_taken (without S (event.Nack v)) v)
   openings_nack v =
       openings_sent S _ _
       (record { opens = refl; uses = refl; versions = objects_nack Before S.versions (all_from S.versions) v })
       (after_nack-later S.versions v)
 
-  openings_retire : (v : OpName) (x : Option Version)
+  pub openings_retire : (v : OpName) (x : Option Version)
       → KeepsOpenings S (retire_version m (without S (event.Retire v)) v x)
   openings_retire v None = record { opens = refl; uses = refl; versions = all_from S.versions }
   openings_retire v (Some x) =
@@ -277,13 +276,13 @@ module _ (m : Machine) (S : State) where
       (record { opens = refl; uses = refl; versions = objects_retire Before S.versions (all_from S.versions) v })
       (sent_by_retire-later v x.object x.storage)
 
-  openings_copy : (b : ℕ) (c : Option CopyState) → KeepsOpenings S (after_copy S b c)
+  pub openings_copy : (b : ℕ) (c : Option CopyState) → KeepsOpenings S (after_copy S b c)
   openings_copy b None = record { opens = refl; uses = refl; versions = all_from S.versions }
   openings_copy b (Some c) =
       openings_sent S _ _ (record { opens = refl; uses = refl; versions = all_from S.versions })
       (sent_by_copy-later c (is_last_piece c))
 
-  openings_gone : (v : OpName) (c : Option GoneContents)
+  pub openings_gone : (v : OpName) (c : Option GoneContents)
       → KeepsOpenings S (gone_message_taken (without S (event.Gone v)) v c)
   openings_gone v None = record { opens = refl; uses = refl; versions = all_from S.versions }
   openings_gone v (Some g) = record { opens = refl; uses = refl; versions = all_from S.versions }
@@ -324,7 +323,7 @@ module _ (m : Machine) (ts : List Task) (S : State) (h : AreNamesDecoded m ts S)
   pub no_version_yet : get S.versions o ≡ None
   no_version_yet = elim (decide_get S.versions o) [
     | inl e ↦ e
-    | inr x ↦ absurd (undecoded (h.1.6 o x.0 x.1).0.2)
+    | inr x ↦ absurd (undecoded (h.1.6 o x.0 x.1).0.0.2)
   ]
 
 -- ---- decode, open, use
@@ -382,7 +381,7 @@ module _ (m : Machine) (ts : List Task) (S : State) (h : AreOpeningsSound m ts S
       (opens_spawned ts T.mail.opens T.mail.uses T.versions (opens_kept ts S T h.1 k) p.task)
 
   -- every event
-  opens_after_event : (e : Event) → IsEnabled m S e → OpensOf (spawned_after_event m S ts e) (after_event m S e)
+  pub opens_after_event : (e : Event) → IsEnabled m S e → OpensOf (spawned_after_event m S ts e) (after_event m S e)
   unfolding after_event
   opens_after_event event.Main on =
       opens_main (spawned_by_main m S ts (call_next m S)) _ (spawns_main m ts S on) (openings_main m S (call_next m S))
@@ -403,52 +402,3 @@ module _ (m : Machine) (ts : List Task) (S : State) (h : AreOpeningsSound m ts S
   opens_after_event (event.Retire v) on = opens_kept ts S _ h.1 (openings_retire m S v (get S.versions v))
   opens_after_event (event.Copy b) on = opens_kept ts S _ h.1 (openings_copy m S b (get S.copies b))
   opens_after_event (event.Gone v) on = opens_kept ts S _ h.1 (openings_gone m S v (get S.mail.gones v))
-
--- so it is kept
-pub AreOpeningsSound-after_event : IsKept AreOpeningsSound
-AreOpeningsSound-after_event m ts S e h on =
-    (AreNamesDecoded-after_event m ts S e h.0 on, opens_after_event m ts S h e on)
-
--- the first state has it
-pub AreOpeningsSound-initial_state : (m : Machine) (i : ImageState) → AreOpeningsSound m [] (initial_state i)
-AreOpeningsSound-initial_state m i = (
-  AreNamesDecoded-initial_state m i,
-  record {
-    opens = λ o c e. absurd (none-some c (sym (get-empty name_cmp o) ∙ e));
-    uses = λ o v e. absurd (none-some v (sym (get-empty name_cmp o) ∙ e));
-    versions = λ v x e. absurd (none-some x (sym (get-empty name_cmp v) ∙ e));
-  },
-)
-
--- ---- the law
-
--- as the law says it
-pub has_openings : (m : Machine) (ts : List Task) (S : State) → AreOpeningsSound m ts S → HasOpenings m ts S
-has_openings m ts S h = record {
-  opens = λ o c e.
-      let r = h.1.opens o c e in
-      record { operand = r.0; no_decode = (h.0.1.8.1 o c e).0.2; no_use = r.1; no_version = r.2 };
-  uses = λ o v e.
-      let r = h.1.uses o v e in
-      let none : get S.mail.opens o ≡ None =
-      elim (decide_get S.mail.opens o) [
-        | inl f ↦ f
-        | inr c ↦ absurd (none-some v (sym (h.1.opens o c.0 c.1).1 ∙ e))
-      ] in
-      record {
-        operand = r.0.0;
-        spawned = r.0.1;
-        mode = r.0.2;
-        no_decode = (h.0.1.8.2 o v e).0.2;
-        no_open = none;
-        no_version = r.1;
-      };
-  versions = λ v x e.
-      let r = h.1.versions v x e in
-      record { operand = r.0; spawned = r.1; object = r.2; no_decode = (h.0.1.6 v x e).0.2 };
-}
-
--- every run leaves such a state
-pub openings_of_runs : OpeningsLaw
-openings_of_runs =
-    law_from AreOpeningsSound HasOpenings AreOpeningsSound-initial_state AreOpeningsSound-after_event has_openings

@@ -29,8 +29,9 @@ use Rattle.tss_laws.proofs.TakeLemmas.{TakesTask}
 use Rattle.tss_laws.proofs.RunLemmas.{IsKeptAs}
 use Rattle.tss_laws.proofs.NumberLemmas.{taken_newest, last_taken_before}
 use Rattle.tss_laws.proofs.BackLemmas.{Standing, standing_by, standing_of, ReadiesOperand, StartsTask, FinishesTask, kept_by_standing}
-use Rattle.tss_laws.proofs.StageLemmas.{in_queue, from_queue, at_front, queued_from_test, waiting≢queued, waiting≢running, queued≢running}
-use Rattle.tss_laws.proofs.StageEvents.{IsStaged}
+use Rattle.tss_laws.proofs.QueueLemmas.{in_queue, from_queue, at_front}
+use Rattle.tss_laws.proofs.StageLemmas.{waiting≢queued, waiting≢running, queued≢running}
+use Rattle.tss_laws.proofs.StageEvents.{IsStaged, queued_from_test}
 
 -- a task in flight at this stage
 abbrev pub StandsAt : Numbered Flying → ℕ → Stage → Type 0
@@ -310,7 +311,8 @@ abbrev pub IsPlaced : TasksFact
 IsPlaced m ts S = Placed (standing_of S)
 
 -- the task in the inbox isn't in flight
-inbox_not_in_flight : (m : Machine) (ts : List Task) (S T : State) → IsStaged m ts S → (p : TakesTask m S T) → (s : Stage)
+inbox_not_in_flight : (m : Machine) (ts : List Task) (S T : State) → IsStaged m ts S → (p : TakesTask m S T)
+    → (s : Stage)
     → StandsAt S.flight p.task.number s → ⊥
 inbox_not_in_flight m ts S T h p s a =
     let taken = (h.0.flight p.task.number a.0 a.1).taken.1 in

@@ -67,7 +67,8 @@ module _ (vs : Named Version) (v : OpName) (x : Version) (next : Settling)
         | false ↦ tt
       ]
   settle_by-later (Some f) =
-      elim (may_die x f.last) as (λ b. AllSent IsLater (if b then settle_how vs v x f next f.how else unchanged vs).sent) [
+      elim (may_die x f.last)
+      as (λ b. AllSent IsLater (if b then settle_how vs v x f next f.how else unchanged vs).sent) [
         | true ↦ settle_how-later f f.how
         | false ↦ tt
       ]
@@ -88,9 +89,11 @@ pub settled-later : (vs : Named Version) (v : OpName) → AllSent IsLater (settl
 settled-later vs v = settle-later _ vs v
 
 module _ (vs : Named Version) (o : OpName) where
-  opened_how-later : (opening : OpenContents) (f : Follow) (how : How) → AllSent IsLater (opened_how vs o opening f how).sent
+  opened_how-later : (opening : OpenContents) (f : Follow) (how : How)
+      → AllSent IsLater (opened_how vs o opening f how).sent
   opened_how-later opening f Beside =
-      AllSent-append IsLater (ready_with o o opening.storage) _ (ready_with-later o o opening.storage) (settled-later _ _)
+      AllSent-append IsLater (ready_with o o opening.storage) _ (ready_with-later o o opening.storage)
+      (settled-later _ _)
   opened_how-later opening f Over = settled-later _ _
 
   opened_by-later : (opening : OpenContents) (f : Option Follow) → AllSent IsLater (opened_by vs o opening f).sent
@@ -105,7 +108,8 @@ module _ (vs : Named Version) (o : OpName) where
   used_alone-later v x true = ready_with-later o v x.storage
   used_alone-later v x false = tt
 
-  used_behind-later : (v : OpName) (x : Version) (tail : Option OpName) → AllSent IsLater (used_behind vs o v x tail).sent
+  used_behind-later : (v : OpName) (x : Version) (tail : Option OpName)
+      → AllSent IsLater (used_behind vs o v x tail).sent
   used_behind-later v x None = used_alone-later v x x.produced
   used_behind-later v x (Some last) = (tt, tt)
 
@@ -121,7 +125,8 @@ module _ (vs : Named Version) (o : OpName) where
   head_ready-later v x None = tt
   head_ready-later v x (Some h) = ready_with-later h v x.storage
 
-  released_by-later : (v : OpName) (x : Version) (producer : Bool) → AllSent IsLater (released_by vs o v x producer).sent
+  released_by-later : (v : OpName) (x : Version) (producer : Bool)
+      → AllSent IsLater (released_by vs o v x producer).sent
   released_by-later v x true =
       AllSent-append IsLater (head_ready v x x.head ++ Bye o false ∷ []) _
       (AllSent-append IsLater (head_ready v x x.head) _ (head_ready-later v x x.head) (tt, tt))
@@ -216,7 +221,8 @@ after_ready-later = after_ready-all IsLater (λ o source. tt) (λ o r. tt)
 pub after_link-later : (flight : Numbered Flying) (o next : OpName) → AllSent IsLater (after_link flight o next).sent
 after_link-later = after_link-all IsLater (λ o source. tt) (λ o r. tt)
 
-pub flight_after_finish-later : (flight : Numbered Flying) (task : ℕ) → AllSent IsLater (flight_after_finish flight task).sent
+pub flight_after_finish-later : (flight : Numbered Flying) (task : ℕ)
+    → AllSent IsLater (flight_after_finish flight task).sent
 flight_after_finish-later = flight_after_finish-all IsLater (λ o source. tt) (λ o r. tt)
 
 -- ---- idle, retire, copy

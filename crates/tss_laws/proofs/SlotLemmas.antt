@@ -47,7 +47,8 @@ module _ {X : Type 0} (p : ℕ → Bool) where
       → passing n ≤ passing m
   fewer_keys =
       map_induction nat_order
-      (λ n. (m : Numbered X) → ((q : ℕ) (y : X) → get n q ≡ Some y → (x : X) × (get m q ≡ Some x)) → passing n ≤ passing m)
+      (λ n. (m : Numbered X)
+      → ((q : ℕ) (y : X) → get n q ≡ Some y → (x : X) × (get m q ≡ Some x)) → passing n ≤ passing m)
       (λ m each. let z = sum_empty nat_order (λ k (x : X). one_if (p k)) in omega (arith, z))
       fewer_more
 
@@ -103,9 +104,11 @@ StaysWithinSlots-after_event =
 -- no task is in flight at first
 StaysWithinSlots-initial_state : (m : Machine) (i : ImageState) → StaysWithinSlots m [] (initial_state i)
 StaysWithinSlots-initial_state m i station =
-    let none = sum_empty {X = Flying} nat_order (λ task x. one_if (station_of m.sizes task == station)) in omega (arith, none)
+    let none = sum_empty {X = Flying} nat_order (λ task x. one_if (station_of m.sizes task == station)) in
+    omega (arith, none)
 
 -- the law
 pub slots_of_runs : SlotsLaw
 slots_of_runs =
-    law_from StaysWithinSlots StaysWithinSlots StaysWithinSlots-initial_state StaysWithinSlots-after_event (λ m ts S h. h)
+    law_from StaysWithinSlots StaysWithinSlots StaysWithinSlots-initial_state StaysWithinSlots-after_event
+    (λ m ts S h. h)

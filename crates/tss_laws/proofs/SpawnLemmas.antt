@@ -22,6 +22,7 @@ use Rattle.tss_model.specs.MainStep.{MainState, Flat, Call, ExitCall, Spawn, Bar
 use Rattle.tss_protocol.specs.State.{State}
 use Rattle.tss_protocol.specs.MainEvent.{flat_of, call_next, may_call, main_by, after_call}
 use Rattle.tss_protocol.specs.UnitMachine.{IsEnabled, is_enabled, after_event}
+use Rattle.tss_laws.proofs.PlainLemmas.{none_from_test}
 use Rattle.tss_laws.specs.Tasks.{with_spawned, spawned_by_main}
 use Rattle.tss_laws.proofs.FrontLemmas.{front_of, back_of}
 
@@ -41,7 +42,8 @@ length-after_first o (Ok rest) os n each h =
     let is : o ∷ rest ≡ os = cc in ap length (sym is) ∙ ap suc (each rest refl)
 
 length-with_rest : (r : Result Operand ℕ) (f : Operand → Result (List Operand) ℕ) (os : List Operand) (n : ℕ)
-    → ((o : Operand) (rest : List Operand) → f o ≡ Ok rest → length rest ≡ n) → with_rest r f ≡ Ok os → length os ≡ suc n
+    → ((o : Operand) (rest : List Operand) → f o ≡ Ok rest → length rest ≡ n) → with_rest r f ≡ Ok os
+    → length os ≡ suc n
 length-with_rest (Err k) f os n each h = absurd (cc)
 length-with_rest (Ok o) f os n each h = length-after_first o (f o) os n (each o) h
 
@@ -100,7 +102,8 @@ module _ (call : SpawnCall) (m : Memory) (named : List Range) (limits : Limits) 
       let room = else_of (nat_lt limits.epoch_objects (length (name_objects named (objects_of os)))) epoch_full _ t h in
       let more = else_of (nat_le limits.max_tasks spawned) too_many_tasks _ t room.1 in
       let is : task_of call (suc spawned) os (merged_operands os) ≡ t = cc in
-      let same = ap operands_of (sym is) ∙ take-front (merged_operands os) (replicate (7 - length (merged_operands os)) no_operand) in
+      let same = ap operands_of (sym is)
+      ∙ take-front (merged_operands os) (replicate (7 - length (merged_operands os)) no_operand) in
       record {
         number = ap (λ (x : Task). x.number) (sym is);
         operands = omega (arith, ap length same, few_merged os, many os refl, few);
@@ -189,12 +192,9 @@ pub record SpawnsOne (m : Machine) (ts us : List Task) (S T : State) : Type 0 wh
 abbrev pub SpawnsAtMostOne : Machine → List Task → List Task → State → State → Type 0
 SpawnsAtMostOne m ts us S T = SpawnsNothing ts us S T ⊎ SpawnsOne m ts us S T
 
-is_none-None : {X : Type 0} (o : Option X) → is_none o ≡ true → o ≡ None
-is_none-None None e = refl
-is_none-None (Some x) e = absurd (cc)
-
 module _ (m : Machine) (ts : List Task) (S : State) where
-  spawns_by_call : (r : Result Task ℕ) → spawn_of (spawn_call S.main.registers) S.home S.main.epoch m.limits S.main.spawned ≡ r
+  spawns_by_call : (r : Result Task ℕ)
+      → spawn_of (spawn_call S.main.registers) S.home S.main.epoch m.limits S.main.spawned ≡ r
       → S.inbox ≡ None
       → SpawnsAtMostOne m ts (with_spawned ts (spawn_on S.main r).1) S (after_call S (spawn_on S.main r))
   spawns_by_call (Err n) e empty = inl (record { list = refl; front = refl; back = refl })
@@ -219,7 +219,7 @@ module _ (m : Machine) (ts : List Task) (S : State) where
   spawns_by (Some ExitCall) may = inl (record { list = refl; front = refl; back = refl })
   spawns_by (Some Spawn) may =
       spawns_by_call (spawn_of (spawn_call S.main.registers) S.home S.main.epoch m.limits S.main.spawned) refl
-      (is_none-None S.inbox may)
+      (none_from_test S.inbox may)
   spawns_by (Some Barrier) may = inl (record { list = refl; front = refl; back = refl })
   spawns_by (Some Print) may = inl (record {
     list = refl;

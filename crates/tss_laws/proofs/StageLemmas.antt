@@ -1,69 +1,24 @@
 -- Each task in flight stands where its stage says, and what is queued or runs has its operands.
-use Rattle.std.proofs.Common.{◌≡◌, ◌≢◌, ◌↔◌, ℕ, ◌<◌, ◌≤◌, ◌⊎◌, inl, inr, Bool, true, false, if◌then◌else◌, List, [], ◌∷◌, ◌++◌, map, length, Option, Some, None, refl, sym, ap, ◌∙◌, subst, arith, true≢false}
-use Rattle.std.specs.Prelude.{◌==◌}
-use Rattle.std.specs.List.{list_any}
+use Rattle.std.proofs.Common.{◌≡◌, ◌≢◌, ◌↔◌, ℕ, ◌<◌, ◌≤◌, ◌⊎◌, inl, inr, Bool, true, false, if◌then◌else◌, List, [], ◌∷◌, ◌++◌, length, Option, Some, None, refl, sym, ap, ◌∙◌, subst, arith, true≢false}
+use Rattle.std.specs.List.{list_all}
+use Rattle.std.specs.Prelude.{◌&&◌, ◌==◌}
 use Rattle.std.specs.FinMap.{get, insert, remove}
-use Rattle.std.proofs.lemmas.Bool.{or_cases, or_left, or_right}
-use Rattle.std.proofs.lemmas.Bool.Decides.{nat_tests}
-use Rattle.std.proofs.lemmas.List.Folds.{list_any-append}
+use Rattle.std.proofs.lemmas.Bool.{or_right}
 use Rattle.std.proofs.lemmas.Option.{none-some, same_Some}
-use Rattle.tss_base.specs.declared.operand.Operand.{Operand}
 use Rattle.tss_base.specs.declared.operand.Task.{Task}
 use Rattle.tss_base.specs.declared.machine.Machine.{Machine}
-use Rattle.tss_base.specs.declared.event.Stage.{Stage}
 use Rattle.tss_base.specs.declared.event.Stage.TheVariants as stage
 use Rattle.tss_base.specs.Names.{Numbered}
 use Rattle.tss_maps.proofs.Keys.{nat_order, decide_key}
 use Rattle.tss_maps.proofs.Changes.{at_inserted, beside_inserted, from_inserted, beside_removed, from_removed}
 use Rattle.tss_model.specs.Access.{operands_of}
 use Rattle.tss_protocol.specs.State.{Flying, Busy}
-use Rattle.tss_protocol.specs.Stations.{is_complete, is_gone, remaining_tasks, new_operand, first_stage, entered, flight_after_take, flight_after_start, finished_in, storages_of}
+use Rattle.tss_protocol.specs.Stations.{is_complete, has_finished, has_left, is_gone, remaining_tasks, flight_after_start, finished_in, storages_of}
 use Rattle.tss_protocol.specs.Workers.{busy_at_start}
-use Rattle.tss_protocol.specs.UnitMachine.{queue_with, is_queued}
+use Rattle.tss_protocol.specs.UnitMachine.{queue_with}
 use Rattle.tss_laws.specs.Tasks.{task_at, taken_by}
 use Rattle.tss_laws.proofs.BackLemmas.{Standing}
-
--- ---- the queue
-
--- a number stands in it
-abbrev pub in_queue : ℕ → List ℕ → Bool
-in_queue n queue = list_any (λ k. k == n) queue
-
--- with one more, where it is queued
-pub still_queued : (queue : List ℕ) (t : ℕ) (c : Bool) (n : ℕ) → in_queue n queue ≡ true
-    → in_queue n (queue_with queue t c) ≡ true
-still_queued queue t true n e =
-    list_any-append (λ k. k == n) queue (t ∷ []) ∙ or_left (in_queue n queue) (in_queue n (t ∷ [])) e
-still_queued queue t false n e = e
-
-pub now_queued : (queue : List ℕ) (t : ℕ) → in_queue t (queue ++ t ∷ []) ≡ true
-now_queued queue t =
-    let same : (t == t) ≡ true = grind (arith, nat_tests) in
-    list_any-append (λ k. k == t) queue (t ∷ [])
-    ∙ or_right (in_queue t queue) (in_queue t (t ∷ [])) (or_left (t == t) false same)
-
-pub from_queue : (queue : List ℕ) (t : ℕ) (c : Bool) (n : ℕ) → in_queue n (queue_with queue t c) ≡ true
-    → (in_queue n queue ≡ true) ⊎ ((n ≡ t) × (c ≡ true))
-from_queue queue t false n e = inl e
-from_queue queue t true n e =
-    elim (or_cases (in_queue n queue) (in_queue n (t ∷ [])) (sym (list_any-append (λ k. k == n) queue (t ∷ [])) ∙ e)) [
-      | inl before ↦ inl before
-      | inr last ↦ elim (or_cases (t == n) false last) [
-        | inl same ↦ inr (grind (arith, nat_tests), refl)
-        | inr none ↦ absurd (true≢false (sym none))
-      ]
-    ]
-
--- behind the front
-pub from_rest : (t : ℕ) (ts : List ℕ) (n : ℕ) → in_queue n (t ∷ ts) ≡ true → n ≢ t → in_queue n ts ≡ true
-from_rest t ts n e other =
-    elim (or_cases (t == n) (in_queue n ts) e) [
-      | inl same ↦ let is : n ≡ t = grind (arith, nat_tests) in absurd (other is)
-      | inr rest ↦ rest
-    ]
-
-pub at_front : (t : ℕ) (ts : List ℕ) → in_queue t (t ∷ ts) ≡ true
-at_front t ts = let same : (t == t) ≡ true = grind (arith, nat_tests) in or_left (t == t) (in_queue t ts) same
+use Rattle.tss_laws.proofs.QueueLemmas.{in_queue, still_queued, now_queued, from_queue, from_rest, at_front}
 
 -- ---- the invariant, over where tasks stand
 
@@ -93,7 +48,7 @@ pub record Works (m : Machine) (ts : List Task) (p : Standing) (w : ℕ) (b : Bu
   pub budget : b.registers.done ≤ m.limits.task_budget
 
 -- it does so in what came of where tasks stood
-works_now : (m : Machine) (ts us : List Task) (p q : Standing) (w : ℕ) (b : Busy) → Works m ts p w b
+pub works_now : (m : Machine) (ts us : List Task) (p q : Standing) (w : ℕ) (b : Busy) → Works m ts p w b
     → (task_at ts b.task.number ≡ Some b.task → task_at us b.task.number ≡ Some b.task)
     → (TakenBy p b.task.number → TakenBy q b.task.number)
     → (TakenBy p b.task.number → CompleteAt p.flight b.task.number → CompleteAt q.flight b.task.number)
@@ -112,6 +67,7 @@ pub record Stages (m : Machine) (ts : List Task) (p : Standing) : Type 0 where
   pub waiting : (n : ℕ) (x : Flying) → get p.flight n ≡ Some x → WaitsForOperands x
   pub queued : (n : ℕ) (x : Flying) → get p.flight n ≡ Some x → x.stage ≡ stage.Queued → in_queue n p.queue ≡ true
   pub running : (n : ℕ) (x : Flying) → get p.flight n ≡ Some x → x.stage ≡ stage.Running → OnWorker p.workers n
+  pub staying : (n : ℕ) (x : Flying) → get p.flight n ≡ Some x → is_gone x ≡ false
   pub queue : (n : ℕ) → in_queue n p.queue ≡ true → TakenBy p n × CompleteAt p.flight n
   pub workers : (w : ℕ) (b : Busy) → get p.workers w ≡ Some b → Works m ts p w b
 
@@ -136,22 +92,31 @@ pub running≢finished : stage.Running ≡ stage.Finished → ⊥
 running≢finished e = cc
 
 -- a complete task at another stage doesn't wait
-past_waiting : (x : Flying) → is_complete x ≡ true → (x.stage ≡ stage.Waiting → ⊥) → WaitsForOperands x
+pub past_waiting : (x : Flying) → is_complete x ≡ true → (x.stage ≡ stage.Waiting → ⊥) → WaitsForOperands x
 past_waiting x complete past = (λ e. absurd (past e), λ e. absurd (true≢false (sym complete ∙ e)))
 
 -- ---- a change of one task in flight
 
--- at n stands y, if anything, and all others are as they were
+-- at n stands y, if anything, which stays in flight, and all others are as they were
 abbrev pub ChangesAt : Numbered Flying → Numbered Flying → ℕ → Flying → Type 0
 ChangesAt m k n y =
-    (q : ℕ) (z : Flying) → get k q ≡ Some z → ((q ≡ n) × (z ≡ y)) ⊎ ((q ≢ n) × (get m q ≡ Some z))
+    (q : ℕ) (z : Flying)
+    → get k q ≡ Some z
+    → ((q ≡ n) × (z ≡ y) × (is_gone y ≡ false)) ⊎ ((q ≢ n) × (get m q ≡ Some z))
+
+changes_inserted : (m : Numbered Flying) (n : ℕ) (y : Flying) → is_gone y ≡ false → ChangesAt m (insert m n y) n y
+changes_inserted m n y stays q z e =
+    elim (from_inserted nat_order m n y q z e) [
+      | inl here ↦ inl (here.0, here.1, stays)
+      | inr before ↦ inr before
+    ]
 
 changes_remaining : (m : Numbered Flying) (n : ℕ) (y : Flying) → ChangesAt m (remaining_tasks m n y) n y
-changes_remaining m n y =
-    elim (is_gone y) as (λ b. ChangesAt m (if b then remove m n else insert m n y) n y) [
-      | true ↦ λ q z e. inr (from_removed nat_order m n q z e)
-      | false ↦ from_inserted nat_order m n y
-    ]
+changes_remaining m n y = by (is_gone y) refl
+  where
+    by : (b : Bool) → is_gone y ≡ b → ChangesAt m (if b then remove m n else insert m n y) n y
+    by true gone q z e = inr (from_removed nat_order m n q z e)
+    by false stays q z e = changes_inserted m n y stays q z e
 
 -- where the change leaves it complete, a task that is complete stays so
 complete_changed : (m k : Numbered Flying) (n : ℕ) (x y : Flying) → get m n ≡ Some x → ChangesAt m k n y
@@ -161,37 +126,6 @@ complete_changed m k n x y there changes still q h z e =
       | inl here ↦ ap is_complete here.1 ∙ still (h x (ap (get m) here.0 ∙ there))
       | inr before ↦ h z before.1
     ]
-
--- ---- a task that is taken
-
--- a new task waits, or is queued where it has no operands
-entered_waits : (t : Task) (os : List Operand) → operands_of t ≡ os → WaitsForOperands (entered t)
-entered_waits t [] e =
-    let at = ap first_stage e in
-    past_waiting (entered t) (ap (λ os. is_complete (record (entered t) { operands = map new_operand os })) e)
-    (λ w. waiting≢queued (sym w ∙ at))
-entered_waits t (o ∷ os) e = (
-  λ w. ap (λ os. is_complete (record (entered t) { operands = map new_operand os })) e,
-  λ c. ap first_stage e,
-)
-
-entered_never_runs : (t : Task) (os : List Operand) → operands_of t ≡ os → (entered t).stage ≡ stage.Running → ⊥
-entered_never_runs t [] e at = queued≢running (sym (ap first_stage e) ∙ at)
-entered_never_runs t (o ∷ os) e at = waiting≢running (sym (ap first_stage e) ∙ at)
-
-pub queued_from_test : (s : Stage) → is_queued s ≡ true → s ≡ stage.Queued
-queued_from_test stage.Waiting e = absurd (true≢false (sym e))
-queued_from_test stage.Queued e = refl
-queued_from_test stage.Running e = absurd (true≢false (sym e))
-queued_from_test stage.Finished e = absurd (true≢false (sym e))
-
-complete_where_queued : (t : Task) → is_queued (entered t).stage ≡ true → is_complete (entered t) ≡ true
-complete_where_queued t e = by (operands_of t) refl
-  where
-    by : (os : List Operand) → operands_of t ≡ os → is_complete (entered t) ≡ true
-    by [] is = ap (λ os. is_complete (record (entered t) { operands = map new_operand os })) is
-    by (o ∷ os) is =
-        absurd (waiting≢queued (sym (ap first_stage is) ∙ queued_from_test (entered t).stage e))
 
 -- ---- events
 
@@ -230,6 +164,10 @@ module _ (m : Machine) (ts : List Task) (p : Standing) (h : Stages m ts p) where
             subst (OnWorker workers) (sym here.0) (running (ap (λ (w : Flying). w.stage) (sym here.1) ∙ at))
         | inr before ↦ others_running q before.0 (h.running q z before.1 at)
       ];
+      staying = λ q z e. elim (changes q z e) [
+        | inl here ↦ ap is_gone here.1 ∙ here.2
+        | inr before ↦ h.staying q z before.1
+      ];
       queue = λ q e. elim (from q e) [
         | inl before ↦
             let r = h.queue q before in
@@ -267,7 +205,7 @@ module _ (m : Machine) (ts : List Task) (p : Standing) (h : Stages m ts p) where
     stages_readied_by true e =
         stages_changed n x (queued_if true) there
         (insert p.flight n (queued_if true)) (p.queue ++ n ∷ []) p.workers
-        (from_inserted nat_order p.flight n (queued_if true))
+        (changes_inserted p.flight n (queued_if true) refl)
         (past_waiting (queued_if true) e (λ w. waiting≢queued (sym w)))
         still (λ at. now_queued p.queue n) (λ at. absurd (queued≢running at))
         (λ q other. still_queued p.queue n true q) (λ q other on. on)
@@ -277,14 +215,17 @@ module _ (m : Machine) (ts : List Task) (p : Standing) (h : Stages m ts p) where
         ])
         h.workers
     stages_readied_by false e =
-        stages_changed n x y there (insert p.flight n y) p.queue p.workers (from_inserted nat_order p.flight n y)
+        stages_changed n x y there (insert p.flight n y) p.queue p.workers
+        (changes_inserted p.flight n y
+        (ap (λ s. has_finished s && list_all (λ r. has_left r.farewell) y.operands) (not_before e)))
         (λ at. e, not_before)
         still (λ at. absurd (waiting≢queued (sym (not_before e) ∙ at)))
         (λ at. absurd (waiting≢running (sym (not_before e) ∙ at)))
         (λ q other i. i) (λ q other on. on) (λ q i. inl i) h.workers
 
   -- link, bye: the task goes on at its stage
-  pub stages_went_on : (n : ℕ) (x y : Flying) → get p.flight n ≡ Some x → y.stage ≡ x.stage → is_complete y ≡ is_complete x
+  pub stages_went_on : (n : ℕ) (x y : Flying) → get p.flight n ≡ Some x → y.stage ≡ x.stage
+      → is_complete y ≡ is_complete x
       → Stages m ts (record p { flight = remaining_tasks p.flight n y })
   stages_went_on n x y there same complete =
       let before = h.waiting n x there in
@@ -307,7 +248,7 @@ module _ (m : Machine) (ts : List Task) (p : Standing) (h : Stages m ts p) where
       let ready = h.queue t at_t in
       let y : Flying = record x { stage = stage.Running } in
       stages_changed t x y there (insert p.flight t y) rest (insert p.workers w (busy_at_start x))
-      (from_inserted nat_order p.flight t y)
+      (changes_inserted p.flight t y refl)
       (past_waiting y (ready.1 x there) (λ e. waiting≢running (sym e)))
       (λ e. e) (λ e. absurd (queued≢running (sym e)))
       (λ e. (w, busy_at_start x, at_inserted nat_order p.workers w (busy_at_start x), number))
@@ -340,6 +281,7 @@ module _ (m : Machine) (ts : List Task) (p : Standing) (h : Stages m ts p) where
   stages_executed w b c there task storages within = record {
     waiting = h.waiting;
     queued = h.queued;
+    staying = h.staying;
     running = λ n x e at.
         let on = h.running n x e at in
         elim (decide_key nat_order on.0 w) [
@@ -393,6 +335,7 @@ module _ (m : Machine) (ts : List Task) (p : Standing) (h : Stages m ts p) where
     running = λ n x f at.
         others_stay w b.task.number b there refl n
         (λ same. none-some x (sym e ∙ ap (get p.flight) (sym same) ∙ f)) (h.running n x f at);
+    staying = h.staying;
     queue = h.queue;
     workers = λ v c f.
         works_now m ts ts p (record p { workers = remove p.workers w }) v c
@@ -408,75 +351,3 @@ module _ (m : Machine) (ts : List Task) (p : Standing) (h : Stages m ts p) where
       (λ c. c) (λ at. absurd (queued≢finished (sym at))) (λ at. absurd (running≢finished (sym at)))
       (λ q other i. i) (others_stay w n b there refl) (λ q i. inl i)
       (λ v c f. h.workers v c (from_removed nat_order p.workers w v c f).1)
-
-  -- ---- spawn, take
-
-  -- the counter and the inbox change, and no task that was taken is no longer
-  pub stages_moved : (us : List Task) (spawned : ℕ) (inbox : Option Task)
-      → ((n : ℕ) → TakenBy p n → (1 ≤ n) × (n ≤ taken_by inbox spawned))
-      → ((n : ℕ) (t : Task) → task_at ts n ≡ Some t → task_at us n ≡ Some t)
-      → Stages m us (record p { spawned = spawned; inbox = inbox })
-  stages_moved us spawned inbox taken at = record {
-    waiting = h.waiting;
-    queued = h.queued;
-    running = h.running;
-    queue = λ n e. let r = h.queue n e in (taken n r.0, r.1);
-    workers = λ w b e.
-        works_now m ts us p (record p { spawned = spawned; inbox = inbox }) w b (h.workers w b e)
-        (at b.task.number b.task) (taken b.task.number) (λ taken complete. complete);
-  }
-
-  -- take: a task comes into flight that wasn't taken before
-  module _ (t : Task) (new : TakenBy p t.number → ⊥) (now : (1 ≤ t.number) × (t.number ≤ p.spawned))
-      (taken : (n : ℕ) → TakenBy p n → (1 ≤ n) × (n ≤ p.spawned)) where
-    abbrev after : Standing
-    after = record p {
-      inbox = None;
-      flight = flight_after_take p.flight t;
-      queue = queue_with p.queue t.number (is_queued (entered t).stage);
-    }
-
-    still_complete : (n : ℕ) → TakenBy p n → CompleteAt p.flight n → CompleteAt after.flight n
-    still_complete n before complete x e =
-        elim (from_inserted nat_order p.flight t.number (entered t) n x e) [
-          | inl here ↦ absurd (new (subst (TakenBy p) here.0 before))
-          | inr old ↦ complete x old.1
-        ]
-
-    entered_complete : is_queued (entered t).stage ≡ true → CompleteAt after.flight t.number
-    entered_complete queued x e =
-        elim (from_inserted nat_order p.flight t.number (entered t) t.number x e) [
-          | inl here ↦ ap is_complete here.1 ∙ complete_where_queued t queued
-          | inr old ↦ absurd (old.0 refl)
-        ]
-
-    pub stages_taken : Stages m ts after
-    stages_taken = record {
-      waiting = λ n x e. elim (from_inserted nat_order p.flight t.number (entered t) n x e) [
-        | inl here ↦ subst WaitsForOperands (sym here.1) (entered_waits t (operands_of t) refl)
-        | inr old ↦ h.waiting n x old.1
-      ];
-      queued = λ n x e at. elim (from_inserted nat_order p.flight t.number (entered t) n x e) [
-        | inl here ↦
-            let is = ap (λ (y : Flying). is_queued y.stage) (sym here.1) ∙ ap is_queued at in
-            ap (λ n. in_queue n after.queue) here.0
-            ∙ ap (λ c. in_queue t.number (queue_with p.queue t.number c)) is
-            ∙ now_queued p.queue t.number
-        | inr old ↦ still_queued p.queue t.number (is_queued (entered t).stage) n (h.queued n x old.1 at)
-      ];
-      running = λ n x e at. elim (from_inserted nat_order p.flight t.number (entered t) n x e) [
-        | inl here ↦
-            absurd (entered_never_runs t (operands_of t) refl (ap (λ (y : Flying). y.stage) (sym here.1) ∙ at))
-        | inr old ↦ h.running n x old.1 at
-      ];
-      queue = λ n e. elim (from_queue p.queue t.number (is_queued (entered t).stage) n e) [
-        | inl before ↦ let r = h.queue n before in (taken n r.0, still_complete n r.0 r.1)
-        | inr last ↦ (
-          subst (λ n. (1 ≤ n) × (n ≤ p.spawned)) (sym last.0) now,
-          subst (CompleteAt after.flight) (sym last.0) (entered_complete last.1),
-        )
-      ];
-      workers = λ w b e.
-          works_now m ts ts p after w b (h.workers w b e) (λ at. at) (taken b.task.number)
-          (still_complete b.task.number);
-    }

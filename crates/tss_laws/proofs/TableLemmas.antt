@@ -116,7 +116,8 @@ module _ {K X : Type 0} {R : K → K → Ordering} (order : IsKeyOrder R) (p : K
 entries_written : (sizes : Sizes) (entries : Numbered Entry) (base : ℕ) (e f : Entry) → get entries base ≡ Some e
     → f.object ≡ e.object → (b : ℕ) → entries_in sizes b (insert entries base f) ≡ entries_in sizes b entries
 entries_written sizes entries base e f there same b =
-    let w = sum_written nat_order (λ (base : ℕ) (e : Entry). one_if (bank_of sizes e.object == b)) entries base e f there in
+    let ones : ℕ → Entry → ℕ = λ base e. one_if (bank_of sizes e.object == b) in
+    let w = sum_written nat_order ones entries base e f there in
     let weight = ap (λ o. one_if (bank_of sizes o == b)) same in
     omega (arith, w, weight)
 

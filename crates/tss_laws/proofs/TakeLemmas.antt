@@ -1,9 +1,8 @@
 -- What take, decode and ack do to the front, and what stands under the names of a task's operands after its take.
 use Rattle.std.proofs.Common.{◌≡◌, ◌≢◌, ℕ, zero, suc, ◌+◌, ◌<◌, ◌⊎◌, inl, inr, true, List, [], ◌∷◌, Option, Some, None, refl, ap, ◌∙◌, arith}
-use Rattle.std.specs.Prelude.{◌==◌, slice_get, is_some}
+use Rattle.std.specs.Prelude.{◌==◌, slice_get}
 use Rattle.std.specs.FinMap.{get, insert, remove, len}
 use Rattle.std.proofs.lemmas.Bool.{and_parts}
-use Rattle.std.proofs.lemmas.Bool.Decides.{nat_tests}
 use Rattle.tss_base.specs.declared.operand.OpName.{OpName}
 use Rattle.tss_base.specs.declared.operand.Mode.{Mode}
 use Rattle.tss_base.specs.declared.operand.Mode.TheVariants.{Input, Output, Inout}
@@ -23,6 +22,7 @@ use Rattle.tss_protocol.specs.Stations.{has_slot, entered, flight_after_take}
 use Rattle.tss_protocol.specs.Renaming.{decode_message, live_message}
 use Rattle.tss_protocol.specs.UnitMachine.{IsEnabled, queue_with, is_queued, is_enabled, after_event, can_take, after_take, without, can_decode_message, decode_message_taken}
 use Rattle.tss_laws.proofs.FrontLemmas.{front_of, back_of}
+use Rattle.tss_laws.proofs.PlainLemmas.{some_unit, zero_from_test}
 
 -- ---- something for each of a task's operands, under its name
 
@@ -49,7 +49,8 @@ module _ {X : Type 0} (f : Operand → X) where
       let is : o ≡ x = cc in
       let here : place + 0 ≡ place = omega arith in
       ap (λ p. get (spread f (insert m (operand_name task place) (f o)) task (suc place) os) (operand_name task p)) here
-      ∙ beside_spread (insert m (operand_name task place) (f o)) task (suc place) os (operand_name task place) (omega arith)
+      ∙ beside_spread (insert m (operand_name task place) (f o)) task (suc place) os (operand_name task place)
+      (omega arith)
       ∙ at_inserted name_order m (operand_name task place) (f o)
       ∙ ap (λ x. Some (f x)) is
   at_spread m task place (o ∷ os) (suc i) x e =
@@ -108,9 +109,6 @@ pub record TakesTask (m : Machine) (S T : State) : Type 0 where
         flight = flight_after_take S.flight task;
         queue = queue_with S.queue task.number (is_queued (entered task).stage);
       }
-
-zero_from_test : (n : ℕ) → (n == 0) ≡ true → n ≡ 0
-zero_from_test n e = grind (arith, nat_tests)
 
 takes_by : (m : Machine) (S : State) (t : Option Task) → S.inbox ≡ t → can_take m S t ≡ true
     → TakesTask m S (after_take S t)
@@ -172,10 +170,6 @@ pub record AcknowledgesOperand (S T : State) (o : OpName) : Type 0 where
   pub there : get S.mail.acks o ≡ Some tt
   pub front : front_of T ≡ record (front_of S) { gateway = remove S.gateway o; acks = remove S.mail.acks o }
   pub back : back_of T ≡ back_of S
-
-some_unit : (o : Option (Unit {0})) → is_some o ≡ true → o ≡ Some tt
-some_unit None e = absurd (cc)
-some_unit (Some tt) e = refl
 
 module _ (m : Machine) (S : State) where
   -- take takes the inbox's task

@@ -18,25 +18,25 @@ use Rattle.tss_laws.specs.Names.{WhereThere, EachEntry, StorageNames, VersionNam
 use Rattle.tss_laws.proofs.SentLemmas.{AllSent, AllSent-append}
 use Rattle.tss_laws.proofs.NameLemmas.{each_inserted, each_removed}
 
-module _ (P : OpName → Type 0) where
+module _ (P E : OpName → Type 0) where
   -- of each version's name and of the names in it
   abbrev pub VersionsNames : Named Version → Type 0
-  VersionsNames vs = EachEntry (λ v x. P v × VersionNames P x) vs
+  VersionsNames vs = EachEntry (λ v x. E v × VersionNames P E x) vs
 
   -- of what an event leaves and sends
   pub record OutcomeNames (d : Versioned) : Type 0 where
     pub part : VersionsNames d.part
-    pub sent : AllSent (MessageNames P) d.sent
+    pub sent : AllSent (MessageNames P E) d.sent
 
-  names_put : (vs : Named Version) (v : OpName) (x : Version) → VersionsNames vs → P v → VersionNames P x
+  names_put : (vs : Named Version) (v : OpName) (x : Version) → VersionsNames vs → E v → VersionNames P E x
       → VersionsNames (put_version vs v x)
-  names_put vs v x each name new = each_inserted name_order (λ v x. P v × VersionNames P x) vs v x each (name, new)
+  names_put vs v x each name new = each_inserted name_order (λ v x. E v × VersionNames P E x) vs v x each (name, new)
 
   names_drop : (vs : Named Version) (v : OpName) → VersionsNames vs → VersionsNames (drop_version vs v)
-  names_drop vs v each = each_removed name_order (λ v x. P v × VersionNames P x) vs v each
+  names_drop vs v each = each_removed name_order (λ v x. E v × VersionNames P E x) vs v each
 
   -- a change that keeps the names in each version
-  module _ (f : Version → Version) (keeps : (x : Version) → VersionNames P x → VersionNames P (f x)) where
+  module _ (f : Version → Version) (keeps : (x : Version) → VersionNames P E x → VersionNames P E (f x)) where
     names_changed_by : (vs : Named Version) (v : OpName) (x : Option Version) → get vs v ≡ x → VersionsNames vs
         → VersionsNames (version_changed vs v f x)
     names_changed_by vs v None e each = each
@@ -53,8 +53,8 @@ module _ (P : OpName → Type 0) where
 
   -- ---- messages
 
-  names_ready : (o v : OpName) (s : Option StorageName) → P o → P v → WhereThere (StorageNames P) s
-      → AllSent (MessageNames P) (ready_with o v s)
+  names_ready : (o v : OpName) (s : Option StorageName) → E o → E v → WhereThere (StorageNames P) s
+      → AllSent (MessageNames P E) (ready_with o v s)
   names_ready o v None first second storage = tt
   names_ready o v (Some s) first second storage = ((first, (second, storage)), tt)
 
@@ -63,24 +63,24 @@ module _ (P : OpName → Type 0) where
   names_buffer (Some Home) storage = tt
   names_buffer (Some (Buffer b)) storage = storage
 
-  names_sending : (ms : List Message) (d : Versioned) → AllSent (MessageNames P) ms → OutcomeNames d
+  names_sending : (ms : List Message) (d : Versioned) → AllSent (MessageNames P E) ms → OutcomeNames d
       → OutcomeNames (sending ms d)
   names_sending ms d sent h =
-      record { part = h.part; sent = AllSent-append (MessageNames P) ms d.sent sent h.sent }
+      record { part = h.part; sent = AllSent-append (MessageNames P E) ms d.sent sent h.sent }
 
   names_unchanged : (vs : Named Version) → VersionsNames vs → OutcomeNames (unchanged vs)
   names_unchanged vs each = record { part = each; sent = tt }
 
   -- ---- settle
 
-  names_followed_by : (s : OpName) (f : Option Follow) → P s
-      → WhereThere (λ (f : Follow). P f.version) (followed_by s f)
+  names_followed_by : (s : OpName) (f : Option Follow) → E s
+      → WhereThere (λ (f : Follow). E f.version) (followed_by s f)
   names_followed_by s None name = tt
   names_followed_by s (Some f) name = name
 
-  module _ (vs : Named Version) (v : OpName) (x : Version) (each : VersionsNames vs) (name : P v)
-      (here : VersionNames P x) where
-    names_unlinked : (s : OpName) → P s → VersionsNames (unlinked vs v x s)
+  module _ (vs : Named Version) (v : OpName) (x : Version) (each : VersionsNames vs) (name : E v)
+      (here : VersionNames P E x) where
+    names_unlinked : (s : OpName) → E s → VersionsNames (unlinked vs v x s)
     names_unlinked s next =
         names_changed (λ y. record y { predecessor = x.predecessor })
         (λ y h. record {
@@ -101,7 +101,7 @@ module _ (P : OpName → Type 0) where
         })
         (drop_version vs v) x.predecessor (names_drop vs v each))
 
-    names_settle_over : (s : OpName) → P s → OutcomeNames (settle_over vs v x s)
+    names_settle_over : (s : OpName) → E s → OutcomeNames (settle_over vs v x s)
     names_settle_over s next = record {
       part =
           names_changed (λ y. record y { storage = x.storage })
@@ -117,12 +117,12 @@ module _ (P : OpName → Type 0) where
     }
 
     module _ (go : Settling)
-        (rest : (ws : Named Version) (w : OpName) → VersionsNames ws → P w → OutcomeNames (go ws w)) where
-      names_settle_how : (f : Follow) → P f.version → (how : How) → OutcomeNames (settle_how vs v x f go how)
+        (rest : (ws : Named Version) (w : OpName) → VersionsNames ws → OutcomeNames (go ws w)) where
+      names_settle_how : (f : Follow) → E f.version → (how : How) → OutcomeNames (settle_how vs v x f go how)
       names_settle_how f next Beside =
           names_sending (died v x.object (buffer_of x.storage) ∷ []) (go (unlinked vs v x f.version) f.version)
           ((name, names_buffer x.storage here.storage), tt)
-          (rest (unlinked vs v x f.version) f.version (names_unlinked f.version next) next)
+          (rest (unlinked vs v x f.version) f.version (names_unlinked f.version next))
       names_settle_how f next Over = names_settle_over f.version next
 
       names_asking : OutcomeNames (settle_asking vs v x)
@@ -138,7 +138,7 @@ module _ (P : OpName → Type 0) where
         sent = (name, tt);
       }
 
-      names_settle_by : (f : Option Follow) → WhereThere (λ (f : Follow). P f.version) f
+      names_settle_by : (f : Option Follow) → WhereThere (λ (f : Follow). E f.version) f
           → OutcomeNames (settle_by vs v x go f)
       names_settle_by None next =
           elim (may_ask x) as (λ b. OutcomeNames (if b then settle_asking vs v x else unchanged vs)) [
@@ -152,35 +152,35 @@ module _ (P : OpName → Type 0) where
           ]
 
   names_settle_at : (vs : Named Version) (v : OpName) (go : Settling)
-      → ((ws : Named Version) (w : OpName) → VersionsNames ws → P w → OutcomeNames (go ws w)) → (x : Option Version)
+      → ((ws : Named Version) (w : OpName) → VersionsNames ws → OutcomeNames (go ws w)) → (x : Option Version)
       → get vs v ≡ x → VersionsNames vs → OutcomeNames (settle_at vs v go x)
   names_settle_at vs v go rest None e each = names_unchanged vs each
   names_settle_at vs v go rest (Some x) e each =
       let here = each v x e in names_settle_by vs v x each here.0 here.1 go rest x.successor here.1.successor
 
-  names_settle : (n : ℕ) (vs : Named Version) (v : OpName) → VersionsNames vs → P v → OutcomeNames (settle n vs v)
+  names_settle : (n : ℕ) (vs : Named Version) (v : OpName) → VersionsNames vs → OutcomeNames (settle n vs v)
   unfolding settle
-  names_settle zero vs v each name = names_unchanged vs each
-  names_settle (suc n) vs v each name = names_settle_at vs v (settle n) (names_settle n) (get vs v) refl each
+  names_settle zero vs v each = names_unchanged vs each
+  names_settle (suc n) vs v each = names_settle_at vs v (settle n) (names_settle n) (get vs v) refl each
 
-  names_settled : (vs : Named Version) (v : OpName) → VersionsNames vs → P v → OutcomeNames (settled vs v)
-  names_settled vs v each name = names_settle _ vs v each name
+  names_settled : (vs : Named Version) (v : OpName) → VersionsNames vs → OutcomeNames (settled vs v)
+  names_settled vs v each = names_settle _ vs v each
 
   -- ---- open
 
   names_new : (object : Range) (s : Option StorageName) → WhereThere (StorageNames P) s
-      → VersionNames P (new_version object s)
+      → VersionNames P E (new_version object s)
   names_new object s storage =
       record { storage = storage; head = tt; tail = tt; predecessor = tt; successor = tt }
 
-  names_first : (o : OpName) (object : Range) (s : Option StorageName) (mode : Mode) → P o
-      → WhereThere (StorageNames P) s → VersionNames P (first_version o object s mode)
+  names_first : (o : OpName) (object : Range) (s : Option StorageName) (mode : Mode) → E o
+      → WhereThere (StorageNames P) s → VersionNames P E (first_version o object s mode)
   names_first o object s Input name storage =
       record { storage = storage; head = tt; tail = name; predecessor = tt; successor = tt }
   names_first o object s Output name storage = names_new object s storage
   names_first o object s Inout name storage = names_new object s storage
 
-  module _ (vs : Named Version) (o : OpName) (c : OpenContents) (each : VersionsNames vs) (name : P o)
+  module _ (vs : Named Version) (o : OpName) (c : OpenContents) (each : VersionsNames vs) (name : E o)
       (storage : WhereThere (StorageNames P) c.storage) where
     names_followed : (f : Follow) → P f.version → VersionsNames (followed vs o c f)
     names_followed f before =
@@ -200,9 +200,9 @@ module _ (P : OpName → Type 0) where
     names_opened_how f before Beside =
         names_sending (ready_with o o c.storage) (settled (followed vs o c f) f.version)
         (names_ready o o c.storage name name storage)
-        (names_settled (followed vs o c f) f.version (names_followed f before) before)
+        (names_settled (followed vs o c f) f.version (names_followed f before))
     names_opened_how f before Over =
-        names_settled (followed vs o c f) f.version (names_followed f before) before
+        names_settled (followed vs o c f) f.version (names_followed f before)
 
     names_opened_by : (f : Option Follow) → WhereThere (λ (f : Follow). P f.version) f
         → OutcomeNames (opened_by vs o c f)
@@ -214,15 +214,15 @@ module _ (P : OpName → Type 0) where
     }
     names_opened_by (Some f) before = names_opened_how f before f.how
 
-  pub names_open : (vs : Named Version) (o : OpName) (c : OpenContents) → VersionsNames vs
-      → P o × WhereThere (StorageNames P) c.storage × WhereThere (λ (f : Follow). P f.version) c.follows
+  pub names_open : (vs : Named Version) (o : OpName) (c : OpenContents) → VersionsNames vs → E o
+      → WhereThere (StorageNames P) c.storage → WhereThere (λ (f : Follow). P f.version) c.follows
       → OutcomeNames (after_open vs o c)
-  names_open vs o c each h = names_opened_by vs o c each h.0 h.1 c.follows h.2
+  names_open vs o c each name storage before = names_opened_by vs o c each name storage c.follows before
 
   -- ---- use
 
-  module _ (vs : Named Version) (o v : OpName) (x : Version) (each : VersionsNames vs) (reader : P o) (name : P v)
-      (here : VersionNames P x) where
+  module _ (vs : Named Version) (o v : OpName) (x : Version) (each : VersionsNames vs) (reader : E o) (name : E v)
+      (here : VersionNames P E x) where
     names_used_alone : (produced : Bool) → OutcomeNames (used_alone vs o v x produced)
     names_used_alone true = record {
       part =
@@ -247,7 +247,7 @@ module _ (P : OpName → Type 0) where
       sent = tt;
     }
 
-    names_used_behind : (tail : Option OpName) → WhereThere P tail → OutcomeNames (used_behind vs o v x tail)
+    names_used_behind : (tail : Option OpName) → WhereThere E tail → OutcomeNames (used_behind vs o v x tail)
     names_used_behind None last = names_used_alone x.produced
     names_used_behind (Some t) last = record {
       part =
@@ -261,26 +261,26 @@ module _ (P : OpName → Type 0) where
       sent = ((last, reader), tt);
     }
 
-  names_used_at : (vs : Named Version) (o v : OpName) (x : Option Version) → get vs v ≡ x → VersionsNames vs → P o
-      → P v → OutcomeNames (used_at vs o v x)
-  names_used_at vs o v None e each reader name = names_unchanged vs each
-  names_used_at vs o v (Some x) e each reader name =
-      let here = (each v x e).1 in names_used_behind vs o v x each reader name here x.tail here.tail
+  names_used_at : (vs : Named Version) (o v : OpName) (x : Option Version) → get vs v ≡ x → VersionsNames vs → E o
+      → OutcomeNames (used_at vs o v x)
+  names_used_at vs o v None e each reader = names_unchanged vs each
+  names_used_at vs o v (Some x) e each reader =
+      let here = each v x e in names_used_behind vs o v x each reader here.0 here.1 x.tail here.1.tail
 
-  pub names_use : (vs : Named Version) (o v : OpName) → VersionsNames vs → P o × P v → OutcomeNames (after_use vs o v)
-  names_use vs o v each h = names_used_at vs o v (get vs v) refl each h.0 h.1
+  pub names_use : (vs : Named Version) (o v : OpName) → VersionsNames vs → E o → OutcomeNames (after_use vs o v)
+  names_use vs o v each reader = names_used_at vs o v (get vs v) refl each reader
 
   -- ---- release
 
-  module _ (vs : Named Version) (o v : OpName) (x : Version) (each : VersionsNames vs) (user : P o) (name : P v)
-      (here : VersionNames P x) where
-    names_head : (head : Option OpName) → WhereThere P head → AllSent (MessageNames P) (head_ready v x head)
+  module _ (vs : Named Version) (o v : OpName) (x : Version) (each : VersionsNames vs) (user : E o) (name : E v)
+      (here : VersionNames P E x) where
+    names_head : (head : Option OpName) → WhereThere E head → AllSent (MessageNames P E) (head_ready v x head)
     names_head None first = tt
     names_head (Some h) first = names_ready h v x.storage first name here.storage
 
-    names_tail : (tail : Option OpName) → WhereThere P tail → WhereThere P (tail_without o tail)
+    names_tail : (tail : Option OpName) → WhereThere E tail → WhereThere E (tail_without o tail)
     names_tail tail last =
-        elim (is_last o tail) as (λ b. WhereThere P (if b then None else tail)) [
+        elim (is_last o tail) as (λ b. WhereThere E (if b then None else tail)) [
           | true ↦ tt
           | false ↦ last
         ]
@@ -288,7 +288,7 @@ module _ (P : OpName → Type 0) where
     names_released_by : (producer : Bool) → OutcomeNames (released_by vs o v x producer)
     names_released_by true =
         names_sending (head_ready v x x.head ++ Bye o false ∷ []) (settled (put_version vs v (produced_now x)) v)
-        (AllSent-append (MessageNames P) (head_ready v x x.head) (Bye o false ∷ []) (names_head x.head here.head)
+        (AllSent-append (MessageNames P E) (head_ready v x x.head) (Bye o false ∷ []) (names_head x.head here.head)
         (user, tt))
         (names_settled (put_version vs v (produced_now x)) v
         (names_put vs v (produced_now x) each name (record {
@@ -297,8 +297,7 @@ module _ (P : OpName → Type 0) where
           tail = here.tail;
           predecessor = here.predecessor;
           successor = here.successor;
-        }))
-        name)
+        })))
     names_released_by false =
         names_sending (Bye o (not (is_last o x.tail)) ∷ []) (settled (put_version vs v (released_once x o)) v)
         (user, tt)
@@ -309,18 +308,17 @@ module _ (P : OpName → Type 0) where
           tail = names_tail x.tail here.tail;
           predecessor = here.predecessor;
           successor = here.successor;
-        }))
-        name)
+        })))
 
   names_released_at : (vs : Named Version) (o v : OpName) (producer : Bool) (x : Option Version) → get vs v ≡ x
-      → VersionsNames vs → P o → P v → OutcomeNames (released_at vs o v producer x)
-  names_released_at vs o v producer None e each user name = names_unchanged vs each
-  names_released_at vs o v producer (Some x) e each user name =
-      names_released_by vs o v x each user name (each v x e).1 producer
+      → VersionsNames vs → E o → OutcomeNames (released_at vs o v producer x)
+  names_released_at vs o v producer None e each user = names_unchanged vs each
+  names_released_at vs o v producer (Some x) e each user =
+      let here = each v x e in names_released_by vs o v x each user here.0 here.1 producer
 
-  pub names_release : (vs : Named Version) (o : OpName) (r : ReleaseContents) → VersionsNames vs → P o × P r.version
+  pub names_release : (vs : Named Version) (o : OpName) (r : ReleaseContents) → VersionsNames vs → E o
       → OutcomeNames (after_release vs o r)
-  names_release vs o r each h = names_released_at vs o r.version r.producer (get vs r.version) refl each h.0 h.1
+  names_release vs o r each user = names_released_at vs o r.version r.producer (get vs r.version) refl each user
 
   -- ---- nack, retire
 
@@ -337,7 +335,6 @@ module _ (P : OpName → Type 0) where
         predecessor = here.1.predecessor;
         successor = here.1.successor;
       }))
-      here.0
 
   pub names_nack : (vs : Named Version) (v : OpName) → VersionsNames vs → OutcomeNames (after_nack vs v)
   names_nack vs v each = names_nacked_at vs v (get vs v) refl each

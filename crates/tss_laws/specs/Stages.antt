@@ -6,7 +6,7 @@ use Rattle.tss_base.specs.declared.machine.Machine.{Machine}
 use Rattle.tss_base.specs.declared.event.Stage.TheVariants as stage
 use Rattle.tss_model.specs.Access.{operands_of}
 use Rattle.tss_protocol.specs.State.{State, Flying, Busy}
-use Rattle.tss_protocol.specs.Stations.{is_complete}
+use Rattle.tss_protocol.specs.Stations.{is_complete, is_gone}
 use Rattle.tss_protocol.specs.Needs.{is_in_queue}
 use Rattle.tss_laws.specs.Tasks.{task_at, IsTaken, OverTasks}
 
@@ -28,12 +28,13 @@ pub record IsBusy (m : Machine) (ts : List Task) (S : State) (w : ℕ) (b : Busy
   pub storages : length b.storages ≡ length (operands_of b.task)
   pub budget : b.registers.done ≤ m.limits.task_budget
 
--- a task in flight waits exactly where one of its operands isn't ready, one that is queued is in the ready queue, and
--- one that runs is on a worker
+-- a task in flight waits exactly where one of its operands isn't ready, one that is queued is in the ready queue, one
+-- that runs is on a worker, and one that has finished still has an operand whose farewell isn't done
 pub record HasStages (m : Machine) (ts : List Task) (S : State) : Type 0 where
   pub waiting : (n : ℕ) (x : Flying) → get S.flight n ≡ Some x → (x.stage ≡ stage.Waiting) ↔ (is_complete x ≡ false)
   pub queued : (n : ℕ) (x : Flying) → get S.flight n ≡ Some x → x.stage ≡ stage.Queued → is_in_queue S n ≡ true
   pub running : (n : ℕ) (x : Flying) → get S.flight n ≡ Some x → x.stage ≡ stage.Running → IsOnWorker S n
+  pub staying : (n : ℕ) (x : Flying) → get S.flight n ≡ Some x → is_gone x ≡ false
   pub queue : (n : ℕ) → is_in_queue S n ≡ true → IsReadyToRun S n
   pub workers : (w : ℕ) (b : Busy) → get S.workers w ≡ Some b → IsBusy m ts S w b
 

@@ -37,8 +37,8 @@ pub fn decode_order()
     ensures { DecodeOrderLaw }
 {}
 
-/// A task in flight waits exactly where one of its operands isn't ready, one that is queued is in the ready queue, and
-/// one that runs is on a worker. What is in the queue or on a worker was taken and has its operands. A busy worker is
+/// A task in flight waits exactly where one of its operands isn't ready, one that is queued is in the ready queue, one
+/// that runs is on a worker, and one that has finished has an operand whose farewell isn't done. What is in the queue or on a worker was taken and has its operands. A busy worker is
 /// one of the machine's, has a storage for each operand of its task, and has completed no more instructions than a task
 /// may.
 pub fn stages()
@@ -47,7 +47,9 @@ pub fn stages()
 
 /// Each name in the stations, the workers, the tables for renaming and versioning, the copy engines, and the messages
 /// but decodes is of an operand that has been decoded: its task was taken, its place is one of its task's, and its
-/// decode isn't under way.
+/// decode isn't under way. The names of registered versions and copies, of readers in a version's chain, of operands that
+/// are ready, and of ready, link, release, bye, idle, nack, retire and gone messages are of operands whose open and use
+/// aren't under way either.
 pub fn names()
     ensures { NamesLaw }
 {}
