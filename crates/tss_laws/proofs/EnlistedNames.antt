@@ -201,7 +201,8 @@ names_of_runs =
     law_from AreOpeningsSound HasDecodedNames AreOpeningsSound-initial_state AreOpeningsSound-after_event
     (λ m ts S h. each_name (IsDecoded ts S) (IsEnlisted ts S) S h.0.1)
 
-has_openings : (m : Machine) (ts : List Task) (S : State) → AreOpeningsSound m ts S → HasOpenings m ts S
+-- what it says of openings
+pub has_openings : (m : Machine) (ts : List Task) (S : State) → AreOpeningsSound m ts S → HasOpenings m ts S
 has_openings m ts S h = record {
   opens = λ o c e.
       let r = h.1.opens o c e in

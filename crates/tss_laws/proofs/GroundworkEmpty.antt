@@ -26,7 +26,7 @@ use Rattle.tss_laws.specs.Readers.{Arrivals, Holds, HasReaders}
 use Rattle.tss_laws.specs.Holders.{HasHolders}
 use Rattle.tss_laws.specs.Runners.{AreApart}
 use Rattle.tss_laws.specs.Control.{IsControlled}
-use Rattle.tss_laws.proofs.StageLemmas.{in_queue}
+use Rattle.tss_laws.proofs.QueueLemmas.{in_queue}
 
 -- nothing stands where the control looks
 pub record IsBare (S : State) : Type 0 where

@@ -12,12 +12,12 @@ use Rattle.tss_protocol.specs.Run.{after_events, IsRun}
 use Rattle.tss_locality.specs.Rounds.{IsRounded}
 use Rattle.tss_locality.proofs.RunRounds.{IsRounded-after_event, IsRounded-initial_state}
 use Rattle.tss_laws.specs.Tasks.{HasTaskNumbers, spawned_after_event, spawned_after, spawned_tasks}
-use Rattle.tss_laws.specs.Names.{IsDecoded}
+use Rattle.tss_laws.specs.Names.{IsDecoded, IsEnlisted}
 use Rattle.tss_laws.specs.Readers.{Arrivals, arrivals_after_event, arrivals_from, no_arrivals}
 use Rattle.tss_laws.specs.Control.{HasGroundwork}
 use Rattle.tss_laws.proofs.GatewayLemmas.{has_gateway, decodes_in_order}
 use Rattle.tss_laws.proofs.NameEvents.{each_name}
-use Rattle.tss_laws.proofs.OpeningLemmas.{has_openings}
+use Rattle.tss_laws.proofs.EnlistedNames.{has_openings}
 use Rattle.tss_laws.proofs.StageEvents.{IsStaged, IsStaged-after_event, IsStaged-initial_state, has_stages}
 use Rattle.tss_laws.proofs.AskingEvents.{IsAskingSound, IsAskingSound-after_event, IsAskingSound-initial_state}
 use Rattle.tss_laws.proofs.HeldEvents.{IsHoldingSound, IsHoldingSound-after_event, IsHoldingSound-initial_state}
@@ -65,7 +65,7 @@ has_groundwork m all ts S h = record {
   numbers = grounded_numbers m all ts S h;
   gateway = has_gateway m all S h.held.0.0.0;
   decodes = decodes_in_order m all S h.held.0.0.0;
-  names = each_name (IsDecoded all S) S h.held.0.0.1;
+  names = each_name (IsDecoded all S) (IsEnlisted all S) S h.held.0.0.1;
   openings = has_openings m all S h.held.0;
   stages = has_stages m all S h.staged;
   asking = h.asking.1;

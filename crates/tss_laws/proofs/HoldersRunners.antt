@@ -20,7 +20,9 @@ use Rattle.tss_protocol.specs.UnitMachine.{queue_with, is_queued}
 use Rattle.tss_phases.proofs.LeavingTasks.{done_from_test}
 use Rattle.tss_laws.specs.Runners.{IsAtStage, AreApart}
 use Rattle.tss_laws.proofs.BackLemmas.{Standing}
-use Rattle.tss_laws.proofs.StageLemmas.{in_queue, from_queue, at_front, queued_from_test, waiting≢queued, waiting≢running, queued≢running}
+use Rattle.tss_laws.proofs.QueueLemmas.{in_queue, from_queue, at_front}
+use Rattle.tss_laws.proofs.StageEvents.{queued_from_test}
+use Rattle.tss_laws.proofs.StageLemmas.{waiting≢queued, waiting≢running, queued≢running}
 
 -- the part that speaks of where tasks stand
 pub record Runs (p : Standing) : Type 0 where
