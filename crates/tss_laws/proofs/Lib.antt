@@ -66,3 +66,5 @@ pub mod HoldersRunners
 pub mod EntriesQuiet
 pub mod ChainsAlike
 pub mod ChainsFrames
+pub mod GroundworkSpawn
+pub mod GroundworkGrown
