@@ -68,3 +68,4 @@ pub mod ChainsAlike
 pub mod ChainsFrames
 pub mod GroundworkSpawn
 pub mod GroundworkGrown
+pub mod ReadersKept
