@@ -69,3 +69,4 @@ pub mod ChainsFrames
 pub mod GroundworkSpawn
 pub mod GroundworkGrown
 pub mod ReadersKept
+pub mod UnlinkedVersions
