@@ -1,5 +1,5 @@
 -- A round with one more task: what was controlled by the shorter round is by the longer one.
-use Rattle.std.proofs.Common.{◌≡◌, ℕ, ◌≤◌, ◌⊎◌, inl, inr, Bool, true, false, List, Option, Some, None, refl, sym, ap, ◌∙◌, subst}
+use Rattle.std.proofs.Common.{◌≡◌, ◌≤◌, inl, inr, List, Some, None, sym, ap, ◌∙◌, subst}
 use Rattle.std.specs.FinMap.{get}
 use Rattle.tss_base.specs.declared.range.Range.{Range}
 use Rattle.tss_base.specs.declared.operand.OpName.{OpName}
@@ -8,12 +8,12 @@ use Rattle.tss_base.specs.declared.operand.Operand.{Operand}
 use Rattle.tss_base.specs.declared.operand.Task.{Task}
 use Rattle.tss_protocol.specs.Mail.{OpenContents}
 use Rattle.tss_protocol.specs.State.{State, Entry, Version}
-use Rattle.tss_locality.specs.Rounds.{object_in, IsRounded}
+use Rattle.tss_locality.specs.Rounds.{IsRounded}
 use Rattle.tss_phases.specs.Phase.{Waiting, phase_of, is_decoded}
 use Rattle.tss_laws.specs.Members.{operand_among, IsMember}
-use Rattle.tss_laws.specs.Chains.{HasStorage, OpensAfter, IsOpenInOrder, IsUseInOrder, HasChains}
+use Rattle.tss_laws.specs.Chains.{HasStorage, IsOpenInOrder, IsUseInOrder, HasChains}
 use Rattle.tss_laws.specs.Entries.{IsUsed, IsLeaving, IsAbsent, IsRetiring, HasEntries}
-use Rattle.tss_laws.specs.Readers.{Arrivals, Has, IsArrival, HasArrivals, HasReaders}
+use Rattle.tss_laws.specs.Readers.{Arrivals, IsArrival, HasArrivals, HasReaders}
 use Rattle.tss_laws.specs.Holders.{HasHolders}
 use Rattle.tss_laws.specs.Control.{IsControlled}
 use Rattle.tss_laws.proofs.GroundworkSpawn.{IsLonger, on_still, on_back, writer_back, no_writer_still, among_object, named_spawned, decoded_spawned}
@@ -211,6 +211,7 @@ module _ (ts us : List Task) (S : State) (long : IsLonger S.main.spawned ts us) 
             k.waiting_reader o p (old_name o p (waits_spawned o waits) at) reads waits;
         openers = λ v y p e at. k.openers v y p e (old_name v p (old_version v y e) at);
         records = k.records;
+        runners = k.runners;
         links = λ o p r at e. k.links o p r (old_name o p (named_spawned S ts round o (named.records o r e)) at) e;
       }
 
