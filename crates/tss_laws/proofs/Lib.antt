@@ -70,3 +70,5 @@ pub mod GroundworkSpawn
 pub mod GroundworkGrown
 pub mod ReadersKept
 pub mod UnlinkedVersions
+pub mod ReadersStates
+pub mod ReadersSettle
