@@ -72,3 +72,5 @@ pub mod ReadersKept
 pub mod UnlinkedVersions
 pub mod ReadersStates
 pub mod ReadersSettle
+pub mod HoldersNext
+pub mod HoldersOrder
