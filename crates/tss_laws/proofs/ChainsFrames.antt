@@ -1,5 +1,5 @@
 -- Events that change no version, no open and no use: the chains are as they were.
-use Rattle.std.proofs.Common.{◌≡◌, ℕ, List, Option, Some, None, refl, ◌∙◌}
+use Rattle.std.proofs.Common.{ℕ, List, Option, Some, None, refl, ◌∙◌}
 use Rattle.std.specs.FinMap.{get}
 use Rattle.tss_base.specs.declared.operand.OpName.{OpName}
 use Rattle.tss_base.specs.declared.operand.Task.{Task}

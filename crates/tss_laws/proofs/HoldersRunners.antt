@@ -1,20 +1,17 @@
 -- Tasks that are queued or run stay in flight at that stage, and once, whatever event happens.
-use Rattle.std.proofs.Common.{◌≡◌, ◌≢◌, ℕ, ◌≤◌, ◌⊎◌, inl, inr, Bool, true, false, if◌then◌else◌, List, [], ◌∷◌, ◌++◌, Option, Some, None, refl, sym, ap, ◌∙◌, subst, arith, true≢false}
-use Rattle.std.specs.Prelude.{◌==◌, ◌||◌, slice_get}
-use Rattle.std.specs.List.{list_any, list_all}
+use Rattle.std.proofs.Common.{◌≡◌, ◌≢◌, ℕ, inl, inr, Bool, true, false, if◌then◌else◌, List, [], ◌∷◌, ◌++◌, Option, Some, None, refl, sym, ap, ◌∙◌, subst, arith, true≢false}
+use Rattle.std.specs.Prelude.{◌==◌, ◌||◌}
 use Rattle.std.specs.FinMap.{get, insert, remove}
 use Rattle.std.proofs.lemmas.Bool.Decides.{nat_tests}
 use Rattle.std.proofs.lemmas.Option.{none-some, same_Some}
-use Rattle.tss_base.specs.declared.operand.OpName.{OpName}
 use Rattle.tss_base.specs.declared.operand.Task.{Task}
-use Rattle.tss_base.specs.declared.machine.Machine.{Machine}
 use Rattle.tss_base.specs.declared.event.Stage.{Stage}
 use Rattle.tss_base.specs.declared.event.Stage.TheVariants as stage
 use Rattle.tss_base.specs.Names.{Numbered}
 use Rattle.tss_maps.proofs.Keys.{nat_order, decide_key}
-use Rattle.tss_maps.proofs.Changes.{at_inserted, beside_inserted, from_inserted, at_removed, beside_removed, from_removed}
-use Rattle.tss_protocol.specs.State.{State, OperandState, Flying, Busy}
-use Rattle.tss_protocol.specs.Stations.{is_ready, is_complete, awaited, is_gone, has_finished, remaining_tasks, entered, flight_after_take, flight_after_start, finished_in, task_after_ready}
+use Rattle.tss_maps.proofs.Changes.{at_inserted, beside_inserted, from_inserted, beside_removed, from_removed}
+use Rattle.tss_protocol.specs.State.{Flying, Busy}
+use Rattle.tss_protocol.specs.Stations.{is_gone, has_finished, remaining_tasks, entered, flight_after_take, flight_after_start, finished_in}
 use Rattle.tss_protocol.specs.Workers.{busy_at_start}
 use Rattle.tss_protocol.specs.UnitMachine.{queue_with, is_queued}
 use Rattle.tss_phases.proofs.LeavingTasks.{done_from_test}

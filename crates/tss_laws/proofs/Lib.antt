@@ -71,3 +71,11 @@ pub mod HoldersRunners
 pub mod EntriesQuiet
 pub mod ChainsAlike
 pub mod ChainsFrames
+pub mod GroundworkSpawn
+pub mod GroundworkGrown
+pub mod ReadersKept
+pub mod UnlinkedVersions
+pub mod ReadersStates
+pub mod ReadersSettle
+pub mod HoldersNext
+pub mod HoldersOrder

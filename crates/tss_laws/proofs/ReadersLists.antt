@@ -41,6 +41,11 @@ has_oldest a [] e = absurd (none-some a e)
 has_oldest a (x ∷ []) e = inl (same_Some x a e)
 has_oldest a (x ∷ y ∷ ys) e = inr (has_oldest a (y ∷ ys) e)
 
+-- and so is the newest
+pub has_newest : (a : OpName) (xs : List OpName) → newest_of xs ≡ Some a → Has a xs
+has_newest a [] e = absurd (none-some a e)
+has_newest a (x ∷ xs) e = inl (same_Some x a e)
+
 -- two neighbours of a list in which each stands once differ
 pub next_apart : (a b : OpName) (xs : List OpName) → AreOnce xs → IsNext a b xs → a ≢ b
 next_apart a b [] once h = absurd h
