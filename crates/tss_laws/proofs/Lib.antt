@@ -79,3 +79,4 @@ pub mod ReadersStates
 pub mod ReadersSettle
 pub mod HoldersNext
 pub mod HoldersOrder
+pub mod GroundworkMain

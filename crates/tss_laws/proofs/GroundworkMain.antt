@@ -1,0 +1,72 @@
+-- Main's event: it changes nothing of which the control speaks but the round.
+use Rattle.std.proofs.Common.{◌≡◌, ◌⊎◌, ℕ, Bool, true, false, ◌&&◌, List, [], ◌∷◌, ◌++◌, append-nil, Option, Some, None, is_none, Result, Ok, Err, refl, sym, subst, ap, ◌∙◌}
+use Rattle.std.specs.Prelude.{option_to_list}
+use Rattle.std.proofs.lemmas.Bool.{and_parts}
+use Rattle.tss_base.specs.declared.operand.OpName.{OpName}
+use Rattle.tss_base.specs.declared.operand.Task.{Task}
+use Rattle.tss_base.specs.declared.machine.Machine.{Machine}
+use Rattle.tss_base.specs.declared.event.Event.TheVariants as event
+use Rattle.tss_model.specs.Spawn.{spawn_of}
+use Rattle.tss_model.specs.MainStep.{MainState, Call, ExitCall, Spawn, Barrier, Print, Unknown, main_call, spawn_call, spawn_on}
+use Rattle.tss_protocol.specs.State.{State}
+use Rattle.tss_protocol.specs.MainEvent.{call_next, may_call, after_call, main_by}
+use Rattle.tss_protocol.specs.Needs.{round_after_main, round_after_event}
+use Rattle.tss_protocol.specs.UnitMachine.{is_enabled, IsEnabled, after_event}
+use Rattle.tss_locality.specs.Rounds.{IsRounded}
+use Rattle.tss_phases.specs.Phase.{phase_of}
+use Rattle.tss_phases.proofs.MainEvent.{phase_of-main}
+use Rattle.tss_phases.proofs.OrderlyEvents.{orderly-after_event}
+use Rattle.tss_laws.specs.Readers.{Arrivals}
+use Rattle.tss_laws.specs.Control.{IsControlled}
+use Rattle.tss_laws.proofs.SpawnLemmas.{IsNext-spawn_of}
+use Rattle.tss_laws.proofs.GroundworkEmpty.{IsControlled-bare, IsBare-drained}
+use Rattle.tss_laws.proofs.GroundworkSpawn.{IsLonger-spawn}
+use Rattle.tss_laws.proofs.GroundworkGrown.{IsControlled-longer}
+
+-- ---- the round
+
+module _ (m : Machine) (ts : List Task) (g : Arrivals) (S : State) (round : IsRounded S ts) (h : IsControlled ts g S) where
+  by_spawn : (x : Result Task ℕ)
+      → spawn_of (spawn_call S.main.registers) S.home S.main.epoch m.limits S.main.spawned ≡ x
+      → IsControlled (ts ++ option_to_list (spawn_on S.main x).1) g S
+  by_spawn (Err n) e = subst (λ us. IsControlled us g S) (sym (append-nil ts)) h
+  by_spawn (Ok t) e =
+      let next = IsNext-spawn_of (spawn_call S.main.registers) S.home S.main.epoch m.limits S.main.spawned t e in
+      IsControlled-longer ts (ts ++ t ∷ []) S (IsLonger-spawn S ts t round next.number) round g h
+
+  -- after main's call the new round controls the state before it
+  controlled_call : (c : Option Call) → may_call S c ≡ true → IsControlled (round_after_main m S ts c) g S
+  controlled_call None may = h
+  controlled_call (Some ExitCall) may = h
+  controlled_call (Some Spawn) may =
+      by_spawn (spawn_of (spawn_call S.main.registers) S.home S.main.epoch m.limits S.main.spawned) refl
+  controlled_call (Some Barrier) may = IsControlled-bare S (IsBare-drained S may) g h.orderly
+  controlled_call (Some Print) may = h
+  controlled_call (Some (Unknown n)) may = h
+
+-- ---- the state
+
+-- what main leaves
+pub record KeepsControl (S T : State) : Type 0 where
+  pub versions : T.versions ≡ S.versions
+  pub mail : T.mail ≡ S.mail
+  pub entries : T.entries ≡ S.entries
+  pub flight : T.flight ≡ S.flight
+  pub copies : T.copies ≡ S.copies
+  pub queue : T.queue ≡ S.queue
+  pub workers : T.workers ≡ S.workers
+
+kept_call : (S : State) (d : MainState × Option Task) → KeepsControl S (after_call S d)
+kept_call S (x, None) = record {
+  versions = refl; mail = refl; entries = refl; flight = refl; copies = refl; queue = refl; workers = refl;
+}
+kept_call S (x, Some t) = record {
+  versions = refl; mail = refl; entries = refl; flight = refl; copies = refl; queue = refl; workers = refl;
+}
+
+-- by main's call
+pub kept_main : (m : Machine) (S : State) (c : Option Call) → KeepsControl S (main_by m S c)
+kept_main m S None = record {
+  versions = refl; mail = refl; entries = refl; flight = refl; copies = refl; queue = refl; workers = refl;
+}
+kept_main m S (Some call) = kept_call S (main_call m.limits S.home S.main call)
