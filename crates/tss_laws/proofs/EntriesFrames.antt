@@ -1,12 +1,13 @@
 -- Entries after an event that leaves them, by what it leaves of versions, messages and copies.
-use Rattle.std.proofs.Common.{◌≡◌, ℕ, inl, inr, true, List, Some, sym, ap, ◌∙◌}
+use Rattle.std.proofs.Common.{◌≡◌, ℕ, ◌+◌, ◌⊎◌, inl, inr, Bool, true, false, List, Option, Some, None, refl, sym, ap, ◌∙◌, subst, true≢false}
 use Rattle.std.specs.FinMap.{get}
 use Rattle.tss_base.specs.declared.range.Range.{Range}
 use Rattle.tss_base.specs.declared.operand.OpName.{OpName}
+use Rattle.tss_base.specs.declared.operand.Operand.{Operand}
 use Rattle.tss_base.specs.declared.operand.Task.{Task}
 use Rattle.tss_protocol.specs.State.{State, Entry, Version}
 use Rattle.tss_phases.specs.Phase.{phase_of, is_decoded}
-use Rattle.tss_laws.specs.Members.{IsVersionOf, IsOpenOf, IsMember, total}
+use Rattle.tss_laws.specs.Members.{operand_among, IsWriterOn, IsVersionOf, IsOpenOf, IsMember, total}
 use Rattle.tss_laws.specs.Entries.{IsGoingHome, IsLeaving, IsUsed, IsAbsent, IsLive, IsLastVersion, IsRetiring, HasEntries}
 
 -- ---- what an event has to leave
@@ -30,6 +31,12 @@ pub record KeepsLeaving (S T : State) (e : Entry) : Type 0 where
       → IsLastVersion T e.object e y
   pub none : IsGoingHome T e.object e.latest → (v : OpName) → IsVersionOf T e.object v → ⊥
 
+-- an operand that is decoded was decoded before
+abbrev pub DecodesNoMore : List Task → State → State → Type 0
+DecodesNoMore ts S T =
+    (o : OpName) (p : Operand) → operand_among ts o ≡ Some p
+    → is_decoded (phase_of T o) ≡ true → is_decoded (phase_of S o) ≡ true
+
 -- the entries are left, and what they say of versions
 pub record KeepsEntries (ts : List Task) (S T : State) : Type 0 where
   pub entries : T.entries ≡ S.entries
@@ -37,7 +44,7 @@ pub record KeepsEntries (ts : List Task) (S T : State) : Type 0 where
   pub live : (b : ℕ) (e : Entry) → get S.entries b ≡ Some e → IsLive S e.object e → KeepsLatest S T e
   pub retiring : (b : ℕ) (e : Entry) → get S.entries b ≡ Some e → e.retiring ≡ true → IsRetiring ts S e.object e
       → KeepsLeaving S T e
-  pub decoded : (o : OpName) → is_decoded (phase_of T o) ≡ true → is_decoded (phase_of S o) ≡ true
+  pub decoded : DecodesNoMore ts S T
 
 module _ (ts : List Task) (S T : State) (m : HasNoMore ts S T) where
   -- an object without an entry still has none
@@ -83,7 +90,8 @@ entries_kept ts S T h k =
       retiring = λ b e there on.
           let r = h.retiring b e (before b e there) on in
           retiring_still ts S T k.more e (k.retiring b e (before b e there) on r) r;
-      decoded = λ b e o there writer on. h.decoded b e o (before b e there) writer (k.decoded o on);
+      decoded = λ b e o there writer on. h.decoded b e o (before b e there) writer
+          (k.decoded o writer.operand writer.there on);
     }
 
 -- ---- nothing of it is changed
@@ -154,7 +162,7 @@ module _ (S T : State) (s : SameObjects S T) where
 
 -- where nothing is changed, entries are kept
 pub same_entries : (ts : List Task) (S T : State) → SameObjects S T → T.entries ≡ S.entries
-    → ((o : OpName) → is_decoded (phase_of T o) ≡ true → is_decoded (phase_of S o) ≡ true) → KeepsEntries ts S T
+    → DecodesNoMore ts S T → KeepsEntries ts S T
 same_entries ts S T s es decoded = record {
   entries = es;
   more = same_no_more S T s ts;
@@ -177,3 +185,8 @@ same_entries ts S T s es decoded = record {
   };
   decoded = decoded;
 }
+
+-- a state that is the same in all this has the same entries
+pub HasEntries-same : (ts : List Task) (S T : State) → SameObjects S T → T.entries ≡ S.entries → DecodesNoMore ts S T
+    → HasEntries ts S → HasEntries ts T
+HasEntries-same ts S T s es decoded h = entries_kept ts S T h (same_entries ts S T s es decoded)

@@ -80,3 +80,6 @@ pub mod ReadersSettle
 pub mod HoldersNext
 pub mod HoldersOrder
 pub mod GroundworkMain
+pub mod EntriesDecoded
+pub mod RetirementFrames
+pub mod EntriesQuietEvents
