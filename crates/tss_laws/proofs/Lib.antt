@@ -83,3 +83,4 @@ pub mod GroundworkMain
 pub mod EntriesDecoded
 pub mod RetirementFrames
 pub mod EntriesQuietEvents
+pub mod GroundworkJoin
