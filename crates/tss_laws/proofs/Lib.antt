@@ -84,3 +84,5 @@ pub mod EntriesDecoded
 pub mod RetirementFrames
 pub mod EntriesQuietEvents
 pub mod GroundworkJoin
+pub mod ReadersLinks
+pub mod ReadersStations
