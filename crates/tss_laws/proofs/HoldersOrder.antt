@@ -52,7 +52,8 @@ links_waiting ts g S readers holders o next there =
 
 -- ---- finish
 
-ready_in : (rs : List OperandState) (k : ℕ) (r : OperandState) → list_all is_ready rs ≡ true → slice_get rs k ≡ Some r
+-- each operand of a complete task is ready
+pub ready_in : (rs : List OperandState) (k : ℕ) (r : OperandState) → list_all is_ready rs ≡ true → slice_get rs k ≡ Some r
     → is_ready r ≡ true
 ready_in [] k r all e = absurd (none-some r e)
 ready_in (x ∷ rs) zero r all e =

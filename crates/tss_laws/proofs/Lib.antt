@@ -86,3 +86,5 @@ pub mod EntriesQuietEvents
 pub mod GroundworkJoin
 pub mod ReadersLinks
 pub mod ReadersStations
+pub mod HoldersStages
+pub mod HoldersLate
