@@ -73,6 +73,7 @@ module _ (ts us : List Task) (S : State) (long : IsLonger S.main.spawned ts us) 
             no_writer_still S.main.spawned ts us long k.operand.object v o (long.old o k.operand k.there) k.alone;
       }
 
+  -- all of them
   pub HasChains-longer : HasChains us S
   HasChains-longer = record {
     one = h.chains.one;
@@ -135,6 +136,7 @@ module _ (ts us : List Task) (S : State) (long : IsLonger S.main.spawned ts us) 
     none = k.none;
   }
 
+  -- all of them
   pub HasEntries-longer : HasEntries us S
   HasEntries-longer = record {
     absent = λ o p at none. longer_absent p.object none;
@@ -175,6 +177,7 @@ module _ (ts us : List Task) (S : State) (long : IsLonger S.main.spawned ts us) 
         newest = k.newest;
       }
 
+  -- all of them
   pub HasReaders-longer : HasReaders us g S
   HasReaders-longer = record {
     versions = longer_arrivals;
@@ -192,6 +195,7 @@ module _ (ts us : List Task) (S : State) (long : IsLonger S.main.spawned ts us) 
   waits_spawned : (o : OpName) → phase_of S o ≡ Waiting → o.task ≤ S.main.spawned
   waits_spawned o waits = decoded_spawned S h.orderly o (ap is_decoded waits)
 
+  -- all of them
   pub HasHolders-longer : HasHolders us g S
   HasHolders-longer =
       let k = h.holders in

@@ -9,16 +9,23 @@ use Rattle.tss_base.specs.declared.event.Event.TheVariants as event
 use Rattle.tss_model.specs.Spawn.{spawn_of}
 use Rattle.tss_model.specs.MainStep.{MainState, Call, ExitCall, Spawn, Barrier, Print, Unknown, main_call, spawn_call, spawn_on}
 use Rattle.tss_protocol.specs.State.{State}
+use Rattle.tss_protocol.specs.Stations.{operand_at}
 use Rattle.tss_protocol.specs.MainEvent.{call_next, may_call, after_call, main_by}
 use Rattle.tss_protocol.specs.Needs.{round_after_main, round_after_event}
 use Rattle.tss_protocol.specs.UnitMachine.{is_enabled, IsEnabled, after_event}
 use Rattle.tss_locality.specs.Rounds.{IsRounded}
-use Rattle.tss_phases.specs.Phase.{phase_of}
+use Rattle.tss_phases.specs.Phase.{phase_of, is_decoded}
 use Rattle.tss_phases.proofs.MainEvent.{phase_of-main}
 use Rattle.tss_phases.proofs.OrderlyEvents.{orderly-after_event}
-use Rattle.tss_laws.specs.Readers.{Arrivals}
+use Rattle.tss_laws.specs.Chains.{HasChains}
+use Rattle.tss_laws.specs.Entries.{HasEntries, HasRetirement}
+use Rattle.tss_laws.specs.Readers.{Arrivals, HasReaders}
 use Rattle.tss_laws.specs.Control.{IsControlled}
 use Rattle.tss_laws.proofs.SpawnLemmas.{IsNext-spawn_of}
+use Rattle.tss_laws.proofs.ChainsFrames.{HasChains-same}
+use Rattle.tss_laws.proofs.EntriesFrames.{HasEntries-same}
+use Rattle.tss_laws.proofs.RetirementFrames.{HasRetirement-same}
+use Rattle.tss_laws.proofs.ReadersStates.{HasReaders-same}
 use Rattle.tss_laws.proofs.GroundworkEmpty.{IsControlled-bare, IsBare-drained}
 use Rattle.tss_laws.proofs.GroundworkSpawn.{IsLonger-spawn}
 use Rattle.tss_laws.proofs.GroundworkGrown.{IsControlled-longer}
@@ -70,3 +77,66 @@ kept_main m S None = record {
   versions = refl; mail = refl; entries = refl; flight = refl; copies = refl; queue = refl; workers = refl;
 }
 kept_main m S (Some call) = kept_call S (main_call m.limits S.home S.main call)
+
+-- ---- each group
+
+module _ (m : Machine) (ts : List Task) (g : Arrivals) (S : State) (round : IsRounded S ts) (h : IsControlled ts g S)
+    (on : IsEnabled m S event.Main) where
+  -- before the event, by the round after it
+  pub controlled_before_main : IsControlled (round_after_event m S ts event.Main) g S
+  unfolding is_enabled
+  controlled_before_main =
+      controlled_call m ts g S round h (call_next m S)
+      (and_parts (is_none S.main.ending && is_none S.trap) (may_call S (call_next m S)) on).1
+
+  -- main leaves the rest
+  pub kept_after_main : KeepsControl S (after_event m S event.Main)
+  unfolding after_event
+  kept_after_main = kept_main m S (call_next m S)
+
+  -- versions and their messages
+  pub HasChains-main : HasChains (round_after_event m S ts event.Main) (after_event m S event.Main)
+  HasChains-main =
+      let k = kept_after_main in
+      HasChains-same (round_after_event m S ts event.Main) S (after_event m S event.Main)
+      (record {
+        versions = k.versions;
+        opens = λ i. (k.mail i).opens;
+        uses = λ i. (k.mail i).uses;
+      })
+      controlled_before_main.chains
+
+  -- entries
+  pub HasEntries-main : HasEntries (round_after_event m S ts event.Main) (after_event m S event.Main)
+  HasEntries-main =
+      let k = kept_after_main in
+      HasEntries-same (round_after_event m S ts event.Main) S (after_event m S event.Main)
+      (record {
+        versions = k.versions;
+        copies = k.copies;
+        opens = λ i. (k.mail i).opens;
+        uses = λ i. (k.mail i).uses;
+        retires = λ i. (k.mail i).retires;
+        gones = λ i. (k.mail i).gones;
+      })
+      k.entries (λ o p at decoded. ap is_decoded (sym (phase_of-main m S o on)) ∙ decoded)
+      controlled_before_main.entries
+
+  -- asking
+  pub HasRetirement-main : HasRetirement (after_event m S event.Main)
+  HasRetirement-main =
+      let k = kept_after_main in
+      HasRetirement-same S (after_event m S event.Main) k.versions k.entries (λ i. (k.mail i).nacks) h.retirement
+
+  -- readers
+  pub HasReaders-main : HasReaders (round_after_event m S ts event.Main) g (after_event m S event.Main)
+  HasReaders-main =
+      let k = kept_after_main in
+      HasReaders-same (round_after_event m S ts event.Main) g S (after_event m S event.Main)
+      (record {
+        versions = k.versions;
+        links = λ i. (k.mail i).links;
+        flight = λ a. ap (λ f. operand_at f a) k.flight;
+        phases = λ a. phase_of-main m S a on;
+      })
+      controlled_before_main.readers
