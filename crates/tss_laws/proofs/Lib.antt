@@ -88,3 +88,4 @@ pub mod ReadersLinks
 pub mod ReadersStations
 pub mod HoldersStages
 pub mod HoldersLate
+pub mod EntriesNames
