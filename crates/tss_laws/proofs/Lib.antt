@@ -89,3 +89,4 @@ pub mod ReadersStations
 pub mod HoldersStages
 pub mod HoldersLate
 pub mod EntriesNames
+pub mod ChainsGivingWay
