@@ -90,3 +90,5 @@ pub mod HoldersStages
 pub mod HoldersLate
 pub mod EntriesNames
 pub mod ChainsGivingWay
+pub mod ReadersQuiet
+pub mod ReadersTasks

@@ -17,7 +17,8 @@ use Rattle.tss_laws.proofs.ReadersKept.{SameReader, SameForReaders, same_version
 
 -- ---- readers that have all released their version
 
-nothing_held : (l : LinkState) (b : OpName) → l ≡ link.Nothing → l ≡ link.Held b → ⊥
+-- a record that has no link holds none
+pub nothing_held : (l : LinkState) (b : OpName) → l ≡ link.Nothing → l ≡ link.Held b → ⊥
 nothing_held l b e h = cc
 
 module _ (ts : List Task) (xs : List OpName) (S : State) (v : OpName) (y : Version) (h : HasArrivals ts xs S v y)
