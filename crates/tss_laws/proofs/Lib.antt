@@ -92,3 +92,4 @@ pub mod EntriesNames
 pub mod ChainsGivingWay
 pub mod ReadersQuiet
 pub mod ReadersTasks
+pub mod ReadersLeaving

@@ -17,7 +17,8 @@ use Rattle.tss_phases.specs.Phase.{Phase, Ahead, Decoding, Sent, Waiting, Told, 
 use Rattle.tss_phases.specs.Alone.{HasRecord}
 use Rattle.tss_phases.specs.Orderly.{FitsPhase, AreOrderly}
 use Rattle.tss_phases.proofs.Records.{record_put, record_removed}
-use Rattle.tss_phases.proofs.LeavingTasks.{done_from_test}
+use Rattle.tss_maps.proofs.Keys.{nat_order, decide_key}
+use Rattle.tss_phases.proofs.LeavingTasks.{done_from_test, remaining_beside}
 use Rattle.tss_laws.specs.Members.{operand_among}
 use Rattle.tss_laws.specs.Readers.{Arrivals, Holds}
 use Rattle.tss_laws.specs.Holders.{link_fits, HasHolders}
@@ -91,3 +92,37 @@ module _ (flight : Numbered Flying) (task : ℕ) (x : Flying) (q : OpName) (same
   pub record_stays : (r : OperandState) → slice_get x.operands q.place ≡ Some r → r.farewell ≡ farewell.Nothing
       → operand_at (remaining_tasks flight task x) q ≡ Some r
   record_stays r at stays = in_either (is_gone x) refl r at stays
+
+-- ---- records after an event of a task that may leave
+
+module _ (S T : State) (n : ℕ) (y : Flying) (flight : T.flight ≡ remaining_tasks S.flight n y)
+    (P : OpName → Type 0) where
+  -- a record is one that was there, with the same link, where those of the task are
+  pub station_before : ((q : OpName) (r : OperandState) → P q → q.task ≡ n → slice_get y.operands q.place ≡ Some r
+      → (k : OperandState) × (operand_at S.flight q ≡ Some k) × (r.link ≡ k.link))
+      → (q : OpName) (r : OperandState) → P q → operand_at T.flight q ≡ Some r
+      → (k : OperandState) × (operand_at S.flight q ≡ Some k) × (r.link ≡ k.link)
+  station_before mine q r fit e =
+      let at = sym (ap (λ f. operand_at f q) flight) ∙ e in
+      elim (decide_key nat_order q.task n) [
+        | inl same ↦ mine q r fit same (record_from_remaining S.flight n y q same r at)
+        | inr other ↦ (r, sym (remaining_beside S.flight n y q other) ∙ at, refl)
+      ]
+
+  -- one that holds a link is still there, where those of the task that waits or is told are
+  pub holds_after : (ts : List Task) (g : Arrivals) → AreOrderly S → HasHolders ts g S
+      → ((q : OpName) (r : OperandState) → P q → q.task ≡ n → operand_at S.flight q ≡ Some r → IsEarly (phase_of S q)
+      → slice_get y.operands q.place ≡ Some r)
+      → (a c : OpName) (p : Operand) → P a → operand_among ts a ≡ Some p → Holds S a c → Holds T a c
+  holds_after ts g orderly holders mine a c p fit there k =
+      let early = held_early ts g S holders a c p there k in
+      let stays = (early_record S orderly a k.0 early k.1).1 in
+      (
+        k.0,
+        ap (λ f. operand_at f a) flight
+            ∙ elim (decide_key nat_order a.task n) [
+              | inl same ↦ record_stays S.flight n y a same k.0 (mine a k.0 fit same k.1 early) stays
+              | inr other ↦ remaining_beside S.flight n y a other ∙ k.1
+            ],
+        k.2,
+      )

@@ -41,16 +41,17 @@ use Rattle.tss_laws.proofs.ReadersStations.{IsEarly, held_early, early_record, r
 -- ---- phases that look alike
 
 -- phases that are known, and look alike
-alike_by : (p q a b : Phase) → p ≡ a → q ≡ b → LooksAlike a b → LooksAlike p q
+pub alike_by : (p q a b : Phase) → p ≡ a → q ≡ b → LooksAlike a b → LooksAlike p q
 alike_by p q a b e f h = subst (λ p. LooksAlike p q) (sym e) (subst (LooksAlike a) (sym f) h)
 
-sent_alike : LooksAlike Decoding Sent
+-- as do these
+pub sent_alike : LooksAlike Decoding Sent
 sent_alike = record { waiting = refl; told = refl; released = refl; arrived = refl }
 
-releasing_alike : LooksAlike Ready Releasing
+pub releasing_alike : LooksAlike Ready Releasing
 releasing_alike = record { waiting = refl; told = refl; released = refl; arrived = refl }
 
-parted_alike : (b : Bool) → LooksAlike Leaving (phase_parted b)
+pub parted_alike : (b : Bool) → LooksAlike Leaving (phase_parted b)
 parted_alike true = record { waiting = refl; told = refl; released = refl; arrived = refl }
 parted_alike false = record { waiting = refl; told = refl; released = refl; arrived = refl }
 
