@@ -65,16 +65,34 @@ pub record KeepsControl (S T : State) : Type 0 where
 
 kept_call : (S : State) (d : MainState × Option Task) → KeepsControl S (after_call S d)
 kept_call S (x, None) = record {
-  versions = refl; mail = refl; entries = refl; flight = refl; copies = refl; queue = refl; workers = refl;
+  versions = refl;
+  mail = refl;
+  entries = refl;
+  flight = refl;
+  copies = refl;
+  queue = refl;
+  workers = refl;
 }
 kept_call S (x, Some t) = record {
-  versions = refl; mail = refl; entries = refl; flight = refl; copies = refl; queue = refl; workers = refl;
+  versions = refl;
+  mail = refl;
+  entries = refl;
+  flight = refl;
+  copies = refl;
+  queue = refl;
+  workers = refl;
 }
 
 -- by main's call
 pub kept_main : (m : Machine) (S : State) (c : Option Call) → KeepsControl S (main_by m S c)
 kept_main m S None = record {
-  versions = refl; mail = refl; entries = refl; flight = refl; copies = refl; queue = refl; workers = refl;
+  versions = refl;
+  mail = refl;
+  entries = refl;
+  flight = refl;
+  copies = refl;
+  queue = refl;
+  workers = refl;
 }
 kept_main m S (Some call) = kept_call S (main_call m.limits S.home S.main call)
 

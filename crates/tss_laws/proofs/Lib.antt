@@ -93,3 +93,4 @@ pub mod ChainsGivingWay
 pub mod ReadersQuiet
 pub mod ReadersTasks
 pub mod ReadersLeaving
+pub mod ChainsSettled

@@ -108,24 +108,23 @@ module _ (S T : State) (a : OpName) (same : SameReader S T a) where
       let p = phase_of S b in
       let q = phase_of T b in
       let before : (q ≡ Waiting → ⊥) → p ≡ Waiting → ⊥ = λ none e. none (still_waits p q alike e) in record {
-    waits = λ e. elim (n.waits (waited p q alike e)) [
-      | inl l ↦ inl (same.links ∙ l)
-      | inr h ↦ inr (same.holds b h)
-    ];
-    linking = λ c e.
-        let k = n.linking c (sym same.links ∙ e) in
-        (k.0, still_waits p q alike k.1, λ d h. k.2 d (held_before d h));
-    holding = λ c h. let k = n.holding c (held_before c h) in (k.0, still_waits p q alike k.1);
-    woken = λ none.
-        let k = n.woken (before none) in
-        (
-          (λ e. k.0 (waited (phase_of S a) (phase_of T a) same.phase e)),
-          (λ e. k.1 (was_told (phase_of S a) (phase_of T a) same.phase e)),
-        );
-    passed = λ r none at stays.
-        let k = same.station r at in
-        k.2 ∙ n.passed k.0 (before none) k.1 (sym same.phase.released ∙ stays);
-  }
+        waits = λ e. elim (n.waits (waited p q alike e)) [
+          | inl l ↦ inl (same.links ∙ l)
+          | inr h ↦ inr (same.holds b h)
+        ];
+        linking = λ c e.
+            let k = n.linking c (sym same.links ∙ e) in
+            (k.0, still_waits p q alike k.1, λ d h. k.2 d (held_before d h));
+        holding = λ c h. let k = n.holding c (held_before c h) in (k.0, still_waits p q alike k.1);
+        woken = λ none.
+            let k = n.woken (before none) in (
+              (λ e. k.0 (waited (phase_of S a) (phase_of T a) same.phase e)),
+              (λ e. k.1 (was_told (phase_of S a) (phase_of T a) same.phase e)),
+            );
+        passed = λ r none at stays.
+            let k = same.station r at in
+            k.2 ∙ n.passed k.0 (before none) k.1 (sym same.phase.released ∙ stays);
+      }
 
 -- ---- versions
 
@@ -165,23 +164,22 @@ pub arrivals_kept : (ts : List Task) (xs : List OpName) (S T : State) (v : OpNam
     → HasArrivals ts xs T v z
 arrivals_kept ts xs S T v y z same each h =
     let released = λ (a : OpName) (k : Has a xs). (each a k).phase.released in record {
-  once = h.once;
-  each = λ a k. arrival_kept ts S T v y z a same.object (each a k).phase.arrived (h.each a k);
-  opener = λ on. h.opener (subst (λ x. IsOn ts x Input v) same.object on);
-  own = h.own;
-  registered = same.registered ∙ h.registered;
-  released = same.released ∙ h.released ∙ sym (same_released S T xs released);
-  head = same.head ∙ h.head ∙ ap (λ b. head_of b xs) (sym same.produced);
-  tail = same.tail ∙ h.tail ∙ sym (same_tail S T xs released);
-  first = λ a e.
-      let k = h.first a e in
-      let alike = (each a (has_oldest a xs e)).phase in
-      (
-        (λ w. same.produced ∙ k.0 (waited (phase_of S a) (phase_of T a) alike w)),
-        (λ b. still_waits (phase_of S a) (phase_of T a) alike (k.1 (sym same.produced ∙ b))),
-      );
-  chained = chained_by T xs (λ a b n.
-      neighbours_kept S T a (each a (has_older a b xs n)) b (each b (has_newer a b xs n)).phase
-      (chained_at S xs h.chained a b n));
-  newest = newest_by T xs (λ a e. newest_kept S T a (each a (has_newest a xs e)) (newest_at S xs h.newest a e));
-}
+      once = h.once;
+      each = λ a k. arrival_kept ts S T v y z a same.object (each a k).phase.arrived (h.each a k);
+      opener = λ on. h.opener (subst (λ x. IsOn ts x Input v) same.object on);
+      own = h.own;
+      registered = same.registered ∙ h.registered;
+      released = same.released ∙ h.released ∙ sym (same_released S T xs released);
+      head = same.head ∙ h.head ∙ ap (λ b. head_of b xs) (sym same.produced);
+      tail = same.tail ∙ h.tail ∙ sym (same_tail S T xs released);
+      first = λ a e.
+          let k = h.first a e in
+          let alike = (each a (has_oldest a xs e)).phase in (
+            (λ w. same.produced ∙ k.0 (waited (phase_of S a) (phase_of T a) alike w)),
+            (λ b. still_waits (phase_of S a) (phase_of T a) alike (k.1 (sym same.produced ∙ b))),
+          );
+      chained = chained_by T xs (λ a b n.
+          neighbours_kept S T a (each a (has_older a b xs n)) b (each b (has_newer a b xs n)).phase
+          (chained_at S xs h.chained a b n));
+      newest = newest_by T xs (λ a e. newest_kept S T a (each a (has_newest a xs e)) (newest_at S xs h.newest a e));
+    }

@@ -51,8 +51,7 @@ held_early ts g S h a c p there held =
 untold_record : (l : LookUps) (r : OperandState) → HasRecord l None → l.station ≡ Some r
     → (r.source ≡ None) × (r.farewell ≡ farewell.Nothing)
 untold_record l r h at =
-    let same = same_Some h.kept r (sym h.there ∙ at) in
-    (
+    let same = same_Some h.kept r (sym h.there ∙ at) in (
       ap (λ (r : OperandState). r.source) (sym same) ∙ h.told,
       ap (λ (r : OperandState). r.farewell) (sym same) ∙ h.stays,
     )
