@@ -94,3 +94,6 @@ pub mod ReadersQuiet
 pub mod ReadersTasks
 pub mod ReadersLeaving
 pub mod ChainsSettled
+pub mod EntriesLeaving
+pub mod EntriesDecodeOpen
+pub mod EntriesDecodeUse
