@@ -26,7 +26,8 @@ use Rattle.tss_laws.proofs.SpawnLemmas.{SpawnsOne}
 use Rattle.tss_laws.proofs.TakeLemmas.{TakesTask}
 use Rattle.tss_laws.proofs.NumberLemmas.{taken_newest, last_taken_before}
 use Rattle.tss_laws.proofs.BackLemmas.{Standing, standing_by, standing_of, ReadiesOperand, ChangesTask, StartsTask, ExecutesTask, FinishesTask, kept_by_standing}
-use Rattle.tss_laws.proofs.StageLemmas.{at_front, in_queue, waiting≢finished, queued≢finished}
+use Rattle.tss_laws.proofs.QueueLemmas.{at_front, in_queue}
+use Rattle.tss_laws.proofs.StageLemmas.{waiting≢finished, queued≢finished}
 use Rattle.tss_laws.proofs.HoldersRunners.{Runs, runs_went_on, runs_readied, runs_taken, runs_started, runs_executed, runs_finished}
 use Rattle.tss_laws.proofs.HoldersOrder.{ready_in}
 

@@ -97,3 +97,5 @@ pub mod ChainsSettled
 pub mod EntriesLeaving
 pub mod EntriesDecodeOpen
 pub mod EntriesDecodeUse
+pub mod HoldersLater
+pub mod HoldersRunnerEvents
