@@ -99,3 +99,4 @@ pub mod EntriesDecodeOpen
 pub mod EntriesDecodeUse
 pub mod HoldersLater
 pub mod HoldersRunnerEvents
+pub mod NameCounts
