@@ -100,3 +100,4 @@ pub mod EntriesDecodeUse
 pub mod HoldersLater
 pub mod HoldersRunnerEvents
 pub mod NameCounts
+pub mod HoldersFits

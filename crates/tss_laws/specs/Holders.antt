@@ -1,6 +1,6 @@
 -- What each operand of a round holds: the version that it was told, its link, and what its phase says of the version that
 -- it has opened.
-use Rattle.std.specs.Prelude.{◌≡◌, Bool, true, false, ◌⊎◌, List, Some, None}
+use Rattle.std.specs.Prelude.{◌≡◌, Bool, true, false, ◌⊎◌, List, Option, Some, None}
 use Rattle.std.specs.FinMap.{get}
 use Rattle.tss_base.specs.declared.operand.OpName.{OpName}
 use Rattle.tss_base.specs.declared.operand.Operand.{Operand}
@@ -54,10 +54,10 @@ link_fits p link.Nothing = true
 link_fits p l = false
 
 -- a promised bye is of an operand whose link has passed, or is under way
-abbrev pub PromiseFits : State → OpName → OperandState → Bool → Type 0
-PromiseFits S o r true = ((r.link ≡ link.Passed) × (get S.mail.links o ≡ None))
-    ⊎ ((r.link ≡ link.Nothing) × ((next : OpName) × (get S.mail.links o ≡ Some next)))
-PromiseFits S o r false = (r.link ≡ link.Nothing) × (get S.mail.links o ≡ None)
+abbrev pub PromiseFits : Option OpName → LinkState → Bool → Type 0
+PromiseFits under_way l true =
+    ((l ≡ link.Passed) × (under_way ≡ None)) ⊎ ((l ≡ link.Nothing) × ((next : OpName) × (under_way ≡ Some next)))
+PromiseFits under_way l false = (l ≡ link.Nothing) × (under_way ≡ None)
 
 -- the links of an operand with a record
 pub record HasLinks (S : State) (o : OpName) (p : Operand) (r : OperandState) : Type 0 where
@@ -65,7 +65,7 @@ pub record HasLinks (S : State) (o : OpName) (p : Operand) (r : OperandState) : 
   pub writer : writes p.mode ≡ true → (r.link ≡ link.Nothing) × (get S.mail.links o ≡ None)
   pub under_way : (next : OpName) → get S.mail.links o ≡ Some next → r.link ≡ link.Nothing
   pub early : (phase_of S o ≡ Decoding) ⊎ (phase_of S o ≡ Sent) → get S.mail.links o ≡ None
-  pub promise : (promised : Bool) → get S.mail.byes o ≡ Some promised → PromiseFits S o r promised
+  pub promise : (promised : Bool) → get S.mail.byes o ≡ Some promised → PromiseFits (get S.mail.links o) r.link promised
   pub promised : phase_of S o ≡ Promised → (next : OpName) × (get S.mail.links o ≡ Some next)
 
 -- ---- the whole
