@@ -23,7 +23,7 @@ use Rattle.tss_laws.specs.Entries.{IsGoingHome, IsLeaving, IsUsed, IsAbsent, IsL
 use Rattle.tss_laws.specs.Chains.{HasChains}
 use Rattle.tss_laws.specs.Control.{HasGroundwork}
 use Rattle.tss_laws.proofs.EntriesLeaving.{SameLeaving, leaving_turned, version_back, going_back, leaving_back, last_version_still}
-use Rattle.tss_laws.proofs.EntriesNames.{one_object, decode_among, none_later, member_operand, no_version, no_open, no_use_of, no_latest}
+use Rattle.tss_laws.proofs.EntriesNames.{object_of_entry, decode_among, none_later, member_operand, no_version, no_open, no_use_of, no_latest}
 
 -- what a decode that sends an open leaves
 pub record DecodesOpen (S T : State) (o : OpName) (p : Operand) (c : OpenContents) (n : Entry) : Type 0 where
@@ -121,18 +121,11 @@ module _ (m : Machine) (all ts : List Task) (S : State) (ground : HasGroundwork 
 
   -- ---- the entry of the object
 
-  -- an entry at the object's base is the object's
-  entry_object : (e : Entry) → get S.entries p.object.base ≡ Some e → e.object ≡ p.object
-  entry_object e at =
-      let q = h.operand p.object.base e at in
-      sym q.1.2
-      ∙ one_object m all ts S ground orderly e.latest o q.1.0 p q.1.1 among (ap (λ (x : Range). x.base) q.1.2 ∙ q.0)
-
   module _ (awake : (e : Entry) → get S.entries p.object.base ≡ Some e → e.retiring ≡ false) where
     stays_by : (x : Option Entry) → get S.entries p.object.base ≡ x → (v : OpName) → IsLeaving S p.object v → ⊥
     stays_by None none v l = (h.absent o p among none).stays v l
     stays_by (Some e) at v l =
-        (h.live p.object.base e at (awake e at)).stays v (subst (λ x. IsLeaving S x v) (sym (entry_object e at)) l)
+        (h.live p.object.base e at (awake e at)).stays v (subst (λ x. IsLeaving S x v) (sym (object_of_entry m all ts S ground orderly h o p there e at)) l)
 
     stays_before : (v : OpName) → IsLeaving S p.object v → ⊥
     stays_before = stays_by (get S.entries p.object.base) refl

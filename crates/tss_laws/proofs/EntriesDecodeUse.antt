@@ -23,7 +23,7 @@ use Rattle.tss_laws.specs.Members.{operand_among, IsWriterOn, IsVersionOf, IsOpe
 use Rattle.tss_laws.specs.Entries.{IsGoingHome, IsLeaving, IsUsed, IsAbsent, IsLive, IsLastVersion, IsRetiring, HasEntries}
 use Rattle.tss_laws.specs.Control.{HasGroundwork}
 use Rattle.tss_laws.proofs.EntriesLeaving.{SameLeaving, leaving_turned, version_back, going_back, leaving_back, last_version_still}
-use Rattle.tss_laws.proofs.EntriesNames.{one_object, decode_among, no_use}
+use Rattle.tss_laws.proofs.EntriesNames.{object_of_entry, decode_among, no_use}
 
 -- what a decode that sends a use leaves, by the entry
 pub record DecodesUse (S T : State) (o : OpName) (p : Operand) (n : Entry) : Type 0 where
@@ -48,10 +48,7 @@ module _ (m : Machine) (all ts : List Task) (S : State) (ground : HasGroundwork 
 
   -- the entry's object
   n_object : n.object ≡ p.object
-  n_object =
-      let q = h.operand p.object.base n d.there in
-      sym q.1.2
-      ∙ one_object m all ts S ground orderly n.latest o q.1.0 p q.1.1 among (ap (λ (x : Range). x.base) q.1.2 ∙ q.0)
+  n_object = object_of_entry m all ts S ground orderly h o p there n d.there
 
   open_back : (x : Range) (v : OpName) → IsOpenOf T x v → IsOpenOf S x v
   open_back x v e = (e.0, ap (λ m. get m v) (sym d.opens) ∙ e.1, e.2)

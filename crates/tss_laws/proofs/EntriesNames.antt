@@ -26,6 +26,7 @@ use Rattle.tss_laws.specs.Names.{IsDecoded}
 use Rattle.tss_laws.specs.Members.{first_there, operand_among, IsMember}
 use Rattle.tss_laws.specs.Control.{HasGroundwork}
 use Rattle.tss_laws.specs.Chains.{HasChains}
+use Rattle.tss_laws.specs.Entries.{HasEntries}
 use Rattle.tss_laws.proofs.EntriesQuiet.{decoded_shows, decoded_from}
 
 -- ---- operands and objects
@@ -128,6 +129,14 @@ module _ (m : Machine) (all ts : List Task) (S : State) (ground : HasGroundwork 
       let q = operand_of_object ts o x.0 x.1 in
       let same = one_operand all o q.0 p (ground.known.operands o q.0 q.1) (ground.gateway.decodes o p there).2 in
       q.1 ∙ ap Some same
+
+  -- an entry at the base of its object is of that object
+  pub object_of_entry : HasEntries ts S → (o : OpName) (p : Operand) → get S.mail.decodes o ≡ Some p → (e : Entry)
+      → get S.entries p.object.base ≡ Some e → e.object ≡ p.object
+  object_of_entry h o p there e at =
+      let q = h.operand p.object.base e at in
+      sym q.1.2
+      ∙ one_object e.latest o q.1.0 p q.1.1 (decode_among o p there) (ap (λ (x : Range). x.base) q.1.2 ∙ q.0)
 
   -- what has been decoded of its object is of no later task
   pub none_later : (o q : OpName) (p r : Operand) → get S.mail.decodes o ≡ Some p → operand_among ts q ≡ Some r

@@ -101,3 +101,4 @@ pub mod HoldersLater
 pub mod HoldersRunnerEvents
 pub mod NameCounts
 pub mod HoldersFits
+pub mod EntriesDecode
