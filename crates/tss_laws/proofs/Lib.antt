@@ -102,3 +102,5 @@ pub mod HoldersRunnerEvents
 pub mod NameCounts
 pub mod HoldersFits
 pub mod EntriesDecode
+pub mod ReleaseFacts
+pub mod ChainsReleased

@@ -115,8 +115,7 @@ module _ (S T : State) (n : ℕ) (y : Flying) (flight : T.flight ≡ remaining_t
       → (a c : OpName) (p : Operand) → P a → operand_among ts a ≡ Some p → Holds S a c → Holds T a c
   holds_after ts g orderly holders mine a c p fit there k =
       let early = held_early ts g S holders a c p there k in
-      let stays = (early_record S orderly a k.0 early k.1).1 in
-      (
+      let stays = (early_record S orderly a k.0 early k.1).1 in (
         k.0,
         ap (λ f. operand_at f a) flight
             ∙ elim (decide_key nat_order a.task n) [

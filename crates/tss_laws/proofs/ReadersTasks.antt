@@ -142,13 +142,13 @@ module _ (m : Machine) (ts : List Task) (g : Arrivals) (S : State) (h : HasReade
     readers_taken =
         readers_by ts g S Taken h (λ i. (Leaves-after_event m S event.Take i).versions) (links-take m S)
         (λ a p at arrived.
-          let other = not_arrived a arrived in
-          record {
-            phase = alike_same (phase_of S a) (phase_of Taken a) (phase_of-take-other m S t inbox a other);
-            links = ap (λ ls. get ls a) (links-take m S);
-            holds = λ c k. (k.0, taken_record a other ∙ k.1, k.2);
-            station = λ r e. (r, sym (taken_record a other) ∙ e, refl);
-          })
+        let other = not_arrived a arrived in
+        record {
+          phase = alike_same (phase_of S a) (phase_of Taken a) (phase_of-take-other m S t inbox a other);
+          links = ap (λ ls. get ls a) (links-take m S);
+          holds = λ c k. (k.0, taken_record a other ∙ k.1, k.2);
+          station = λ r e. (r, sym (taken_record a other) ∙ e, refl);
+        })
         taken_held
 
   -- take
