@@ -104,3 +104,4 @@ pub mod HoldersFits
 pub mod EntriesDecode
 pub mod ReleaseFacts
 pub mod ChainsReleased
+pub mod ReadersTold
