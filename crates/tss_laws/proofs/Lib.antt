@@ -105,3 +105,4 @@ pub mod EntriesDecode
 pub mod ReleaseFacts
 pub mod ChainsReleased
 pub mod ReadersTold
+pub mod HoldersTold
