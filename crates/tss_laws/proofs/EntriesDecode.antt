@@ -43,7 +43,8 @@ module _ (m : Machine) (S : State) (o : OpName) (p : Operand) (there : get S.mai
   abbrev T : State
   T = after_event m S (event.Decode o)
 
-  mail_decoded : T.mail ≡ mail_with (decode_message o p (get S.entries p.object.base))
+  -- the messages
+  pub mail_decoded : T.mail ≡ mail_with (decode_message o p (get S.entries p.object.base))
   unfolding after_event
   mail_decoded = ap (λ x. (decode_message_taken m (without S (event.Decode o)) o x).mail) there
 
@@ -88,7 +89,8 @@ module _ (m : Machine) (S : State) (o : OpName) (p : Operand) (there : get S.mai
   first_alike Output = refl
   first_alike Inout = refl
 
-  sends_first : get S.entries p.object.base ≡ None
+  -- sends an open that follows nothing
+  pub sends_first : get S.entries p.object.base ≡ None
       → DecodesOpen S T o p (record { operand = p; storage = Some Home; follows = None }) (entry_after_decode o p None)
   sends_first none =
       sends_open (record { operand = p; storage = Some Home; follows = None }) (entry_after_decode o p None)
@@ -112,26 +114,29 @@ module _ (m : Machine) (S : State) (o : OpName) (p : Operand) (there : get S.mai
         ∙ ap (λ x. insert S.entries p.object.base (entry_after_decode o p x)) at
         ∙ ap (λ mode. insert S.entries p.object.base (live_entry o e mode)) is
 
-    beside_contents : OpenContents
+    -- what an output's open says
+    abbrev pub beside_contents : OpenContents
     beside_contents =
         record { operand = p; storage = Some (Buffer o); follows = Some (follows_latest e Beside) }
 
-    over_contents : OpenContents
+    -- and an inout's
+    abbrev pub over_contents : OpenContents
     over_contents = record { operand = p; storage = None; follows = Some (follows_latest e Over) }
 
-    sends_beside : p.mode ≡ Output → DecodesOpen S T o p beside_contents (live_entry o e Output)
-    unfolding beside_contents
+    -- an output opens a version beside the latest
+    pub sends_beside : p.mode ≡ Output → DecodesOpen S T o p beside_contents (live_entry o e Output)
     sends_beside is =
         sends_open beside_contents (live_entry o e Output) (mail_live Output is) (entries_live Output is) refl object refl
         (ap (λ mode. first_reader mode (Some (follows_latest e Beside))) (sym is)) live
 
-    sends_over : p.mode ≡ Inout → DecodesOpen S T o p over_contents (live_entry o e Inout)
-    unfolding over_contents
+    -- an inout over it
+    pub sends_over : p.mode ≡ Inout → DecodesOpen S T o p over_contents (live_entry o e Inout)
     sends_over is =
         sends_open over_contents (live_entry o e Inout) (mail_live Inout is) (entries_live Inout is) refl object refl
         (ap (λ mode. first_reader mode (Some (follows_latest e Over))) (sym is)) live
 
-    sends_use : p.mode ≡ Input → DecodesUse S T o p e
+    -- and an input uses it
+    pub sends_use : p.mode ≡ Input → DecodesUse S T o p e
     sends_use is = record {
       leaving = leaving_decoded (Use o e.latest) (mail_live Input is) refl refl;
       opens = ap (λ (m : Mail). m.opens) (mail_live Input is);
@@ -143,13 +148,14 @@ module _ (m : Machine) (S : State) (o : OpName) (p : Operand) (there : get S.mai
       decoded = decoded_others;
     }
 
-  -- ---- an entry that retires is waited for
+  -- an entry that retires is waited for
 
   not_retiring : (e : Entry) (rest : Option Wait) (b : Bool) → is_none (wait_or b Retiring rest) ≡ true → b ≡ false
   not_retiring e rest true h = absurd (true≢false (sym h))
   not_retiring e rest false h = refl
 
-  entry_awake : IsEnabled m S (event.Decode o) → (e : Entry) → get S.entries p.object.base ≡ Some e
+  -- so that of an enabled decode doesn't
+  pub entry_awake : IsEnabled m S (event.Decode o) → (e : Entry) → get S.entries p.object.base ≡ Some e
       → e.retiring ≡ false
   unfolding is_enabled
   entry_awake on e at =

@@ -106,3 +106,4 @@ pub mod ReleaseFacts
 pub mod ChainsReleased
 pub mod ReadersTold
 pub mod HoldersTold
+pub mod RetirementDecode
