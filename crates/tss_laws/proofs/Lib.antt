@@ -107,3 +107,4 @@ pub mod ChainsReleased
 pub mod ReadersTold
 pub mod HoldersTold
 pub mod RetirementDecode
+pub mod ReadersSettled
