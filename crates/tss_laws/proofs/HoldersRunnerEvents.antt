@@ -145,9 +145,12 @@ module _ (m : Machine) (all : List Task) (S : State) (numbers : HasTaskNumbers m
         elim (decide_key nat_order o.task b.task.number) [
           | inl same ↦
               let there = sym (ap (λ f. get f b.task.number) (flight-finish m S w b x busy flying))
-              ∙ ap (get finished.flight) (sym same) ∙ y.1 in
-              (y.0, y.1, ap (λ (x : Flying). x.stage)
-              (remaining_there S.flight b.task.number (record x { stage = stage.Finished }) y.0 there))
+              ∙ ap (get finished.flight) (sym same) ∙ y.1 in (
+                y.0,
+                y.1,
+                ap (λ (x : Flying). x.stage)
+                    (remaining_there S.flight b.task.number (record x { stage = stage.Finished }) y.0 there),
+              )
           | inr other ↦
               late_kept S finished (after (event.Finish w) on).stay
               (KeepsFront-after_event m S (event.Finish w) refl).flight runners.late o r

@@ -108,3 +108,4 @@ pub mod ReadersTold
 pub mod HoldersTold
 pub mod RetirementDecode
 pub mod ReadersSettled
+pub mod ChainsUse

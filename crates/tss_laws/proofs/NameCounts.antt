@@ -49,8 +49,8 @@ IsMeasure-map {X} m = record {
   none = λ p fails. count_none name_order (λ o (x : X). p o) m (λ o x e. fails o);
   either = λ p q r h.
       let most =
-          sum_at_most name_order (λ o (x : X). one_if (p o)) (λ o (x : X). one_if (q o) + one_if (r o)) m
-          (λ o x e. one_if_either (p o) (q o) (r o) (h o)) in
+      sum_at_most name_order (λ o (x : X). one_if (p o)) (λ o (x : X). one_if (q o) + one_if (r o)) m
+      (λ o x e. one_if_either (p o) (q o) (r o) (h o)) in
       let both = sum_both name_order (λ o (x : X). one_if (q o)) (λ o (x : X). one_if (r o)) m in
       omega (arith, most, both);
 }
@@ -71,14 +71,14 @@ pub those_at : {X : Type 0} → (m : Named X) (k : OpName) → those_in m (λ o.
 those_at {X} m k = elim (decide_get m k) [
   | inl absent ↦
       let z =
-          count_none name_order (λ o (x : X). same_name o k) m
-          (λ o x e. other_name o k (λ same. none-some x (sym absent ∙ sym (ap (get m) same) ∙ e))) in
+      count_none name_order (λ o (x : X). same_name o k) m
+      (λ o x e. other_name o k (λ same. none-some x (sym absent ∙ sym (ap (get m) same) ∙ e))) in
       omega (arith, z)
   | inr there ↦
       let f = λ (o : OpName) (x : X). one_if (same_name o k) in
       let rest =
-          sum_none name_order f (remove m k)
-          (λ o x e. ap one_if (other_name o k (from_removed name_order m k o x e).0)) in
+      sum_none name_order f (remove m k)
+      (λ o x e. ap one_if (other_name o k (from_removed name_order m k o x e).0)) in
       let all = sum_removed name_order f m k there.0 there.1 in
       let one = at_most_one (same_name k k) in
       let here = ap (λ x. one_if (is_some x)) there.1 in
@@ -196,9 +196,9 @@ module _ {K X : Type 0} {R : K → K → Ordering} (order : IsKeyOrder R) (part 
       omega (arith, z)
   few_in_parts (suc parts) =
       let step =
-          sum_at_most order (λ k x. one_if (nat_lt (part k x) (suc parts)))
-          (λ k x. one_if (nat_lt (part k x) parts) + one_if (part k x == parts)) m
-          (λ k x e. one_if_either _ _ _ (last_part (part k x) parts)) in
+      sum_at_most order (λ k x. one_if (nat_lt (part k x) (suc parts)))
+      (λ k x. one_if (nat_lt (part k x) parts) + one_if (part k x == parts)) m
+      (λ k x e. one_if_either _ _ _ (last_part (part k x) parts)) in
       let both = sum_both order (λ k x. one_if (nat_lt (part k x) parts)) (λ k x. one_if (part k x == parts)) m in
       let one = each parts in
       let rest = few_in_parts parts in
