@@ -109,3 +109,4 @@ pub mod HoldersTold
 pub mod RetirementDecode
 pub mod ReadersSettled
 pub mod ChainsUse
+pub mod MessageCounts

@@ -188,30 +188,31 @@ module _ (many : NameTest → ℕ) (f : IsMeasure many) (few : (k : OpName) → 
 
 -- ---- parts of a map
 
-module _ {K X : Type 0} {R : K → K → Ordering} (order : IsKeyOrder R) (part : K → X → ℕ) (most : ℕ) (m : FinMap R X)
-    (each : (j : ℕ) → count_of (λ k x. part k x == j) m ≤ most) where
-  -- the first parts have no more than their number of times the most of one
-  few_in_parts : (parts : ℕ) → count_of (λ k x. nat_lt (part k x) parts) m ≤ parts * most
-  few_in_parts zero = let z = count_none order (λ k x. nat_lt (part k x) 0) m (λ k x e. no_place true (part k x)) in
+module _ {K X : Type 0} {R : K → K → Ordering} (order : IsKeyOrder R) (part : K → X → ℕ) (most : ℕ) (m : FinMap R X) where
+  -- where no part has more than most, the first parts have no more than their number of times that
+  few_in_parts : (parts : ℕ) → ((j : ℕ) → j < parts → count_of (λ k x. part k x == j) m ≤ most)
+      → count_of (λ k x. nat_lt (part k x) parts) m ≤ parts * most
+  few_in_parts zero each = let z = count_none order (λ k x. nat_lt (part k x) 0) m (λ k x e. no_place true (part k x)) in
       omega (arith, z)
-  few_in_parts (suc parts) =
+  few_in_parts (suc parts) each =
       let step =
       sum_at_most order (λ k x. one_if (nat_lt (part k x) (suc parts)))
       (λ k x. one_if (nat_lt (part k x) parts) + one_if (part k x == parts)) m
       (λ k x e. one_if_either _ _ _ (last_part (part k x) parts)) in
       let both = sum_both order (λ k x. one_if (nat_lt (part k x) parts)) (λ k x. one_if (part k x == parts)) m in
-      let one = each parts in
-      let rest = few_in_parts parts in
+      let one = each parts (omega arith) in
+      let rest = few_in_parts parts (λ j before. each j (omega (arith, before))) in
       omega (arith, step, both, one, rest)
     where
       last_part : (n parts : ℕ) → nat_lt n (suc parts) ≡ true → (nat_lt n parts ≡ true) ⊎ ((n == parts) ≡ true)
       last_part n parts e = grind (arith, nat_tests)
 
   -- so a map of such parts has as many
-  pub len_in_parts : (parts : ℕ) → ((k : K) (x : X) → get m k ≡ Some x → part k x < parts) → len m ≤ parts * most
-  len_in_parts parts below =
+  pub len_in_parts : (parts : ℕ) → ((j : ℕ) → j < parts → count_of (λ k x. part k x == j) m ≤ most)
+      → ((k : K) (x : X) → get m k ≡ Some x → part k x < parts) → len m ≤ parts * most
+  len_in_parts parts each below =
       let all = count_all order (λ k x. nat_lt (part k x) parts) m (λ k x e. is_below (part k x) parts (below k x e)) in
-      let few = few_in_parts parts in
+      let few = few_in_parts parts each in
       omega (arith, all, few)
     where
       is_below : (n k : ℕ) → n < k → nat_lt n k ≡ true
