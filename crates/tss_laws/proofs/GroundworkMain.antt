@@ -15,17 +15,22 @@ use Rattle.tss_protocol.specs.Needs.{round_after_main, round_after_event}
 use Rattle.tss_protocol.specs.UnitMachine.{is_enabled, IsEnabled, after_event}
 use Rattle.tss_locality.specs.Rounds.{IsRounded}
 use Rattle.tss_phases.specs.Phase.{phase_of, is_decoded}
-use Rattle.tss_phases.proofs.MainEvent.{phase_of-main}
+use Rattle.tss_phases.proofs.MainEvent.{look_ups-main, phase_of-main}
 use Rattle.tss_phases.proofs.OrderlyEvents.{orderly-after_event}
 use Rattle.tss_laws.specs.Chains.{HasChains}
 use Rattle.tss_laws.specs.Entries.{HasEntries, HasRetirement}
 use Rattle.tss_laws.specs.Readers.{Arrivals, HasReaders}
+use Rattle.tss_laws.specs.Runners.{HasRunners}
+use Rattle.tss_laws.specs.Holders.{HasHolders}
 use Rattle.tss_laws.specs.Control.{IsControlled}
 use Rattle.tss_laws.proofs.SpawnLemmas.{IsNext-spawn_of}
 use Rattle.tss_laws.proofs.ChainsFrames.{HasChains-same}
 use Rattle.tss_laws.proofs.EntriesFrames.{HasEntries-same}
 use Rattle.tss_laws.proofs.RetirementFrames.{HasRetirement-same}
 use Rattle.tss_laws.proofs.ReadersStates.{HasReaders-same}
+use Rattle.tss_laws.proofs.HoldersFits.{HasHolders-same}
+use Rattle.tss_laws.proofs.HoldersRunnerEvents.{HasRunners-after_event}
+use Rattle.tss_laws.proofs.GroundworkJoin.{AreGroupsKept}
 use Rattle.tss_laws.proofs.GroundworkEmpty.{IsControlled-bare, IsBare-drained}
 use Rattle.tss_laws.proofs.GroundworkSpawn.{IsLonger-spawn}
 use Rattle.tss_laws.proofs.GroundworkGrown.{IsControlled-longer}
@@ -158,3 +163,25 @@ module _ (m : Machine) (ts : List Task) (g : Arrivals) (S : State) (round : IsRo
         phases = λ a. phase_of-main m S a on;
       })
       controlled_before_main.readers
+
+  -- what operands hold
+  pub HasHolders-main : HasRunners (after_event m S event.Main)
+      → HasHolders (round_after_event m S ts event.Main) g (after_event m S event.Main)
+  HasHolders-main runners =
+      let k = kept_after_main in
+      HasHolders-same (round_after_event m S ts event.Main) g S (after_event m S event.Main)
+      (λ q. look_ups-main m S q on) (λ i. (k.mail i).links) k.versions h.orderly runners
+      controlled_before_main.holders
+
+-- all groups
+pub keeps_main : AreGroupsKept event.Main
+keeps_main = record {
+  order = λ m all ts g S ground h on. tt;
+  chains = λ m all ts g S ground h on order. HasChains-main m ts g S ground.round h on;
+  entries = λ m all ts g S ground h on order. HasEntries-main m ts g S ground.round h on;
+  retirement = λ m all ts g S ground h on order. HasRetirement-main m ts g S ground.round h on;
+  readers = λ m all ts g S ground h on order. HasReaders-main m ts g S ground.round h on;
+  holders = λ m all ts g S ground h on order.
+      HasHolders-main m ts g S ground.round h on
+      (HasRunners-after_event m all S ground.numbers ground.stages h.orderly h.holders.runners event.Main on order);
+}
