@@ -110,3 +110,4 @@ pub mod RetirementDecode
 pub mod ReadersSettled
 pub mod ChainsUse
 pub mod MessageCounts
+pub mod HoldersKeepsOrder
