@@ -111,3 +111,4 @@ pub mod ReadersSettled
 pub mod ChainsUse
 pub mod MessageCounts
 pub mod HoldersKeepsOrder
+pub mod HoldersQuiet
