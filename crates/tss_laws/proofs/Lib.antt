@@ -112,3 +112,4 @@ pub mod ChainsUse
 pub mod MessageCounts
 pub mod HoldersKeepsOrder
 pub mod HoldersQuiet
+pub mod ReadersRetire
