@@ -113,3 +113,4 @@ pub mod MessageCounts
 pub mod HoldersKeepsOrder
 pub mod HoldersQuiet
 pub mod ReadersRetire
+pub mod ChainsRetired

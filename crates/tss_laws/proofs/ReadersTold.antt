@@ -70,11 +70,14 @@ from_named : (vs : Named Version) (v : Option OpName) (f : Version → Version) 
     → get (change_named vs v f) q ≡ Some y → (x : Version) × (get vs q ≡ Some x) × IsNamedChange f v q x y
 from_named vs None f q y e = (y, e, inl refl)
 from_named vs (Some v) f q y e =
-    let h = from_changed vs v f q y e in
-    (h.0, h.1, elim h.2 [
-      | inl s ↦ inl s
-      | inr p ↦ inr (ap Some (sym p.0), p.1)
-    ])
+    let h = from_changed vs v f q y e in (
+      h.0,
+      h.1,
+      elim h.2 [
+        | inl s ↦ inl s
+        | inr p ↦ inr (ap Some (sym p.0), p.1)
+      ],
+    )
 
 module _ (vs : Named Version) (v : OpName) (x : Version) (s : OpName) where
   -- the version before knows another successor, and the successor another predecessor
