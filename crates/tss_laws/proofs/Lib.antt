@@ -114,3 +114,4 @@ pub mod HoldersKeepsOrder
 pub mod HoldersQuiet
 pub mod ReadersRetire
 pub mod ChainsRetired
+pub mod EntriesOfVersions
