@@ -115,3 +115,4 @@ pub mod HoldersQuiet
 pub mod ReadersRetire
 pub mod ChainsRetired
 pub mod EntriesOfVersions
+pub mod EntriesGranted
