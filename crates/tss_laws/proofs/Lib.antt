@@ -116,3 +116,4 @@ pub mod ReadersRetire
 pub mod ChainsRetired
 pub mod EntriesOfVersions
 pub mod EntriesGranted
+pub mod GroundworkEvents
