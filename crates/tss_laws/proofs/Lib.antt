@@ -117,3 +117,4 @@ pub mod ChainsRetired
 pub mod EntriesOfVersions
 pub mod EntriesGranted
 pub mod GroundworkEvents
+pub mod HoldersMoves
