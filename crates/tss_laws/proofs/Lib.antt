@@ -118,3 +118,4 @@ pub mod EntriesOfVersions
 pub mod EntriesGranted
 pub mod GroundworkEvents
 pub mod HoldersMoves
+pub mod ReadersWakes

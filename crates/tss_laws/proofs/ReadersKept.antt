@@ -66,12 +66,12 @@ alike_same p q e = record {
 }
 
 -- waiting before, where it is after
-pub waited : (p q : Phase) → LooksAlike p q → q ≡ Waiting → p ≡ Waiting
-waited p q a e = waiting_from_test p (sym a.waiting ∙ ap is_waiting e)
+pub waited : (p q : Phase) → is_waiting q ≡ is_waiting p → q ≡ Waiting → p ≡ Waiting
+waited p q same e = waiting_from_test p (sym same ∙ ap is_waiting e)
 
 -- waiting after, where it was before
-pub still_waits : (p q : Phase) → LooksAlike p q → p ≡ Waiting → q ≡ Waiting
-still_waits p q a e = waiting_from_test q (a.waiting ∙ ap is_waiting e)
+pub still_waits : (p q : Phase) → is_waiting q ≡ is_waiting p → p ≡ Waiting → q ≡ Waiting
+still_waits p q same e = waiting_from_test q (same ∙ ap is_waiting e)
 
 -- told before, where it is after
 pub was_told : (p q : Phase) → LooksAlike p q → q ≡ Told → p ≡ Told
@@ -101,8 +101,8 @@ module _ (S T : State) (a : OpName) (same : SameReader S T a) where
     record_link = λ r e. let k = same.station r e in k.2 ∙ n.record_link k.0 k.1;
   }
 
-  -- neighbours stay so
-  pub neighbours_kept : (b : OpName) → LooksAlike (phase_of S b) (phase_of T b) → AreNeighbours S a b
+  -- neighbours stay so, where the newer waits as before
+  pub neighbours_kept : (b : OpName) → is_waiting (phase_of T b) ≡ is_waiting (phase_of S b) → AreNeighbours S a b
       → AreNeighbours T a b
   neighbours_kept b alike n =
       let p = phase_of S b in
@@ -118,7 +118,7 @@ module _ (S T : State) (a : OpName) (same : SameReader S T a) where
         holding = λ c h. let k = n.holding c (held_before c h) in (k.0, still_waits p q alike k.1);
         woken = λ none.
             let k = n.woken (before none) in (
-              (λ e. k.0 (waited (phase_of S a) (phase_of T a) same.phase e)),
+              (λ e. k.0 (waited (phase_of S a) (phase_of T a) same.phase.waiting e)),
               (λ e. k.1 (was_told (phase_of S a) (phase_of T a) same.phase e)),
             );
         passed = λ r none at stays.
@@ -174,12 +174,12 @@ arrivals_kept ts xs S T v y z same each h =
       tail = same.tail ∙ h.tail ∙ sym (same_tail S T xs released);
       first = λ a e.
           let k = h.first a e in
-          let alike = (each a (has_oldest a xs e)).phase in (
+          let alike = (each a (has_oldest a xs e)).phase.waiting in (
             (λ w. same.produced ∙ k.0 (waited (phase_of S a) (phase_of T a) alike w)),
             (λ b. still_waits (phase_of S a) (phase_of T a) alike (k.1 (sym same.produced ∙ b))),
           );
       chained = chained_by T xs (λ a b n.
-          neighbours_kept S T a (each a (has_older a b xs n)) b (each b (has_newer a b xs n)).phase
+          neighbours_kept S T a (each a (has_older a b xs n)) b (each b (has_newer a b xs n)).phase.waiting
           (chained_at S xs h.chained a b n));
       newest = newest_by T xs (λ a e. newest_kept S T a (each a (has_newest a xs e)) (newest_at S xs h.newest a e));
     }
