@@ -119,3 +119,4 @@ pub mod EntriesGranted
 pub mod GroundworkEvents
 pub mod HoldersMoves
 pub mod ReadersWakes
+pub mod HoldersFrames
