@@ -59,3 +59,5 @@ pub mod FlatNumbers
 pub mod RunKeeps
 pub mod MainFollows
 pub mod MainEvent
+pub mod CountLemmas
+pub mod CountEvents

@@ -186,7 +186,7 @@ openings_sent S T ms k later =
     let same = posted_all-later T.mail ms later in
     record { opens = same.opens ∙ k.opens; uses = same.uses ∙ k.uses; versions = k.versions }
 
-posted_all-taken : (m : Mail) (n place : ℕ) (os : List Operand)
+pub posted_all-taken : (m : Mail) (n place : ℕ) (os : List Operand)
     → ((posted_all m (decodes_from n place os)).opens ≡ m.opens)
     × ((posted_all m (decodes_from n place os)).uses ≡ m.uses)
 posted_all-taken m n place [] = (refl, refl)

@@ -146,7 +146,7 @@ live_message-front m o operand e Input = (refl, refl)
 live_message-front m o operand e Output = (refl, refl)
 live_message-front m o operand e Inout = (refl, refl)
 
-decode_message-front : (m : Mail) (o : OpName) (operand : Operand) (e : Option Entry)
+pub decode_message-front : (m : Mail) (o : OpName) (operand : Operand) (e : Option Entry)
     → ((posted m (decode_message o operand e)).decodes ≡ m.decodes)
     × ((posted m (decode_message o operand e)).acks ≡ m.acks)
 decode_message-front m o operand None = (refl, refl)

@@ -71,7 +71,7 @@ module _ (C : OpName → Version → Type 0) (k : IsOfEach C) where
         ]
     each_settle_by (Some f) =
         elim (may_die x f.last)
-            as (λ b. EachEntry C (if b then settle_how vs v x f go f.how else unchanged vs).part) [
+        as (λ b. EachEntry C (if b then settle_how vs v x f go f.how else unchanged vs).part) [
           | true ↦ each_settle_how f f.how
           | false ↦ each
         ]

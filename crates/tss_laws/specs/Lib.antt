@@ -11,3 +11,4 @@ pub mod Tables
 pub mod Asking
 pub mod Held
 pub mod MainInOrder
+pub mod UseCounts

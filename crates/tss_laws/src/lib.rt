@@ -10,6 +10,7 @@ ghost use Rattle.tss_laws.specs.Openings.{OpeningsLaw};
 ghost use Rattle.tss_laws.specs.Tables.{TablesLaw};
 ghost use Rattle.tss_laws.specs.Asking.{AskingLaw};
 ghost use Rattle.tss_laws.specs.Held.{HeldPlacesLaw};
+ghost use Rattle.tss_laws.specs.UseCounts.{ReadersLaw};
 ghost use Rattle.tss_laws.specs.MainInOrder.{MainInOrderLaw, MainCutOffLaw, MainStoresLaw};
 
 /// Spawned tasks are numbered from 1 in their order, at most as many as there may be, and each with at most as many
@@ -76,6 +77,11 @@ pub fn asking()
 /// object.
 pub fn held_places()
     ensures { HeldPlacesLaw }
+{}
+
+/// Neither an entry of a renaming table nor a version counts more readers than a run may have operands.
+pub fn reader_counts()
+    ensures { ReadersLaw }
 {}
 
 /// One event of main. Where main's registers, number of spawned tasks, epoch, pieces and ending are those of program
