@@ -90,21 +90,15 @@ module _ (vs : Named Version) (m : Mail) (h : Asking vs m) where
     no_nack = elim (decide_get m.nacks v) [
       | inl none ↦ none
       | inr there ↦
-          let r = h.nacks v (there.1 ∙ ap Some (unit there.0)) in absurd (asks_not v r.0.0 r.0.1 refl)
+          let r = h.nacks v there.1 in absurd (asks_not v r.0.0 r.0.1 refl)
     ]
-      where
-        unit : (u : Unit {0}) → u ≡ tt
-        unit tt = refl
 
     no_retire : get m.retires v ≡ None
     no_retire = elim (decide_get m.retires v) [
       | inl none ↦ none
       | inr there ↦
-          let r = h.retires v (there.1 ∙ ap Some (unit there.0)) in absurd (asks_not v r.0 r.1 refl)
+          let r = h.retires v there.1 in absurd (asks_not v r.0 r.1 refl)
     ]
-      where
-        unit : (u : Unit {0}) → u ≡ tt
-        unit tt = refl
 
     asking_asks : Asking (put_version vs v (record x { asked = Some x.registered }))
         (posted m (Idle v (record { base = x.object.base; count = x.registered })))

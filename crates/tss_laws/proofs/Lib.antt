@@ -61,3 +61,5 @@ pub mod MainFollows
 pub mod MainEvent
 pub mod CountLemmas
 pub mod CountEvents
+pub mod RoomLemmas
+pub mod MessageLemmas

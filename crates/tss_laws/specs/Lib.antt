@@ -12,3 +12,4 @@ pub mod Asking
 pub mod Held
 pub mod MainInOrder
 pub mod UseCounts
+pub mod MessageCounts
