@@ -30,7 +30,7 @@ use Rattle.tss_laws.proofs.SpawnLemmas.{SpawnsAtMostOne, spawns_main}
 use Rattle.tss_laws.proofs.TakeLemmas.{TakesTask, takes_take, decode_message-front}
 use Rattle.tss_laws.proofs.RunLemmas.{IsKept, law_from}
 use Rattle.tss_laws.proofs.NumberLemmas.{HasTaskNumbers-after_event, HasTaskNumbers-initial_state}
-use Rattle.tss_laws.proofs.OpeningLemmas.{posted_all-taken}
+use Rattle.tss_laws.proofs.OpeningFrames.{posted_all-taken}
 use Rattle.tss_laws.proofs.VersionFacts.{each_release, each_nack, each_retire}
 use Rattle.tss_laws.proofs.CountLemmas.{operands_in, operands_waiting, operands_few, Counts, counts_less, counts_still, readers_of_each, len-spread, len_message, counts_decoded, counts_opened, counts_used}
 

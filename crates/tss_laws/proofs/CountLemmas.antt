@@ -46,6 +46,7 @@ operands_few most (t ∷ ts) each =
 
 -- ---- the counts, where u operands are still to be decoded, and p opens and uses are under way
 
+-- no entry and no version counts more readers than the operands that were decoded or enlisted
 pub record Counts (total u p : ℕ) (entries : Numbered Entry) (versions : Named Version) : Type 0 where
   pub fits : u + p ≤ total
   pub sent : (base : ℕ) (e : Entry) → get entries base ≡ Some e → e.sent + u ≤ total
@@ -83,6 +84,7 @@ readers_of_each rest total = record {
 
 -- ---- take
 
+-- at most one more for each operand
 pub len-spread : {X : Type 0} (f : Operand → X) (m : Named X) (n place : ℕ) (os : List Operand)
     → len (spread f m n place os) ≤ len m + length os
 len-spread f m n place [] = omega arith
@@ -148,6 +150,7 @@ counts_decoded total u w p q es vs h fewer more o operand e there = record {
 
 -- ---- open, use
 
+-- a new version counts at most the operand that opened it
 pub counts_opened : (total u p q : ℕ) (es : Numbered Entry) (vs : Named Version) → Counts total u p es vs → q + 1 ≡ p
     → (o : OpName) (c : OpenContents) → Counts total u q es (after_open vs o c).part
 counts_opened total u p q es vs h fewer o c =
@@ -161,6 +164,7 @@ counts_opened total u p q es vs h fewer o c =
           (λ x object few. let a = h.fits in omega (arith, a, fewer, few));
     }
 
+-- a use counts one more
 pub counts_used : (total u p q : ℕ) (es : Numbered Entry) (vs : Named Version) → Counts total u p es vs → q + 1 ≡ p
     → (o v : OpName) → Counts total u q es (after_use vs o v).part
 counts_used total u p q es vs h fewer o v =

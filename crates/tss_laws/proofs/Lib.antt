@@ -20,6 +20,7 @@ pub mod NameEvents
 pub mod DecodedNames
 pub mod VersionFacts
 pub mod VersionObjects
+pub mod OpeningFrames
 pub mod OpeningLemmas
 pub mod EnlistedNames
 pub mod PlaceLemmas

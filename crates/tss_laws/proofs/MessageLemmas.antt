@@ -176,6 +176,7 @@ module _ (sizes : Sizes) (S : State)
 
 -- ---- the law
 
+-- with the laws of slots, asking and held places
 pub messages_of_runs : MessagesLaw
 messages_of_runs m i es S accepted admissible run =
     let front = kept_after IsFrontSound IsFrontSound-after_event m es [] (initial_state i) S

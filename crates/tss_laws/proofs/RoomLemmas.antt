@@ -47,6 +47,7 @@ module _ {X : Type 0} (Z : Type 0) (Q : OpName → Type 0) (c : ℕ) where
       let less = len_removed name_order places k here.0 here.1 in
       omega (arith, rest, more, less)
 
+  -- so there is room for both
   pub room_more : (m : Named X) → ((k : OpName) → Q k → IsAt m k → ⊥) → HasRoom Z Q c
       → HasRoom Z (λ k. Q k ⊎ IsAt m k) (c + len m)
   room_more m beside room =

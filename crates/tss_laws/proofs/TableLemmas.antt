@@ -328,6 +328,7 @@ greatest_within f size zero each = omega arith
 greatest_within f size (suc n) each =
     let rest = greatest_within f size n each in let one = each n in omega (arith, rest, one)
 
+-- with the laws of slots and stages
 pub tables_of_runs : TablesLaw
 tables_of_runs m i es S accepted admissible run =
     let banks = kept_after StaysWithinBanks StaysWithinBanks-after_event m es [] (initial_state i) S

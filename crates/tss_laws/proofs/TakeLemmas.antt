@@ -146,6 +146,7 @@ live_message-front m o operand e Input = (refl, refl)
 live_message-front m o operand e Output = (refl, refl)
 live_message-front m o operand e Inout = (refl, refl)
 
+-- nor is it with the object's entry, or without one
 pub decode_message-front : (m : Mail) (o : OpName) (operand : Operand) (e : Option Entry)
     → ((posted m (decode_message o operand e)).decodes ≡ m.decodes)
     × ((posted m (decode_message o operand e)).acks ≡ m.acks)
