@@ -90,21 +90,15 @@ module _ (vs : Named Version) (m : Mail) (h : Asking vs m) where
     no_nack = elim (decide_get m.nacks v) [
       | inl none ↦ none
       | inr there ↦
-          let r = h.nacks v (there.1 ∙ ap Some (unit there.0)) in absurd (asks_not v r.0.0 r.0.1 refl)
+          let r = h.nacks v there.1 in absurd (asks_not v r.0.0 r.0.1 refl)
     ]
-      where
-        unit : (u : Unit {0}) → u ≡ tt
-        unit tt = refl
 
     no_retire : get m.retires v ≡ None
     no_retire = elim (decide_get m.retires v) [
       | inl none ↦ none
       | inr there ↦
-          let r = h.retires v (there.1 ∙ ap Some (unit there.0)) in absurd (asks_not v r.0 r.1 refl)
+          let r = h.retires v there.1 in absurd (asks_not v r.0 r.1 refl)
     ]
-      where
-        unit : (u : Unit {0}) → u ≡ tt
-        unit tt = refl
 
     asking_asks : Asking (put_version vs v (record x { asked = Some x.registered }))
         (posted m (Idle v (record { base = x.object.base; count = x.registered })))
@@ -142,6 +136,7 @@ module _ (vs : Named Version) (m : Mail) (h : Asking vs m) where
           ];
         }
 
+-- the changes of versions keep it
 pub IsJoint-Asking : IsJoint Asking
 IsJoint-Asking = record {
   write = λ vs m v x y e asked object h. asking_written vs m h v x y e asked object;
@@ -183,12 +178,14 @@ asking_posted vs m (Nack v) aside h = absurd aside
 asking_posted vs m (Retire v) aside h = absurd aside
 asking_posted vs m (Gone v g) aside h = h
 
+-- so do more of them
 pub asking_posted_all : (vs : Named Version) (m : Mail) (xs : List Message) → AllSent IsAside xs → Asking vs m
     → Asking vs (posted_all m xs)
 asking_posted_all vs m [] aside h = h
 asking_posted_all vs m (x ∷ xs) aside h =
     asking_posted_all vs (posted m x) xs aside.1 (asking_posted vs m x aside.0 h)
 
+-- decodes are such messages
 pub decodes_aside : (n place : ℕ) (os : List Operand) → AllSent IsAside (decodes_from n place os)
 decodes_aside n place [] = tt
 decodes_aside n place (o ∷ os) = (tt, decodes_aside n (suc place) os)
@@ -198,6 +195,7 @@ live_aside o operand e Input = tt
 live_aside o operand e Output = tt
 live_aside o operand e Inout = tt
 
+-- and so is the first that decode sends
 pub decode_aside : (o : OpName) (operand : Operand) (e : Option Entry) → IsAside (decode_message o operand e)
 decode_aside o operand None = tt
 decode_aside o operand (Some e) = live_aside o operand e operand.mode

@@ -330,6 +330,7 @@ module _ (I J : TasksFact)
       by_same : (T : State) → KeepsFront S T → back_of T ≡ back_of S → J m ts T
       by_same T k same = stands m ts S T h (standing_same S T k same)
 
+    -- then every event keeps it
     pub kept_by_standing : IsKeptAs I J
     unfolding is_enabled after_event
     kept_by_standing m ts S event.Main h on =

@@ -28,7 +28,8 @@ use Rattle.tss_laws.specs.Names.{IsDecoded, IsEnlisted, HasDecodedNames, NamesLa
 use Rattle.tss_laws.proofs.GatewayLemmas.{IsFrontSound-after_event, IsFrontSound-initial_state}
 use Rattle.tss_laws.proofs.NameEvents.{StateNames-after_event, StateNames-initial_state, each_name}
 use Rattle.tss_laws.proofs.DecodedNames.{state_weaker, DecodedBy, still_decoded, decoded_now, EnlistedIn}
-use Rattle.tss_laws.proofs.OpeningLemmas.{KeepsOpenings, AreOpeningsSound, openings_main, openings_take, openings_ready, openings_link, openings_bye, openings_start, openings_exec, openings_finish, openings_release, openings_idle, openings_nack, openings_retire, openings_copy, openings_gone, opens_after_event}
+use Rattle.tss_laws.proofs.OpeningFrames.{KeepsOpenings, openings_main, openings_take, openings_ready, openings_link, openings_bye, openings_start, openings_exec, openings_finish, openings_release, openings_idle, openings_nack, openings_retire, openings_copy, openings_gone}
+use Rattle.tss_laws.proofs.OpeningLemmas.{AreOpeningsSound, opens_after_event}
 use Rattle.tss_laws.proofs.PlainLemmas.{still_none}
 
 -- neither the open nor the use of an operand is under way

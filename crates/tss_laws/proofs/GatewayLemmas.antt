@@ -40,6 +40,7 @@ IsFrontSound m ts S = HasTaskNumbers m ts S × Acknowledges ts (front_of S)
 
 -- ---- a spawn
 
+-- an operand is still one with one more task
 pub operand_still : (u : Task) (ts : List Task) (o : OpName) (x : Operand) → IsOperandOf ts o x
     → IsOperandOf (u ∷ ts) o x
 operand_still u ts o x h =

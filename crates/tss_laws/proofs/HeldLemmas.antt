@@ -99,6 +99,7 @@ module _ (sizes : Sizes) (places : Named ℕ) (copies : Numbered CopyState) (vs 
 
   -- ---- a version is written over, or gone
 
+  -- a version of the same object takes its place
   pub held_written : (v : OpName) (x y : Version) → get vs v ≡ Some x → y.object ≡ x.object
       → HoldsPlaces sizes places copies (insert vs v y) os gs
   held_written v x y e object =
@@ -130,6 +131,7 @@ module _ (sizes : Sizes) (places : Named ℕ) (copies : Numbered CopyState) (vs 
         copied = h.copied;
       }
 
+  -- a version is gone, with its message under way
   pub held_dies : (v : OpName) (x : Version) (g : GoneContents) → get vs v ≡ Some x → g.object ≡ x.object
       → HoldsPlaces sizes places copies (remove vs v) os (insert gs v g)
   held_dies v x g e object =
@@ -166,6 +168,7 @@ module _ (sizes : Sizes) (places : Named ℕ) (copies : Numbered CopyState) (vs 
 
   -- ---- retire to a copy, copy, gone
 
+  -- its bank copies it
   pub held_copied : (v : OpName) (x : Version) (n : OpName) → get vs v ≡ Some x
       → get copies (bank_of sizes x.object) ≡ None
       → HoldsPlaces sizes places (insert copies (bank_of sizes x.object) (new_copy v x.object n)) (remove vs v) os gs
@@ -338,6 +341,7 @@ module _ (sizes : Sizes) (places : Named ℕ) (copies : Numbered CopyState) (vs 
 abbrev pub Holding : Sizes → Named ℕ → Numbered CopyState → Named Version → Mail → Type 0
 Holding sizes places copies vs m = HoldsPlaces sizes places copies vs m.opens m.gones
 
+-- the changes of versions keep it
 pub IsJoint-Holding : (sizes : Sizes) (places : Named ℕ) (copies : Numbered CopyState)
     → IsJoint (Holding sizes places copies)
 IsJoint-Holding sizes places copies = record {

@@ -119,6 +119,7 @@ module _ (J : Named Version → Mail → Type 0) (k : IsJoint J) where
   joint_settle zero vs m v h = h
   joint_settle (suc n) vs m v h = joint_settle_at vs m v (settle n) (joint_settle n) (get vs v) refl h
 
+  -- so settling keeps it
   pub joint_settled : (vs : Named Version) (m : Mail) (v : OpName) → J vs m → After m (settled vs v)
   joint_settled vs m v h = joint_settle _ vs m v h
 
@@ -148,6 +149,7 @@ module _ (J : Named Version → Mail → Type 0) (k : IsJoint J) where
     joint_opened_by None = joint_ready _ m o o c.storage (joint_first c.operand.mode)
     joint_opened_by (Some f) = joint_opened_how f f.how
 
+    -- what open leaves
     pub joint_open : After m (after_open vs o c)
     joint_open = joint_opened_by c.follows
 
@@ -169,6 +171,7 @@ module _ (J : Named Version → Mail → Type 0) (k : IsJoint J) where
     joint_used_at o v None e = h
     joint_used_at o v (Some x) e = joint_used_behind o v x e x.tail
 
+    -- what use leaves
     pub joint_use : (o v : OpName) → After m (after_use vs o v)
     joint_use o v = joint_used_at o v (get vs v) refl
 
@@ -195,5 +198,6 @@ module _ (J : Named Version → Mail → Type 0) (k : IsJoint J) where
     joint_released_at o v producer None e = h
     joint_released_at o v producer (Some x) e = joint_released_by o v x e producer
 
+    -- what release leaves
     pub joint_release : (o : OpName) (r : ReleaseContents) → After m (after_release vs o r)
     joint_release o r = joint_released_at o r.version r.producer (get vs r.version) refl

@@ -20,6 +20,7 @@ pub mod NameEvents
 pub mod DecodedNames
 pub mod VersionFacts
 pub mod VersionObjects
+pub mod OpeningFrames
 pub mod OpeningLemmas
 pub mod EnlistedNames
 pub mod PlaceLemmas
@@ -120,3 +121,7 @@ pub mod GroundworkEvents
 pub mod HoldersMoves
 pub mod ReadersWakes
 pub mod HoldersFrames
+pub mod CountLemmas
+pub mod CountEvents
+pub mod RoomLemmas
+pub mod MessageLemmas

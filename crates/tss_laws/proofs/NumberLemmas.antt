@@ -72,6 +72,7 @@ in_flight_still ts us S T n x y same taken at h = record {
   operands = same.operands ∙ h.operands ∙ ap operands_of (sym same.task);
 }
 
+-- what leaves the front alone keeps it
 pub numbers_kept : (m : Machine) (ts : List Task) (S T : State) → HasTaskNumbers m ts S → KeepsFront S T
     → HasTaskNumbers m ts T
 numbers_kept m ts S T h k = record {
@@ -88,6 +89,7 @@ numbers_kept m ts S T h k = record {
 
 -- ---- main's event
 
+-- a spawn keeps it, with its task
 pub numbers_spawned : (m : Machine) (ts us : List Task) (S T : State) → HasTaskNumbers m ts S
     → (p : SpawnsOne m ts us S T) → HasTaskNumbers m (p.task ∷ ts) T
 numbers_spawned m ts us S T h p = record {
@@ -153,6 +155,7 @@ module _ (m : Machine) (ts : List Task) (S T : State) (h : HasTaskNumbers m ts S
     let a = last_taken_now in let b = taken_newest.number in omega (arith, a, b),
   )
 
+  -- so take keeps it
   pub numbers_take : HasTaskNumbers m ts T
   numbers_take = record {
     spawned = ap (λ f. f.spawned) p.front ∙ h.spawned;
@@ -199,11 +202,13 @@ numbers_same m ts S T h spawned inbox flight = record {
       (λ at. at) (h.flight n x (ap (λ f. get f n) (sym flight) ∙ e));
 }
 
+-- decode keeps it
 pub numbers_decode : (m : Machine) (ts : List Task) (S T : State) (o : OpName) → HasTaskNumbers m ts S
     → DecodesOperand S T o → HasTaskNumbers m ts T
 numbers_decode m ts S T o h d =
     numbers_same m ts S T h (ap (λ f. f.spawned) d.front) (ap (λ f. f.inbox) d.front) (ap (λ b. b.flight) d.back)
 
+-- ack keeps it
 pub numbers_ack : (m : Machine) (ts : List Task) (S T : State) (o : OpName) → HasTaskNumbers m ts S
     → AcknowledgesOperand S T o → HasTaskNumbers m ts T
 numbers_ack m ts S T o h a =

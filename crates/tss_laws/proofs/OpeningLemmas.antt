@@ -1,5 +1,5 @@
 -- Of an operand's decode, open, use and version there is one at most.
-use Rattle.std.proofs.Common.{◌≡◌, ◌≢◌, ℕ, suc, ◌⊎◌, inl, inr, Bool, List, [], ◌∷◌, Option, Some, None, refl, sym, ap, ◌∙◌, subst}
+use Rattle.std.proofs.Common.{◌≡◌, ◌≢◌, ◌⊎◌, inl, inr, List, ◌∷◌, Option, Some, None, refl, sym, ap, ◌∙◌, subst}
 use Rattle.std.specs.FinMap.{get, insert, remove}
 use Rattle.std.proofs.lemmas.Option.{none-some}
 use Rattle.tss_base.specs.declared.range.Range.{Range}
@@ -14,23 +14,19 @@ use Rattle.tss_base.specs.declared.event.Event.TheVariants as event
 use Rattle.tss_base.specs.Names.{Named}
 use Rattle.tss_maps.proofs.Keys.{name_order, decide_key}
 use Rattle.tss_maps.proofs.Changes.{beside_inserted, from_inserted, at_removed, beside_removed, from_removed, decide_get}
-use Rattle.tss_model.specs.Access.{operands_of}
-use Rattle.tss_model.specs.MainStep.{MainState, Call, main_call}
-use Rattle.tss_protocol.specs.Mail.{Source, OpenContents, ReleaseContents, IdleContents, GoneContents, Message, Mail, posted, posted_all, taken}
-use Rattle.tss_protocol.specs.State.{State, Flying, Busy, Entry, Version, CopyState}
-use Rattle.tss_protocol.specs.Names.{operand_name}
-use Rattle.tss_protocol.specs.Gateway.{decodes_from}
+use Rattle.tss_protocol.specs.Mail.{OpenContents, Message, Mail, posted, taken}
+use Rattle.tss_protocol.specs.State.{State, Entry, Version}
 use Rattle.tss_protocol.specs.Renaming.{live_message, decode_message}
 use Rattle.tss_protocol.specs.Versions.{after_open, after_use}
-use Rattle.tss_protocol.specs.Buffers.{is_last_piece}
-use Rattle.tss_protocol.specs.MainEvent.{call_next, main_by, after_call}
-use Rattle.tss_protocol.specs.UnitMachine.{IsEnabled, after_event, with_sent, without, after_take, decode_message_taken, open_message_taken, use_message_taken, ready_message_taken, link_message_taken, after_start, start_task, after_exec, after_finish, release_message_taken, bye_message_taken, idle_message_taken, nack_message_taken, retire_version, after_copy, gone_message_taken}
+use Rattle.tss_protocol.specs.MainEvent.{call_next}
+use Rattle.tss_protocol.specs.UnitMachine.{IsEnabled, after_event, without, decode_message_taken, open_message_taken, use_message_taken}
 use Rattle.tss_laws.specs.Tasks.{TasksFact, spawned_after_event, spawned_by_main, IsOperandOf}
-use Rattle.tss_laws.proofs.SentLemmas.{AllSent, IsLater, posted_all-later, after_open-later, after_use-later, after_release-later, after_nack-later, after_ready-later, after_link-later, flight_after_finish-later, after_idle-later, sent_by_retire-later, sent_by_copy-later}
+use Rattle.tss_laws.proofs.SentLemmas.{posted_all-later, after_open-later, after_use-later}
 use Rattle.tss_laws.proofs.SpawnLemmas.{SpawnsAtMostOne, spawns_main}
 use Rattle.tss_laws.proofs.GatewayLemmas.{operand_still}
 use Rattle.tss_laws.proofs.DecodedNames.{AreNamesDecoded}
-use Rattle.tss_laws.proofs.VersionObjects.{objects_open, objects_use, objects_release, objects_nack, objects_retire}
+use Rattle.tss_laws.proofs.VersionObjects.{objects_open, objects_use}
+use Rattle.tss_laws.proofs.OpeningFrames.{VersionsFrom, all_from, KeepsOpenings, Before, openings_main, openings_take, openings_ready, openings_link, openings_bye, openings_start, openings_exec, openings_finish, openings_release, openings_idle, openings_nack, openings_retire, openings_copy, openings_gone}
 
 -- the facts, over the three maps
 pub record Opens (ts : List Task) (os : Named OpenContents) (us : Named OpName) (vs : Named Version) : Type 0 where
@@ -40,14 +36,6 @@ pub record Opens (ts : List Task) (os : Named OpenContents) (us : Named OpName) 
       → ((x : Operand) × IsOperandOf ts o x × (x.mode ≡ Input)) × (get vs o ≡ None)
   pub versions : (v : OpName) (x : Version) → get vs v ≡ Some x
       → (y : Operand) × IsOperandOf ts v y × (x.object ≡ y.object)
-
--- each version was there before, of the same object
-abbrev pub VersionsFrom : Named Version → Named Version → Type 0
-VersionsFrom vs ws = (v : OpName) (x : Version) → get ws v ≡ Some x
-    → (y : Version) × (get vs v ≡ Some y) × (x.object ≡ y.object)
-
-all_from : (vs : Named Version) → VersionsFrom vs vs
-all_from vs v x e = (x, e, refl)
 
 none_from : (vs ws : Named Version) → VersionsFrom vs ws → (v : OpName) → get vs v ≡ None → get ws v ≡ None
 none_from vs ws from v none =
@@ -172,121 +160,6 @@ module _ (ts : List Task) (opens : Named OpenContents) (uses : Named OpName) (vs
     ];
   }
 
--- ---- events that open nothing
-
--- opens and uses are as they were, and each version was there before
-pub record KeepsOpenings (S T : State) : Type 0 where
-  pub opens : T.mail.opens ≡ S.mail.opens
-  pub uses : T.mail.uses ≡ S.mail.uses
-  pub versions : VersionsFrom S.versions T.versions
-
-openings_sent : (S T : State) (ms : List Message) → KeepsOpenings S T → AllSent IsLater ms
-    → KeepsOpenings S (with_sent T ms)
-openings_sent S T ms k later =
-    let same = posted_all-later T.mail ms later in
-    record { opens = same.opens ∙ k.opens; uses = same.uses ∙ k.uses; versions = k.versions }
-
-posted_all-taken : (m : Mail) (n place : ℕ) (os : List Operand)
-    → ((posted_all m (decodes_from n place os)).opens ≡ m.opens)
-    × ((posted_all m (decodes_from n place os)).uses ≡ m.uses)
-posted_all-taken m n place [] = (refl, refl)
-posted_all-taken m n place (o ∷ os) =
-    posted_all-taken (record m { decodes = insert m.decodes (operand_name n place) o }) n (suc place) os
-
-module _ (m : Machine) (S : State) where
-  openings_call : (d : MainState × Option Task) → KeepsOpenings S (after_call S d)
-  openings_call (main, None) = record { opens = refl; uses = refl; versions = all_from S.versions }
-  openings_call (main, Some t) = record { opens = refl; uses = refl; versions = all_from S.versions }
-
-  pub openings_main : (c : Option Call) → KeepsOpenings S (main_by m S c)
-  openings_main None = record { opens = refl; uses = refl; versions = all_from S.versions }
-  openings_main (Some call) = openings_call (main_call m.limits S.home S.main call)
-
-  pub openings_take : (t : Option Task) → KeepsOpenings S (after_take S t)
-  openings_take None = record { opens = refl; uses = refl; versions = all_from S.versions }
-  openings_take (Some t) =
-      let same = posted_all-taken S.mail t.number 0 (operands_of t) in
-      record { opens = same.0; uses = same.1; versions = all_from S.versions }
-
-  pub openings_ready : (o : OpName) (c : Option Source)
-      → KeepsOpenings S (ready_message_taken (without S (event.Ready o)) o c)
-  openings_ready o None = record { opens = refl; uses = refl; versions = all_from S.versions }
-  openings_ready o (Some source) =
-      openings_sent S _ _ (record { opens = refl; uses = refl; versions = all_from S.versions })
-      (after_ready-later S.flight o source)
-
-  pub openings_link : (o : OpName) (c : Option OpName)
-      → KeepsOpenings S (link_message_taken (without S (event.Link o)) o c)
-  openings_link o None = record { opens = refl; uses = refl; versions = all_from S.versions }
-  openings_link o (Some next) =
-      openings_sent S _ _ (record { opens = refl; uses = refl; versions = all_from S.versions })
-      (after_link-later S.flight o next)
-
-  pub openings_bye : (o : OpName) (c : Option Bool) → KeepsOpenings S (bye_message_taken (without S (event.Bye o)) o c)
-  openings_bye o None = record { opens = refl; uses = refl; versions = all_from S.versions }
-  openings_bye o (Some promised) = record { opens = refl; uses = refl; versions = all_from S.versions }
-
-  openings_start_task : (w t : ℕ) (ts : List ℕ) (x : Option Flying) → KeepsOpenings S (start_task m S w t ts x)
-  openings_start_task w t ts None = record { opens = refl; uses = refl; versions = all_from S.versions }
-  openings_start_task w t ts (Some x) = record { opens = refl; uses = refl; versions = all_from S.versions }
-
-  pub openings_start : (w : ℕ) (queue : List ℕ) → KeepsOpenings S (after_start m S w queue)
-  openings_start w [] = record { opens = refl; uses = refl; versions = all_from S.versions }
-  openings_start w (t ∷ ts) = openings_start_task w t ts (get S.flight t)
-
-  pub openings_exec : (w : ℕ) (b : Option Busy) → KeepsOpenings S (after_exec m S w b)
-  openings_exec w None = record { opens = refl; uses = refl; versions = all_from S.versions }
-  openings_exec w (Some b) = record { opens = refl; uses = refl; versions = all_from S.versions }
-
-  pub openings_finish : (w : ℕ) (b : Option Busy) → KeepsOpenings S (after_finish S w b)
-  openings_finish w None = record { opens = refl; uses = refl; versions = all_from S.versions }
-  openings_finish w (Some b) =
-      openings_sent S _ _ (record { opens = refl; uses = refl; versions = all_from S.versions })
-      (flight_after_finish-later S.flight b.task.number)
-
-  abbrev Before : OpName → Range → Type 0
-  Before v r = (y : Version) × (get S.versions v ≡ Some y) × (r ≡ y.object)
-
-  pub openings_release : (o : OpName) (c : Option ReleaseContents)
-      → KeepsOpenings S (release_message_taken (without S (event.Release o)) o c)
-  openings_release o None = record { opens = refl; uses = refl; versions = all_from S.versions }
-  openings_release o (Some r) =
-      openings_sent S _ _
-      (record { opens = refl; uses = refl; versions = objects_release Before S.versions (all_from S.versions) o r })
-      (after_release-later S.versions o r)
-
-  pub openings_idle : (v : OpName) (c : Option IdleContents)
-      → KeepsOpenings S (idle_message_taken (without S (event.Idle v)) v c)
-  openings_idle v None = record { opens = refl; uses = refl; versions = all_from S.versions }
-  openings_idle v (Some i) =
-      openings_sent S _ _ (record { opens = refl; uses = refl; versions = all_from S.versions })
-      (after_idle-later S.entries v i.base i.count)
-
-  pub openings_nack : (v : OpName) → KeepsOpenings S (nack_message_taken (without S (event.Nack v)) v)
-  openings_nack v =
-      openings_sent S _ _
-      (record { opens = refl; uses = refl; versions = objects_nack Before S.versions (all_from S.versions) v })
-      (after_nack-later S.versions v)
-
-  pub openings_retire : (v : OpName) (x : Option Version)
-      → KeepsOpenings S (retire_version m (without S (event.Retire v)) v x)
-  openings_retire v None = record { opens = refl; uses = refl; versions = all_from S.versions }
-  openings_retire v (Some x) =
-      openings_sent S _ _
-      (record { opens = refl; uses = refl; versions = objects_retire Before S.versions (all_from S.versions) v })
-      (sent_by_retire-later v x.object x.storage)
-
-  pub openings_copy : (b : ℕ) (c : Option CopyState) → KeepsOpenings S (after_copy S b c)
-  openings_copy b None = record { opens = refl; uses = refl; versions = all_from S.versions }
-  openings_copy b (Some c) =
-      openings_sent S _ _ (record { opens = refl; uses = refl; versions = all_from S.versions })
-      (sent_by_copy-later c (is_last_piece c))
-
-  pub openings_gone : (v : OpName) (c : Option GoneContents)
-      → KeepsOpenings S (gone_message_taken (without S (event.Gone v)) v c)
-  openings_gone v None = record { opens = refl; uses = refl; versions = all_from S.versions }
-  openings_gone v (Some g) = record { opens = refl; uses = refl; versions = all_from S.versions }
-
 -- ---- all events
 
 -- those of a state
@@ -320,6 +193,7 @@ module _ (m : Machine) (ts : List Task) (S : State) (h : AreNamesDecoded m ts S)
     | inr v ↦ absurd (undecoded (h.1.8.2 o v.0 v.1).0.2)
   ]
 
+  -- no version
   pub no_version_yet : get S.versions o ≡ None
   no_version_yet = elim (decide_get S.versions o) [
     | inl e ↦ e

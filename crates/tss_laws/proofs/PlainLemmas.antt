@@ -17,7 +17,7 @@ none_from_test (Some x) e = absurd (true≢false (sym e))
 -- a test that finds a name in a set
 pub some_unit : (o : Option (Unit {0})) → is_some o ≡ true → o ≡ Some tt
 some_unit None e = absurd (true≢false (sym e))
-some_unit (Some tt) e = refl
+some_unit (Some u) e = refl
 
 -- a number that is 0
 pub zero_from_test : (n : ℕ) → (n == 0) ≡ true → n ≡ 0

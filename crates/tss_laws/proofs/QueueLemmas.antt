@@ -18,12 +18,14 @@ still_queued queue t true n e =
     list_any-append (λ k. k == n) queue (t ∷ []) ∙ or_left (in_queue n queue) (in_queue n (t ∷ [])) e
 still_queued queue t false n e = e
 
+-- the new number stands in it
 pub now_queued : (queue : List ℕ) (t : ℕ) → in_queue t (queue ++ t ∷ []) ≡ true
 now_queued queue t =
     let same : (t == t) ≡ true = grind (arith, nat_tests) in
     list_any-append (λ k. k == t) queue (t ∷ [])
     ∙ or_right (in_queue t queue) (in_queue t (t ∷ [])) (or_left (t == t) false same)
 
+-- what stands in it stood there before, or is the new number
 pub from_queue : (queue : List ℕ) (t : ℕ) (c : Bool) (n : ℕ) → in_queue n (queue_with queue t c) ≡ true
     → (in_queue n queue ≡ true) ⊎ ((n ≡ t) × (c ≡ true))
 from_queue queue t false n e = inl e
@@ -44,5 +46,6 @@ from_rest t ts n e other =
       | inr rest ↦ rest
     ]
 
+-- the front does
 pub at_front : (t : ℕ) (ts : List ℕ) → in_queue t (t ∷ ts) ≡ true
 at_front t ts = let same : (t == t) ≡ true = grind (arith, nat_tests) in or_left (t == t) (in_queue t ts) same

@@ -71,6 +71,7 @@ module _ (I J : TasksFact)
       subst (λ us. J m us T) (sym q.list) (keeps m ts S T h (keeps_by_nothing ts us S T q))
   kept_by_main m ts us S T h (inr p) = subst (λ us. J m us T) (sym p.list) (spawns m ts us S T h p)
 
+  -- then every event keeps it
   pub kept_by_front : IsKeptAs I J
   kept_by_front m ts S event.Main h on =
       kept_by_main m ts (spawned_by_main m S ts (call_next m S)) S _ h (spawns_main m ts S on)

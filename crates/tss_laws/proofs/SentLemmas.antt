@@ -218,9 +218,11 @@ pub after_ready-later : (flight : Numbered Flying) (o : OpName) (source : Source
     → AllSent IsLater (after_ready flight o source).sent
 after_ready-later = after_ready-all IsLater (λ o source. tt) (λ o r. tt)
 
+-- those of link
 pub after_link-later : (flight : Numbered Flying) (o next : OpName) → AllSent IsLater (after_link flight o next).sent
 after_link-later = after_link-all IsLater (λ o source. tt) (λ o r. tt)
 
+-- those of finish
 pub flight_after_finish-later : (flight : Numbered Flying) (task : ℕ)
     → AllSent IsLater (flight_after_finish flight task).sent
 flight_after_finish-later = flight_after_finish-all IsLater (λ o source. tt) (λ o r. tt)

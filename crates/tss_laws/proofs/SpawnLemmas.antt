@@ -110,6 +110,7 @@ module _ (call : SpawnCall) (m : Memory) (named : List Range) (limits : Limits) 
         room = leb-false _ _ more.0;
       }
 
+  -- the task of an accepted spawn is the next one
   pub IsNext-spawn_of : spawn_of call m named limits spawned ≡ Ok t → IsNext limits spawned t
   unfolding spawn_of
   IsNext-spawn_of accepted =

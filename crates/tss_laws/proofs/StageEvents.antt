@@ -54,6 +54,7 @@ entered_never_runs : (t : Task) (os : List Operand) → operands_of t ≡ os →
 entered_never_runs t [] e at = queued≢running (sym (ap first_stage e) ∙ at)
 entered_never_runs t (o ∷ os) e at = waiting≢running (sym (ap first_stage e) ∙ at)
 
+-- the test of a queued task
 pub queued_from_test : (s : Stage) → is_queued s ≡ true → s ≡ stage.Queued
 queued_from_test stage.Waiting e = absurd (true≢false (sym e))
 queued_from_test stage.Queued e = refl
@@ -111,6 +112,7 @@ module _ (m : Machine) (ts : List Task) (p : Standing) (h : Stages m ts p) where
           | inr old ↦ absurd (old.0 refl)
         ]
 
+    -- it waits, or is queued
     pub stages_taken : Stages m ts after
     stages_taken = record {
       waiting = λ n x e. elim (from_inserted nat_order p.flight t.number (entered t) n x e) [

@@ -73,21 +73,27 @@ pub record Stages (m : Machine) (ts : List Task) (p : Standing) : Type 0 where
 
 -- ---- stages
 
+-- a waiting task isn't queued
 pub waiting≢queued : stage.Waiting ≡ stage.Queued → ⊥
 waiting≢queued e = cc
 
+-- a waiting task doesn't run
 pub waiting≢running : stage.Waiting ≡ stage.Running → ⊥
 waiting≢running e = cc
 
+-- a queued task doesn't run
 pub queued≢running : stage.Queued ≡ stage.Running → ⊥
 queued≢running e = cc
 
+-- a waiting task hasn't finished
 pub waiting≢finished : stage.Waiting ≡ stage.Finished → ⊥
 waiting≢finished e = cc
 
+-- a queued task hasn't finished
 pub queued≢finished : stage.Queued ≡ stage.Finished → ⊥
 queued≢finished e = cc
 
+-- a running task hasn't finished
 pub running≢finished : stage.Running ≡ stage.Finished → ⊥
 running≢finished e = cc
 
@@ -197,6 +203,7 @@ module _ (m : Machine) (ts : List Task) (p : Standing) (h : Stages m ts p) where
         by true before = absurd (true≢false (sym (still before) ∙ e))
         by false before = same ∙ (h.waiting n x there).1 before
 
+    -- by whether it is complete
     pub stages_readied_by : (c : Bool) → is_complete y ≡ c
         → Stages m ts (record p {
           flight = insert p.flight n (queued_if c);
@@ -323,6 +330,7 @@ module _ (m : Machine) (ts : List Task) (p : Standing) (h : Stages m ts p) where
       ∙ number) in
       (on.0, on.1, beside_removed nat_order p.workers w on.0 apart ∙ on.2, on.3)
 
+  -- by the task in flight, if it is
   pub stages_finished_in : (w : ℕ) (b : Busy) (x : Option Flying) → get p.workers w ≡ Some b
       → get p.flight b.task.number ≡ x
       → Stages m ts (record p {

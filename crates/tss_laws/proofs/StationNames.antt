@@ -62,6 +62,7 @@ module _ (P E : OpName → Type 0) where
       subst (OperandNames P E (f 0)) (same_Some (new_operand o) r e) (record { own = tt; source = tt; link = tt })
   names_new_operands f (o ∷ os) (suc j) r e = names_new_operands (λ k. f (suc k)) os j r e
 
+  -- what take leaves
   pub names_taken : (m : Numbered Flying) (t : Task) → FlightNames m → FlightNames (flight_after_take m t)
   names_taken m t each =
       names_flying m t.number (entered t) each (names_new_operands (operand_name t.number) (operands_of t))
@@ -115,6 +116,7 @@ module _ (P E : OpName → Type 0) where
     names_woken_in source told (Some x) e =
         names_woken_by source told x (each o.task x e) (slice_get x.operands o.place) refl
 
+    -- what ready leaves
     pub names_after_ready : (source : Source) → E o × SourceNames P E source → WokenNames (after_ready m o source)
     names_after_ready source told = names_woken_in source told (get m o.task) refl
 
@@ -151,6 +153,7 @@ module _ (P E : OpName → Type 0) where
     names_linked_in next name (Some x) e =
         names_linked_by next name x (each o.task x e) (slice_get x.operands o.place) refl
 
+    -- what link leaves
     pub names_after_link : (next : OpName) → E next → FlightOutcome (after_link m o next)
     names_after_link next name = names_linked_in next name (get m o.task) refl
 
@@ -168,6 +171,7 @@ module _ (P E : OpName → Type 0) where
     names_parted_in promised (Some x) e =
         names_parted_by promised x (each o.task x e) (slice_get x.operands o.place) refl
 
+    -- what bye leaves
     pub names_after_bye : (promised : Bool) → FlightNames (after_bye m o promised)
     names_after_bye promised = names_parted_in promised (get m o.task) refl
 
@@ -202,11 +206,13 @@ module _ (P E : OpName → Type 0) where
         subst (λ k. OperandNames P E (operand_name n k) r) same (each n x e j r f));
   }
 
+  -- what finish leaves
   pub names_after_finish : (m : Numbered Flying) (n : ℕ) → FlightNames m → FlightOutcome (flight_after_finish m n)
   names_after_finish m n each = names_finished_in m n (get m n) refl each
 
   -- ---- start, exec
 
+  -- what start leaves
   pub names_started : (m : Numbered Flying) (n : ℕ) (x : Flying) → get m n ≡ Some x → FlightNames m
       → FlightNames (flight_after_start m n x)
   names_started m n x e each = names_flying m n (record x { stage = stage.Running }) each (each n x e)
@@ -224,5 +230,6 @@ module _ (P E : OpName → Type 0) where
       (names_storage_of r.source (each 0 r refl).source)
   names_storages f (r ∷ rs) each (suc i) s e = names_storages (λ k. f (suc k)) rs (λ j. each (suc j)) i s e
 
+  -- the storages of a task's operands
   pub names_storages_of : (n : ℕ) (x : Flying) → FlyingNames P E n x → EachOf (StorageNames P) (storages_of x)
   names_storages_of n x each = names_storages (operand_name n) x.operands each

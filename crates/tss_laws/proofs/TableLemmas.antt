@@ -289,7 +289,7 @@ module _ (m : Machine) (S : State) (h : AreWithinBanks m.sizes (tables_of S)) wh
   banks_gone v (Some g) = within_gone m.sizes (tables_of S) h v g
 
 -- every event keeps it
-StaysWithinBanks-after_event : IsKept StaysWithinBanks
+pub StaysWithinBanks-after_event : IsKept StaysWithinBanks
 unfolding is_enabled after_event
 StaysWithinBanks-after_event m ts S event.Main h on = banks_main m S h (call_next m S)
 StaysWithinBanks-after_event m ts S event.Take h on = banks_take m S h S.inbox
@@ -311,7 +311,7 @@ StaysWithinBanks-after_event m ts S (event.Copy b) h on = banks_copy m S h b (ge
 StaysWithinBanks-after_event m ts S (event.Gone v) h on = banks_gone m S h v (get S.mail.gones v)
 
 -- nothing is in use at first
-StaysWithinBanks-initial_state : (m : Machine) (i : ImageState) → StaysWithinBanks m [] (initial_state i)
+pub StaysWithinBanks-initial_state : (m : Machine) (i : ImageState) → StaysWithinBanks m [] (initial_state i)
 StaysWithinBanks-initial_state m i = record {
   entries = λ b.
       let none = sum_empty {X = Entry} nat_order (λ base e. one_if (bank_of m.sizes e.object == b)) in
@@ -328,6 +328,7 @@ greatest_within f size zero each = omega arith
 greatest_within f size (suc n) each =
     let rest = greatest_within f size n each in let one = each n in omega (arith, rest, one)
 
+-- with the laws of slots and stages
 pub tables_of_runs : TablesLaw
 tables_of_runs m i es S accepted admissible run =
     let banks = kept_after StaysWithinBanks StaysWithinBanks-after_event m es [] (initial_state i) S

@@ -146,7 +146,8 @@ live_message-front m o operand e Input = (refl, refl)
 live_message-front m o operand e Output = (refl, refl)
 live_message-front m o operand e Inout = (refl, refl)
 
-decode_message-front : (m : Mail) (o : OpName) (operand : Operand) (e : Option Entry)
+-- nor is it with the object's entry, or without one
+pub decode_message-front : (m : Mail) (o : OpName) (operand : Operand) (e : Option Entry)
     → ((posted m (decode_message o operand e)).decodes ≡ m.decodes)
     × ((posted m (decode_message o operand e)).acks ≡ m.acks)
 decode_message-front m o operand None = (refl, refl)

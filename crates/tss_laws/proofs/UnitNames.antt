@@ -61,6 +61,7 @@ module _ {M : Type 0} (byte : M → ℕ → ℕ) (write : M → Write → M) (bu
       by false true = h
       by false false = memory_on s (core_step actor (task_byte byte s) (code_word code) s.registers) h
 
+  -- so a stretch keeps it
   pub memory_stretch : (n : ℕ) (s : TaskState M) → J s.memory
       → J (repeated (task_step byte write budget code actor) n s).memory
   unfolding repeated
@@ -80,6 +81,7 @@ module _ (P E : OpName → Type 0) where
   names_zeroed limits s object (Buffer n) each name =
       each_inserted name_order (λ n bytes. P n) s.contents n (zeros limits.object_bytes) each name
 
+  -- the buffers of outputs become zeros
   pub names_outputs_zeroed : (limits : Limits) (s : Stores) (os : List Operand) (ss : List StorageName)
       → ContentsNames s.contents → EachOf (StorageNames P) ss → ContentsNames (outputs_zeroed limits s os ss).contents
   names_outputs_zeroed limits s [] ss each names = each
@@ -116,6 +118,7 @@ module _ (P E : OpName → Type 0) where
   names_written_in s None w each name = each
   names_written_in s (Some p) w each name = names_written_to s p.object p.storage w each name
 
+  -- a worker writes to its storages
   pub names_written : (os : List Operand) (ss : List StorageName) → EachOf (StorageNames P) ss
       → (s : Stores) (w : Write)
       → ContentsNames s.contents → ContentsNames (worker_write (placed_in os ss) s w).contents
@@ -138,11 +141,13 @@ module _ (P E : OpName → Type 0) where
     names_live_entry e Output latest = name
     names_live_entry e Inout latest = name
 
+    -- the object's entry after a decode
     pub names_entry : (operand : Operand) (e : Option Entry) → WhereThere (λ (e : Entry). P e.latest) e
         → P (entry_after_decode o operand e).latest
     names_entry operand None latest = name
     names_entry operand (Some e) latest = names_live_entry e operand.mode latest
 
+    -- one more place or buffer, where it is taken
     pub names_held : (held : Named ℕ) (bank : ℕ) (takes : Bool) → HeldNames held
         → HeldNames (if takes then insert held o bank else held)
     names_held held bank true each = each_inserted name_order (λ v bank. P v) held o bank each name
@@ -159,6 +164,7 @@ module _ (P E : OpName → Type 0) where
     names_decode_message operand None latest = (name, tt, tt)
     names_decode_message operand (Some e) latest = names_live_message operand e operand.mode latest
 
+    -- what decode sends
     pub names_sent_by_decode : (operand : Operand) (e : Option Entry) → WhereThere (λ (e : Entry). P e.latest) e
         → AllSent (MessageNames P E) (sent_by_decode o operand e)
     names_sent_by_decode operand e latest = (names_decode_message operand e latest, (name, tt))
@@ -178,6 +184,7 @@ module _ (P E : OpName → Type 0) where
       each_inserted nat_order (λ base (e : Entry). P e.latest) entries base (record e { retiring = true }) each
       (each base e is)
 
+  -- what idle leaves
   pub names_idle_by : (entries : Numbered Entry) (v : OpName) (base : ℕ) (may : Bool) → EntriesNames entries → E v
       → EntriesNames (idle_by entries v base (get entries base) may).part
       × AllSent (MessageNames P E) (idle_by entries v base (get entries base) may).sent
@@ -185,16 +192,19 @@ module _ (P E : OpName → Type 0) where
       (names_retiring entries base (get entries base) refl each, (name, tt))
   names_idle_by entries v base false each name = (each, (name, tt))
 
+  -- the buffers after gone
   pub names_buffers_gone : (buffers : Named ℕ) (b : Option OpName) → HeldNames buffers
       → HeldNames (buffers_after_gone buffers b)
   names_buffers_gone buffers None each = each
   names_buffers_gone buffers (Some b) each = each_removed name_order (λ v bank. P v) buffers b each
 
+  -- their contents
   pub names_contents_gone : (contents : Named (List ℕ)) (b : Option OpName) → ContentsNames contents
       → ContentsNames (contents_after_gone contents b)
   names_contents_gone contents None each = each
   names_contents_gone contents (Some b) each = each_removed name_order (λ n bytes. P n) contents b each
 
+  -- the entries
   pub names_entries_gone : (entries : Numbered Entry) (base : ℕ) (retired : Bool) → EntriesNames entries
       → EntriesNames (if retired then remove entries base else entries)
   names_entries_gone entries base true each = each_removed nat_order (λ base (e : Entry). P e.latest) entries base each
@@ -206,6 +216,7 @@ module _ (P E : OpName → Type 0) where
   abbrev pub CopiesNames : Numbered CopyState → Type 0
   CopiesNames copies = EachEntry (λ bank c. E c.version × P c.buffer) copies
 
+  -- what retire leaves of the copies, and sends
   pub names_copies_retired : (copies : Numbered CopyState) (bank : ℕ) (v : OpName) (object : Range)
       (storage : Option StorageName) → CopiesNames copies → E v → WhereThere (StorageNames P) storage
       → CopiesNames (copies_after_retire copies bank v object storage)
@@ -218,6 +229,7 @@ module _ (P E : OpName → Type 0) where
     tt,
   )
 
+  -- what copy leaves, and sends
   pub names_copied : (copies : Numbered CopyState) (bank : ℕ) (c : CopyState) (last : Bool) → CopiesNames copies
       → E c.version × P c.buffer
       → CopiesNames (copies_after_copy copies bank c last) × AllSent (MessageNames P E) (sent_by_copy c last)

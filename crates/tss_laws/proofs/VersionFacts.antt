@@ -115,6 +115,7 @@ module _ (C : OpName → Version → Type 0) (k : IsOfEach C) where
         each_put vs o (first_version o c.operand.object c.storage c.operand.mode) each (each_first c.operand.mode)
     each_opened_by (Some f) = each_opened_how f f.how
 
+    -- what open leaves
     pub each_open : EachEntry C (after_open vs o c).part
     each_open = each_opened_by c.follows
 
@@ -137,6 +138,7 @@ module _ (C : OpName → Version → Type 0) (k : IsOfEach C) where
     each_used_at None e = each
     each_used_at (Some x) e = each_used_behind x e x.tail
 
+    -- what use leaves
     pub each_use : EachEntry C (after_use vs o v).part
     each_use = each_used_at (get vs v) refl
 
@@ -157,6 +159,7 @@ module _ (C : OpName → Version → Type 0) (k : IsOfEach C) where
     each_released_at o v producer None e = each
     each_released_at o v producer (Some x) e = each_released_by o v x (each v x e) producer
 
+    -- what release leaves
     pub each_release : (o : OpName) (r : ReleaseContents) → EachEntry C (after_release vs o r).part
     each_release o r = each_released_at o r.version r.producer (get vs r.version) refl
 
@@ -166,8 +169,10 @@ module _ (C : OpName → Version → Type 0) (k : IsOfEach C) where
         each_settled (put_version vs v (refused_once x)) v
         (each_put vs v (refused_once x) each (k.refuses v x (each v x e)))
 
+    -- what nack leaves
     pub each_nack : (v : OpName) → EachEntry C (after_nack vs v).part
     each_nack v = each_nacked_at v (get vs v) refl
 
+    -- what retire leaves
     pub each_retire : (v : OpName) → EachEntry C (after_retire vs v)
     each_retire v = each_drop vs v each

@@ -214,6 +214,7 @@ module _ (P E : OpName → Type 0) where
     }
     names_opened_by (Some f) before = names_opened_how f before f.how
 
+  -- what open leaves
   pub names_open : (vs : Named Version) (o : OpName) (c : OpenContents) → VersionsNames vs → E o
       → WhereThere (StorageNames P) c.storage → WhereThere (λ (f : Follow). P f.version) c.follows
       → OutcomeNames (after_open vs o c)
@@ -267,6 +268,7 @@ module _ (P E : OpName → Type 0) where
   names_used_at vs o v (Some x) e each reader =
       let here = each v x e in names_used_behind vs o v x each reader here.0 here.1 x.tail here.1.tail
 
+  -- what use leaves
   pub names_use : (vs : Named Version) (o v : OpName) → VersionsNames vs → E o → OutcomeNames (after_use vs o v)
   names_use vs o v each reader = names_used_at vs o v (get vs v) refl each reader
 
@@ -316,6 +318,7 @@ module _ (P E : OpName → Type 0) where
   names_released_at vs o v producer (Some x) e each user =
       let here = each v x e in names_released_by vs o v x each user here.0 here.1 producer
 
+  -- what release leaves
   pub names_release : (vs : Named Version) (o : OpName) (r : ReleaseContents) → VersionsNames vs → E o
       → OutcomeNames (after_release vs o r)
   names_release vs o r each user = names_released_at vs o r.version r.producer (get vs r.version) refl each user
@@ -336,8 +339,10 @@ module _ (P E : OpName → Type 0) where
         successor = here.1.successor;
       }))
 
+  -- what nack leaves
   pub names_nack : (vs : Named Version) (v : OpName) → VersionsNames vs → OutcomeNames (after_nack vs v)
   names_nack vs v each = names_nacked_at vs v (get vs v) refl each
 
+  -- what retire leaves
   pub names_retire : (vs : Named Version) (v : OpName) → VersionsNames vs → VersionsNames (after_retire vs v)
   names_retire vs v each = names_drop vs v each

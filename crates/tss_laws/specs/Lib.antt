@@ -18,3 +18,5 @@ pub mod Readers
 pub mod Runners
 pub mod Holders
 pub mod Control
+pub mod UseCounts
+pub mod MessageCounts

@@ -10,6 +10,8 @@ ghost use Rattle.tss_laws.specs.Openings.{OpeningsLaw};
 ghost use Rattle.tss_laws.specs.Tables.{TablesLaw};
 ghost use Rattle.tss_laws.specs.Asking.{AskingLaw};
 ghost use Rattle.tss_laws.specs.Held.{HeldPlacesLaw};
+ghost use Rattle.tss_laws.specs.UseCounts.{ReadersLaw};
+ghost use Rattle.tss_laws.specs.MessageCounts.{MessagesLaw};
 ghost use Rattle.tss_laws.specs.MainInOrder.{MainInOrderLaw, MainCutOffLaw, MainStoresLaw};
 
 /// Spawned tasks are numbered from 1 in their order, at most as many as there may be, and each with at most as many
@@ -76,6 +78,17 @@ pub fn asking()
 /// object.
 pub fn held_places()
     ensures { HeldPlacesLaw }
+{}
+
+/// Neither an entry of a renaming table nor a version counts more readers than a run may have operands.
+pub fn reader_counts()
+    ensures { ReadersLaw }
+{}
+
+/// There are never more tasks in flight than slots, no more decode and ack messages than a task may have operands, and
+/// no more open, idle, nack, retire and gone messages than places of versions.
+pub fn message_counts()
+    ensures { MessagesLaw }
 {}
 
 /// One event of main. Where main's registers, number of spawned tasks, epoch, pieces and ending are those of program
