@@ -120,3 +120,4 @@ pub mod GroundworkEvents
 pub mod HoldersMoves
 pub mod ReadersWakes
 pub mod HoldersFrames
+pub mod EntriesIdle
