@@ -125,3 +125,4 @@ pub mod CountLemmas
 pub mod CountEvents
 pub mod RoomLemmas
 pub mod MessageLemmas
+pub mod EntriesIdle
