@@ -126,3 +126,4 @@ pub mod CountEvents
 pub mod RoomLemmas
 pub mod MessageLemmas
 pub mod EntriesIdle
+pub mod ReadersReady
