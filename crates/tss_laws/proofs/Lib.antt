@@ -127,3 +127,4 @@ pub mod RoomLemmas
 pub mod MessageLemmas
 pub mod EntriesIdle
 pub mod ReadersReady
+pub mod EntriesCopy
