@@ -128,3 +128,4 @@ pub mod MessageLemmas
 pub mod EntriesIdle
 pub mod ReadersReady
 pub mod EntriesCopy
+pub mod HoldersTaken
