@@ -129,3 +129,4 @@ pub mod EntriesIdle
 pub mod ReadersReady
 pub mod EntriesCopy
 pub mod HoldersTaken
+pub mod HoldersTurns

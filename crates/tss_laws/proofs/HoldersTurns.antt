@@ -1,0 +1,138 @@
+-- What an operand holds where it becomes ready, is linked, lets go, and has gone.
+use Rattle.std.proofs.Common.{◌≡◌, ◌≢◌, ◌⊎◌, ℕ, Bool, true, false, List, Option, Some, None, refl, sym, ap, ◌∙◌, subst, inl, inr, true≢false}
+use Rattle.std.specs.Prelude.{◌&&◌, not, if◌then◌else◌, slice_get}
+use Rattle.std.specs.FinMap.{insert, remove}
+use Rattle.std.proofs.lemmas.Option.{none-some, same_Some}
+use Rattle.tss_base.specs.declared.operand.OpName.{OpName}
+use Rattle.tss_base.specs.declared.event.Farewell.{Farewell}
+use Rattle.tss_base.specs.declared.event.Farewell.TheVariants as farewell
+use Rattle.tss_base.specs.declared.event.LinkState.{LinkState}
+use Rattle.tss_base.specs.declared.event.LinkState.TheVariants as link
+use Rattle.tss_base.specs.Names.{Numbered}
+use Rattle.tss_protocol.specs.Mail.{Source, ReleaseContents}
+use Rattle.tss_protocol.specs.State.{OperandState, Flying}
+use Rattle.tss_protocol.specs.Stations.{operand_at, operand_after_ready, link_after_ready, operand_after_link, link_after_link, operand_after_bye, has_passed, is_gone, remaining_tasks}
+use Rattle.tss_phases.specs.Phase.{Phase, Ahead, Decoding, Sent, Waiting, Told, Ready, Releasing, Leaving, Promised, Left, LookUps, absent_phase, station_phase, record_phase, phase_at}
+use Rattle.tss_phases.specs.Alone.{IsSilent, HasRecord}
+use Rattle.tss_phases.specs.Leaving.{phase_linked, phase_parted}
+use Rattle.tss_phases.specs.Orderly.{IsInformed, WasTold, FitsPhase, IsOrderly}
+use Rattle.tss_phases.proofs.Shown.{left_shows}
+use Rattle.tss_phases.proofs.Records.{record_put, record_removed}
+use Rattle.tss_phases.proofs.LeavingTasks.{done_from_test}
+use Rattle.tss_phases.proofs.LinkEvent.{record_linked, linked_station}
+use Rattle.tss_phases.proofs.ByeEvent.{record_parted}
+use Rattle.tss_phases.proofs.PhaseLemmas.{phase_silent, phase_releasing, phase_leaving, silent_station}
+use Rattle.tss_phases.proofs.OrderlyLemmas.{leaving_stands}
+use Rattle.tss_phases.proofs.OrderlyRecords.{left_by_record}
+use Rattle.tss_laws.specs.Holders.{link_fits, PromiseFits}
+use Rattle.tss_laws.proofs.HoldersFits.{LinksFit, Holding}
+use Rattle.tss_laws.proofs.HoldersMoves.{none_left}
+
+-- ---- one without a record
+
+-- an operand that has no record and no message holds nothing
+pub holding_gone : (T : Source → Type 0) (O C : Type 0) (w : Bool) (l : LookUps) (k : Option OpName) → IsSilent l
+    → l.station ≡ None → Holding T O C w l k
+holding_gone T O C w l k silent none = record {
+  told = λ s e. absurd (none_left l.telling s silent.telling e);
+  ready = λ r s e. absurd (none_left l.station r none e);
+  linking = λ next r s e. absurd (none_left l.station r none e);
+  releases = λ c e. absurd (none_left l.releasing c silent.releasing e);
+  waiting_writer = λ x e. absurd (never e);
+  waiting_reader = λ x e. absurd (never e);
+  links = λ r e. absurd (none_left l.station r none e);
+}
+  where
+    absent : (b : Bool) → absent_phase b ≡ Waiting → ⊥
+    absent true e = cc
+    absent false e = cc
+
+    never : phase_at l ≡ Waiting → ⊥
+    never e = absent l.ahead (sym (phase_silent l silent ∙ ap (λ k. station_phase k l.ahead) none) ∙ e)
+
+-- one of a task that may leave holds what it holds with its record there
+pub holding_remaining : (T : Source → Type 0) (O C : Type 0) (w : Bool) (flight : Numbered Flying) (task : ℕ) (y : Flying)
+    (q : OpName) (l : LookUps) (k : Option OpName) → q.task ≡ task
+    → IsOrderly (record l { station = slice_get y.operands q.place })
+    → Holding T O C w (record l { station = slice_get y.operands q.place }) k
+    → Holding T O C w (record l { station = operand_at (remaining_tasks flight task y) q }) k
+holding_remaining T O C w flight task y q l k same o h = by (is_gone y) refl
+  where
+    removed : (r : Option OperandState) → slice_get y.operands q.place ≡ r → is_gone y ≡ true
+        → IsOrderly (record l { station = r }) → Holding T O C w (record l { station = r }) k
+        → Holding T O C w (record l { station = None }) k
+    removed None at g o h = h
+    removed (Some r) at g o h =
+        let j : LookUps = record l { station = Some r } in
+        let left = left_by_record j r refl ((done_from_test y g).left q.place r at) o in
+        holding_gone T O C w (record l { station = None }) k (silent_station j None (left_shows j left).0) refl
+
+    by : (b : Bool) → is_gone y ≡ b → Holding T O C w (record l {
+      station = operand_at (if b then remove flight task else insert flight task y) q;
+    }) k
+    by true g =
+        subst (λ s. Holding T O C w (record l { station = s }) k) (sym (record_removed flight task q same))
+        (removed (slice_get y.operands q.place) refl g o h)
+    by false g = subst (λ s. Holding T O C w (record l { station = s }) k) (sym (record_put flight task y q same)) h
+
+-- ---- ready
+
+module _ (T : Source → Type 0) (O C : Type 0) (w : Bool) (l : LookUps) (k : Option OpName)
+    (h : Holding T O C w l k) where
+  -- an operand that is told what is true is ready with it
+  pub holding_readied : (s : Source) → l.telling ≡ Some s → phase_at l ≡ Told → IsSilent (record l { telling = None })
+      → (r : OperandState) → l.station ≡ Some r → r.farewell ≡ farewell.Nothing
+      → Holding T O C w (record l { telling = None; station = Some (operand_after_ready r s) }) k
+  holding_readied s there at silent r kept stays = record {
+    told = λ u e. absurd (none-some u e);
+    ready = λ q u e f p.
+        let is = ap (λ (r : OperandState). r.source) (same_Some (operand_after_ready r s) q e) ∙ f in
+        subst T (same_Some s u is) (h.told s there);
+    linking = λ next q u e f p.
+        let is = ap (λ (r : OperandState). r.source) (same_Some (operand_after_ready r s) q e) ∙ f in
+        subst T (same_Some s u is) (h.told s there);
+    releases = λ c e. absurd (none_left l.releasing c silent.releasing e);
+    waiting_writer = λ x e. absurd (ready_waits (sym now ∙ e));
+    waiting_reader = λ x e. absurd (ready_waits (sym now ∙ e));
+    links = λ q e. subst (LinksFit w j k) (same_Some (operand_after_ready r s) q e) (record {
+      fits = ap (λ p. link_fits p (link_after_ready r.link)) now
+          ∙ readied r.link (ap (λ p. link_fits p r.link) (sym at) ∙ before.fits);
+      writer = λ x. let n = before.writer x in (ap link_after_ready n.0, n.1);
+      under_way = λ next x. ap link_after_ready (before.under_way next x);
+      early = λ x. elim x [
+        | inl d ↦ absurd (ready_decodes (sym now ∙ d))
+        | inr d ↦ absurd (ready_sent (sym now ∙ d))
+      ];
+      promise = λ b x. absurd (none_left l.leaving b silent.leaving x);
+      promised = λ x. absurd (ready_promised (sym now ∙ x));
+    });
+  }
+    where
+      j : LookUps
+      j = record l { telling = None; station = Some (operand_after_ready r s) }
+
+      before : LinksFit w l k r
+      before = h.links r kept
+
+      now : phase_at (record l { telling = None; station = Some (operand_after_ready r s) }) ≡ Ready
+      now =
+          phase_silent (record l { telling = None; station = Some (operand_after_ready r s) })
+          (silent_station (record l { telling = None }) (Some (operand_after_ready r s)) silent)
+          ∙ ap (λ f. record_phase f (Some s)) stays
+
+      readied : (x : LinkState) → link_fits Told x ≡ true → link_fits Ready (link_after_ready x) ≡ true
+      readied link.Nothing e = refl
+      readied (link.Held next) e = refl
+      readied link.Passed e = absurd (true≢false (sym e))
+
+      ready_waits : Ready ≡ Waiting → ⊥
+      ready_waits e = cc
+
+      ready_decodes : Ready ≡ Decoding → ⊥
+      ready_decodes e = cc
+
+      ready_sent : Ready ≡ Sent → ⊥
+      ready_sent e = cc
+
+      ready_promised : Ready ≡ Promised → ⊥
+      ready_promised e = cc
