@@ -136,3 +136,101 @@ module _ (T : Source → Type 0) (O C : Type 0) (w : Bool) (l : LookUps) (k : Op
 
       ready_promised : Ready ≡ Promised → ⊥
       ready_promised e = cc
+
+  -- ---- link
+
+  -- an operand that is linked holds the link, or has passed it on
+  pub holding_linked : (next : OpName) → k ≡ Some next → IsOrderly l → phase_at l ≢ Left → (r : OperandState)
+      → l.station ≡ Some r → Holding T O C w (record l { station = Some (operand_after_link r next) }) None
+  holding_linked next there orderly stays r kept = record {
+    told = h.told;
+    ready = λ q s e f p. true_of s (is q s e f);
+    linking = λ n q s e f g. absurd (none-some n g);
+    releases = λ c e.
+        let b = h.releases c e in (
+          b.0,
+          (
+            operand_after_link r next,
+            b.1.1,
+            refl,
+            ap (λ (r : OperandState). r.source) (same_Some r b.1.0 (sym kept ∙ b.1.2)) ∙ b.1.3,
+            b.1.4,
+          ),
+        );
+    waiting_writer = λ x e. h.waiting_writer x (was_waiting (phase_at l) (sym now ∙ e));
+    waiting_reader = λ x e. h.waiting_reader x (was_waiting (phase_at l) (sym now ∙ e));
+    links = λ q e. subst (LinksFit w j None) (same_Some (operand_after_link r next) q e) (record {
+      fits = ap (λ p. link_fits p (link_after_link r.source next)) now ∙ fits_by (phase_at l) refl orderly.fits;
+      writer = λ x. absurd (none_left k next (before.writer x).1 there);
+      under_way = λ n g. absurd (none-some n g);
+      early = λ x. refl;
+      promise = λ b x. promise_by b ((leaving_stands l b orderly x).1) (before.promise b x);
+      promised = λ x. absurd (never_promised (phase_at l) (sym now ∙ x));
+    });
+  }
+    where
+      j : LookUps
+      j = record l { station = Some (operand_after_link r next) }
+
+      before : LinksFit w l k r
+      before = h.links r kept
+
+      now : phase_at (record l { station = Some (operand_after_link r next) }) ≡ phase_linked (phase_at l)
+      now =
+          linked_station l (Some (operand_after_link r next))
+          (record_linked r.farewell r.source ∙ ap (λ k. phase_linked (station_phase k l.ahead)) (sym kept))
+
+      is : (q : OperandState) (s : Source) → Some (operand_after_link r next) ≡ Some q → q.source ≡ Some s
+          → r.source ≡ Some s
+      is q s e f = ap (λ (r : OperandState). r.source) (same_Some (operand_after_link r next) q e) ∙ f
+
+      true_of : (s : Source) → r.source ≡ Some s → T s
+      true_of s e = h.linking next r s kept e there
+
+      source_by : (s : Option Source) → HasRecord l s → r.source ≡ s
+      source_by s a = ap (λ (r : OperandState). r.source) (same_Some r a.kept (sym kept ∙ a.there)) ∙ a.told
+
+      fits_by : (p : Phase) → phase_at l ≡ p → FitsPhase p l
+          → link_fits (phase_linked p) (link_after_link r.source next) ≡ true
+      fits_by Ahead e a = absurd (none_left l.station r a.0 kept)
+      fits_by Decoding e a = absurd (none_left k next (before.early (inl e)) there)
+      fits_by Sent e a = absurd (none_left k next (before.early (inr e)) there)
+      fits_by Waiting e a = ap (λ s. link_fits Waiting (link_after_link s next)) (source_by None a.0)
+      fits_by Told e a = ap (λ s. link_fits Told (link_after_link s next)) (source_by None a.0)
+      fits_by Ready e a = ap (λ s. link_fits Ready (link_after_link s next)) (source_by (Some a.0.0) a.0.1)
+      fits_by Releasing e a = ap (λ s. link_fits Releasing (link_after_link s next)) (source_by (Some a.0.0) a.0.1)
+      fits_by Leaving e a = ap (λ s. link_fits Leaving (link_after_link s next)) (source_by (Some a.0.0) a.0.1)
+      fits_by Promised e a =
+          ap (λ s. link_fits Left (link_after_link s next))
+          (ap (λ (r : OperandState). r.source) (same_Some r a.0.0 (sym kept ∙ a.0.1)) ∙ a.0.2.1)
+      fits_by Left e a = absurd (stays e)
+
+      promise_by : (b : Bool) → IsInformed l → PromiseFits k r.link b
+          → PromiseFits None (link_after_link r.source next) b
+      promise_by true i (inl x) = absurd (none_left k next x.1 there)
+      promise_by true i (inr x) = inl (ap (λ s. link_after_link s next) (source_by (Some i.0.0) i.0.1), refl)
+      promise_by false i x = absurd (none_left k next x.1 there)
+
+      was_waiting : (p : Phase) → phase_linked p ≡ Waiting → p ≡ Waiting
+      was_waiting Promised e = absurd (cc)
+      was_waiting Ahead e = e
+      was_waiting Decoding e = e
+      was_waiting Sent e = e
+      was_waiting Waiting e = e
+      was_waiting Told e = e
+      was_waiting Ready e = e
+      was_waiting Releasing e = e
+      was_waiting Leaving e = e
+      was_waiting Left e = e
+
+      never_promised : (p : Phase) → phase_linked p ≡ Promised → ⊥
+      never_promised Promised e = cc
+      never_promised Ahead e = cc
+      never_promised Decoding e = cc
+      never_promised Sent e = cc
+      never_promised Waiting e = cc
+      never_promised Told e = cc
+      never_promised Ready e = cc
+      never_promised Releasing e = cc
+      never_promised Leaving e = cc
+      never_promised Left e = cc

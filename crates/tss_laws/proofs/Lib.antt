@@ -130,3 +130,4 @@ pub mod ReadersReady
 pub mod EntriesCopy
 pub mod HoldersTaken
 pub mod HoldersTurns
+pub mod HoldersLeaves
