@@ -131,3 +131,5 @@ pub mod EntriesCopy
 pub mod HoldersTaken
 pub mod HoldersTurns
 pub mod HoldersLeaves
+pub mod ProgressChoice
+pub mod ProgressStuck
