@@ -133,3 +133,4 @@ pub mod HoldersTurns
 pub mod HoldersLeaves
 pub mod ProgressChoice
 pub mod ProgressStuck
+pub mod ProgressVersions
