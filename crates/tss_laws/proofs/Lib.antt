@@ -134,3 +134,4 @@ pub mod HoldersLeaves
 pub mod ProgressChoice
 pub mod ProgressStuck
 pub mod ProgressVersions
+pub mod ProgressPhases
