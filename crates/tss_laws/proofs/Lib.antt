@@ -135,3 +135,4 @@ pub mod ProgressChoice
 pub mod ProgressStuck
 pub mod ProgressVersions
 pub mod ProgressPhases
+pub mod ProgressOldest
