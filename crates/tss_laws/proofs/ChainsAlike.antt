@@ -2,9 +2,11 @@
 -- under way, and on how many readers were directed to each.
 use Rattle.std.proofs.Common.{◌≡◌, ◌+◌, List, Some, None, refl, sym, ap, ◌∙◌, subst, inl, inr}
 use Rattle.std.specs.FinMap.{get}
+use Rattle.std.proofs.lemmas.Option.{same_Some}
 use Rattle.tss_base.specs.declared.range.Range.{Range}
 use Rattle.tss_base.specs.declared.operand.OpName.{OpName}
 use Rattle.tss_base.specs.declared.operand.Mode.TheVariants.{Input, Inout}
+use Rattle.tss_base.specs.declared.operand.Operand.{Operand}
 use Rattle.tss_base.specs.declared.operand.Task.{Task}
 use Rattle.tss_base.specs.declared.event.Follow.{Follow}
 use Rattle.tss_protocol.specs.Mail.{OpenContents}
@@ -193,3 +195,15 @@ module _ (ts : List Task) (S T : State) (a : AreChainsAlike S T) where
     opens = λ o c e. open_alike o c (h.opens o c (sym (ap (λ os. get os o) a.opens) ∙ e));
     uses = λ o v e. use_alike o v (h.uses o v (a.uses o v e));
   }
+
+-- ---- members
+
+-- a registered version whose name is a member of an object is of that object
+pub object_of_member : (ts : List Task) (S : State) → HasChains ts S → (v : OpName) (x : Version)
+    → get S.versions v ≡ Some x → (r : Range) → IsMember S r v → x.object ≡ r
+object_of_member ts S h v x there r (inl m) = ap (λ (u : Version). u.object) (same_Some x m.0 (sym there ∙ m.1)) ∙ m.2
+object_of_member ts S h v x there r (inr m) =
+    let p = h.opener v x there in
+    sym p.2
+    ∙ ap (λ (u : Operand). u.object) (same_Some p.0 m.0.operand (sym p.1 ∙ (h.opens v m.0 m.1).operand))
+    ∙ m.2

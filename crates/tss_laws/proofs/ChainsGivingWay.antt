@@ -16,6 +16,7 @@ use Rattle.tss_protocol.specs.State.{State, Version}
 use Rattle.tss_protocol.specs.Versions.{followed_by}
 use Rattle.tss_laws.specs.Members.{IsOn, NoWriterBetween, IsVersionOf, IsOpenOf, IsMember, registered_of, opening_reader, uses_of, total}
 use Rattle.tss_laws.specs.Chains.{IsAfter, IsFollowed, IsLinked, IsOver, HasStorage, OpensFirst, OpensAfter, IsOpenInOrder, IsUseInOrder, HasChains}
+use Rattle.tss_laws.proofs.ChainsAlike.{object_of_member}
 use Rattle.tss_laws.proofs.UnlinkedVersions.{bridged, GaveWay}
 
 -- ---- what gives way to what
@@ -632,7 +633,8 @@ module _ (ts : List Task) (S T : State) (h : HasChains ts S) (v : OpName) (x : V
       → g.version ≢ v
   open_not_after_v o c g i to is =
       let a = i.after g to in
-      let object : x.object ≡ c.operand.object = of_member (subst (IsMember S c.operand.object) is a.member) in
+      let object : x.object ≡ c.operand.object =
+      object_of_member ts S h v x d.there c.operand.object (subst (IsMember S c.operand.object) is a.member) in
       let late = subst (λ r. IsVersionOf S r f.version) object (y, d.next, next_object) in
       elim (a.near f.version (inl late)) [
         | inl close ↦
@@ -640,13 +642,6 @@ module _ (ts : List Task) (S T : State) (h : HasChains ts S) (v : OpName) (x : V
             (subst (λ (k : OpName). f.version.task ≤ k.task) is close)
         | inr far ↦ not_both_ways f.version.task o.task (i.behind f.version late) far
       ]
-    where
-      of_member : IsMember S c.operand.object v → x.object ≡ c.operand.object
-      of_member (inl m) = ap (λ (u : Version). u.object) (same_Some x m.0 (sym d.there ∙ m.1)) ∙ m.2
-      of_member (inr m) =
-          let p = h.opener v x d.there in
-          let q = (h.opens v m.0 m.1).operand in
-          sym p.2 ∙ ap (λ (u : Operand). u.object) (same_Some p.0 m.0.operand (sym p.1 ∙ q)) ∙ m.2
 
   open_later : (o : OpName) (c : OpenContents) → IsOpenInOrder ts S o c → IsOpenInOrder ts T o c
   open_later o c i = record {

@@ -26,6 +26,7 @@ use Rattle.tss_laws.specs.Readers.{Arrivals}
 use Rattle.tss_laws.specs.Control.{HasGroundwork, IsControlled}
 use Rattle.tss_laws.proofs.SentLemmas.{posted_all-later, sent_by_retire-later}
 use Rattle.tss_laws.proofs.EntriesNames.{one_object}
+use Rattle.tss_laws.proofs.ChainsAlike.{object_of_member}
 use Rattle.tss_laws.proofs.ChainsFrames.{HasChains-same}
 
 -- ---- a version that may retire
@@ -133,12 +134,7 @@ module _ (ts : List Task) (S T : State) (h : HasChains ts S) (v : OpName) (x : V
 
   -- a member of the name v is of that object
   member_object : (r : Range) → IsMember S r v → x.object ≡ r
-  member_object r (inl m) = ap (λ (u : Version). u.object) (same_Some x m.0 (sym there ∙ m.1)) ∙ m.2
-  member_object r (inr m) =
-      let p = h.opener v x there in
-      sym p.2
-      ∙ ap (λ (u : Operand). u.object) (same_Some p.0 m.0.operand (sym p.1 ∙ (h.opens v m.0 m.1).operand))
-      ∙ m.2
+  member_object = object_of_member ts S h v x there
 
   module _ (w : OpName) (y : Version) (far : w ≢ v) (at : get S.versions w ≡ Some y) where
     beside_object : y.object ≢ x.object

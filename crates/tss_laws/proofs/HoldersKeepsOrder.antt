@@ -43,16 +43,15 @@ pub releases_registered : (m : Machine) (ts : List Task) (g : Arrivals) (S : Sta
     → HasRetirement S → HasReaders ts g S → HasHolders ts g S → (o : OpName) → ReleasesRegistered S o
 releases_registered m ts g S round orderly chains retirement readers holders o r e =
     let k = releases_facts ts g S round orderly holders o r e in
-    let x = k.version in
-    (
+    let x = k.version in (
       (x, k.there),
       λ q t. elim (release_tells S.versions o r.version x r.producer q
-      (sym (ap (λ ms. tells ms q) (release_sends_here m S o r x e k.there)) ∙ t)) [
-        | inl h ↦ head_waits ts g S readers r.version x k.there q h.1
-        | inr h ↦
-            settle_tells_waiting ts g S chains holders retirement r.version x (version_released o x r.producer) k.there
-            (same_successor r.producer x) (same_predecessor r.producer x) q h
-      ],
+          (sym (ap (λ ms. tells ms q) (release_sends_here m S o r x e k.there)) ∙ t)) [
+            | inl h ↦ head_waits ts g S readers r.version x k.there q h.1
+            | inr h ↦
+                settle_tells_waiting ts g S chains holders retirement r.version x (version_released o x r.producer) k.there
+                (same_successor r.producer x) (same_predecessor r.producer x) q h
+          ],
     )
   where
     same_successor : (b : Bool) (x : Version) → (version_released o x b).successor ≡ x.successor

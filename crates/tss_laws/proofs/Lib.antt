@@ -136,3 +136,4 @@ pub mod ProgressStuck
 pub mod ProgressVersions
 pub mod ProgressPhases
 pub mod ProgressOldest
+pub mod ChainsRegistered

@@ -64,10 +64,10 @@ few_listed [] tasks once each = omega arith
 few_listed {X} (n ∷ ns) tasks once each =
     let x = each n (or_left (n == n) (list_any (λ k. k == n) ns) (itself n)) in
     let rest =
-        few_listed ns (remove tasks n) once.1
-        (λ k e.
-        let y = each k (or_right (n == k) (list_any (λ j. j == k) ns) e) in
-        (y.0, beside_removed nat_order tasks n k (λ same. not_both (ap (λ k. list_any (λ j. j == k) ns) same) e) ∙ y.1)) in
+    few_listed ns (remove tasks n) once.1
+    (λ k e.
+    let y = each k (or_right (n == k) (list_any (λ j. j == k) ns) e) in
+    (y.0, beside_removed nat_order tasks n k (λ same. not_both (ap (λ k. list_any (λ j. j == k) ns) same) e) ∙ y.1)) in
     let one = len_removed nat_order tasks n x.0 x.1 in
     omega (arith, rest, one)
   where
@@ -149,21 +149,21 @@ module _ (m : Machine) (admissible : IsAdmissible m) (all ts : List Task) (g : A
       let is = ground.gateway.each o e in
       at_place o.task one.0 o.place m.limits.max_operands (one.1 o.task (tasks.1.all o e)) (place_below o is.1 is.2) in
       let few =
-          few_in_task acknowledging
-          (IsMeasure-both (those_in S.mail.decodes) (those_in S.mail.acks) (IsMeasure-map S.mail.decodes)
-          (IsMeasure-map S.mail.acks))
-          (λ k.
-          let a = those_at S.mail.decodes k in
-          let b = those_at S.mail.acks k in
-          let c = apart k in
-          omega (arith, a, b, c))
-          one.0 m.limits.max_operands in
+      few_in_task acknowledging
+      (IsMeasure-both (those_in S.mail.decodes) (those_in S.mail.acks) (IsMeasure-map S.mail.decodes)
+      (IsMeasure-map S.mail.acks))
+      (λ k.
+      let a = those_at S.mail.decodes k in
+      let b = those_at S.mail.acks k in
+      let c = apart k in
+      omega (arith, a, b, c))
+      one.0 m.limits.max_operands in
       let d =
-          those_all S.mail.decodes (in_task one.0 m.limits.max_operands)
-          (λ o x e. inside o (ground.gateway.decodes o x e).0) in
+      those_all S.mail.decodes (in_task one.0 m.limits.max_operands)
+      (λ o x e. inside o (ground.gateway.decodes o x e).0) in
       let a =
-          those_all S.mail.acks (in_task one.0 m.limits.max_operands)
-          (λ o x e. inside o (ground.gateway.acks o e).0) in
+      those_all S.mail.acks (in_task one.0 m.limits.max_operands)
+      (λ o x e. inside o (ground.gateway.acks o e).0) in
       omega (arith, few, d, a)
     where
       at_place : (t n p places : ℕ) → t ≡ n → p < places → ((t == n) && nat_lt p places) ≡ true
@@ -241,12 +241,12 @@ module _ (m : Machine) (admissible : IsAdmissible m) (all ts : List Task) (g : A
   few_links : len S.mail.links ≤ len S.flight * m.limits.max_operands
   few_links =
       let few =
-          few_in_tasks (those_in S.mail.links) (IsMeasure-map S.mail.links)
-          (λ k.
-          let a = those_at S.mail.links k in
-          let one = one_if-le-one (is_some (get S.mail.links k)) in
-          omega (arith, a, one))
-          m.limits.max_operands S.flight in
+      few_in_tasks (those_in S.mail.links) (IsMeasure-map S.mail.links)
+      (λ k.
+      let a = those_at S.mail.links k in
+      let one = one_if-le-one (is_some (get S.mail.links k)) in
+      omega (arith, a, one))
+      m.limits.max_operands S.flight in
       let all = those_all S.mail.links (in_tasks S.flight m.limits.max_operands)
       (λ o x e. let r = h.holders.records o x e in in_flight o r.0 r.1) in
       omega (arith, few, all)
