@@ -130,8 +130,13 @@ module _ (m : Machine) (all ts : List Task) (S : State) (ground : HasGroundwork 
         elim (from_inserted nat_order S.copies b moved k.0 k.1
         (ap (λ m. get m k.0) (sym (copied_copies false is)) ∙ k.2)) [
           | inl new ↦
-              inl (b, c, there, ap (λ (c : CopyState). c.version) (sym new.1) ∙ k.3,
-              ap (λ (c : CopyState). c.object) (sym new.1) ∙ k.4)
+              inl (
+                b,
+                c,
+                there,
+                ap (λ (c : CopyState). c.version) (sym new.1) ∙ k.3,
+                ap (λ (c : CopyState). c.object) (sym new.1) ∙ k.4,
+              )
           | inr old ↦ inl (k.0, k.1, old.1, k.3, k.4)
         ]
 
@@ -140,13 +145,21 @@ module _ (m : Machine) (all ts : List Task) (S : State) (ground : HasGroundwork 
     more_still x v (inl k) = elim (decide_key nat_order k.0 b) [
       | inl same ↦
           let one = same_Some c k.1 (sym there ∙ ap (get S.copies) (sym same) ∙ k.2) in
-          inl (b, moved,
-          ap (λ m. get m b) (copied_copies false is) ∙ at_inserted nat_order S.copies b moved,
-          ap (λ (c : CopyState). c.version) one ∙ k.3, ap (λ (c : CopyState). c.object) one ∙ k.4)
+          inl (
+            b,
+            moved,
+            ap (λ m. get m b) (copied_copies false is) ∙ at_inserted nat_order S.copies b moved,
+            ap (λ (c : CopyState). c.version) one ∙ k.3,
+            ap (λ (c : CopyState). c.object) one ∙ k.4,
+          )
       | inr other ↦
-          inl (k.0, k.1,
-          ap (λ m. get m k.0) (copied_copies false is) ∙ beside_inserted nat_order S.copies b moved k.0 other ∙ k.2,
-          k.3, k.4)
+          inl (
+            k.0,
+            k.1,
+            ap (λ m. get m k.0) (copied_copies false is) ∙ beside_inserted nat_order S.copies b moved k.0 other ∙ k.2,
+            k.3,
+            k.4,
+          )
     ]
 
     more_going : SameGoing S T
@@ -169,9 +182,13 @@ module _ (m : Machine) (all ts : List Task) (S : State) (ground : HasGroundwork 
 
     last_back : (x : Range) (v : OpName) → IsGoingHome T x v → IsGoingHome S x v
     last_back x v (inl k) =
-        inl (k.0, k.1,
-        (from_removed nat_order S.copies b k.0 k.1 (ap (λ m. get m k.0) (sym (copied_copies true is)) ∙ k.2)).1,
-        k.3, k.4)
+        inl (
+          k.0,
+          k.1,
+          (from_removed nat_order S.copies b k.0 k.1 (ap (λ m. get m k.0) (sym (copied_copies true is)) ∙ k.2)).1,
+          k.3,
+          k.4,
+        )
     last_back x v (inr g) =
         elim (from_inserted name_order S.mail.gones c.version gone v g.0 (ap (λ m. get m v) (sym gones) ∙ g.1)) [
           | inl new ↦ inl (b, c, there, sym new.0, ap (λ (g : GoneContents). g.object) (sym new.1) ∙ g.3)
@@ -182,13 +199,21 @@ module _ (m : Machine) (all ts : List Task) (S : State) (ground : HasGroundwork 
     last_still x v (inl k) = elim (decide_key nat_order k.0 b) [
       | inl same ↦
           let one = same_Some c k.1 (sym there ∙ ap (get S.copies) (sym same) ∙ k.2) in
-          inr (gone,
-          ap (get T.mail.gones) (sym k.3 ∙ ap (λ (c : CopyState). c.version) (sym one))
-          ∙ ap (λ m. get m c.version) gones ∙ at_inserted name_order S.mail.gones c.version gone,
-          refl, ap (λ (c : CopyState). c.object) one ∙ k.4)
+          inr (
+            gone,
+            ap (get T.mail.gones) (sym k.3 ∙ ap (λ (c : CopyState). c.version) (sym one))
+                ∙ ap (λ m. get m c.version) gones ∙ at_inserted name_order S.mail.gones c.version gone,
+            refl,
+            ap (λ (c : CopyState). c.object) one ∙ k.4,
+          )
       | inr other ↦
-          inl (k.0, k.1,
-          ap (λ m. get m k.0) (copied_copies true is) ∙ beside_removed nat_order S.copies b k.0 other ∙ k.2, k.3, k.4)
+          inl (
+            k.0,
+            k.1,
+            ap (λ m. get m k.0) (copied_copies true is) ∙ beside_removed nat_order S.copies b k.0 other ∙ k.2,
+            k.3,
+            k.4,
+          )
     ]
     last_still x v (inr g) =
         let apart : v ≢ c.version = λ same. (ground.places.gones v g.0 g.1).1 (b, c, there, sym same) in

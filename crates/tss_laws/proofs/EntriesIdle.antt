@@ -150,13 +150,17 @@ module _ (m : Machine) (all ts : List Task) (g : Arrivals) (S : State) (ground :
           omega (arith, a, b, c, d)
 
       cause : HasCause S v x i.count
-      cause = (f.entry, f.there, elim (decide_key name_order f.entry.latest v) [
-        | inl same ↦
-            inr (other_count f.entry.sent i.count
-            (rest (same_name f.entry.latest v) (f.entry.sent == i.count)
-            (ap (λ q. same_name q v) same ∙ own_name v) may) (few same))
-        | inr apart ↦ inl apart
-      ])
+      cause = (
+        f.entry,
+        f.there,
+        elim (decide_key name_order f.entry.latest v) [
+          | inl same ↦
+              inr (other_count f.entry.sent i.count
+              (rest (same_name f.entry.latest v) (f.entry.sent == i.count)
+              (ap (λ q. same_name q v) same ∙ own_name v) may) (few same))
+          | inr apart ↦ inl apart
+        ],
+      )
         where
           rest : (a b : Bool) → a ≡ true → (a && b) ≡ false → b ≡ false
           rest true b e f = f

@@ -137,3 +137,4 @@ pub mod ProgressVersions
 pub mod ProgressPhases
 pub mod ProgressOldest
 pub mod ChainsRegistered
+pub mod ChainsOpen

@@ -155,25 +155,25 @@ module _ (m : Machine) (S : State) where
       (both of_main (both of_take (both of_decode (both of_ack (both of_open (both of_use (both of_ready of_link)))))))
       (both of_start (both of_exec (both of_finish (both of_release (both of_bye
       (both of_idle (both of_nack (both of_retire (both of_copy of_gone)))))))))) [
-    | inl some ↦ inl some
-    | inr none ↦ inr (λ e. elim e as (λ e. is_enabled m S e ≡ false) [
-      | event.Main ↦ none.0.0 tt
-      | event.Take ↦ none.0.1.0 tt
-      | event.Decode o ↦ none.0.1.1.0 o
-      | event.Ack o ↦ none.0.1.1.1.0 o
-      | event.Open o ↦ none.0.1.1.1.1.0 o
-      | event.Use o ↦ none.0.1.1.1.1.1.0 o
-      | event.Ready o ↦ none.0.1.1.1.1.1.1.0 o
-      | event.Link o ↦ none.0.1.1.1.1.1.1.1 o
-      | event.Start w ↦ none.1.0 w
-      | event.Exec w ↦ none.1.1.0 w
-      | event.Finish w ↦ none.1.1.1.0 w
-      | event.Release o ↦ none.1.1.1.1.0 o
-      | event.Bye o ↦ none.1.1.1.1.1.0 o
-      | event.Idle v ↦ none.1.1.1.1.1.1.0 v
-      | event.Nack v ↦ none.1.1.1.1.1.1.1.0 v
-      | event.Retire v ↦ none.1.1.1.1.1.1.1.1.0 v
-      | event.Copy b ↦ none.1.1.1.1.1.1.1.1.1.0 b
-      | event.Gone v ↦ none.1.1.1.1.1.1.1.1.1.1 v
-    ])
-  ]
+        | inl some ↦ inl some
+        | inr none ↦ inr (λ e. elim e as (λ e. is_enabled m S e ≡ false) [
+          | event.Main ↦ none.0.0 tt
+          | event.Take ↦ none.0.1.0 tt
+          | event.Decode o ↦ none.0.1.1.0 o
+          | event.Ack o ↦ none.0.1.1.1.0 o
+          | event.Open o ↦ none.0.1.1.1.1.0 o
+          | event.Use o ↦ none.0.1.1.1.1.1.0 o
+          | event.Ready o ↦ none.0.1.1.1.1.1.1.0 o
+          | event.Link o ↦ none.0.1.1.1.1.1.1.1 o
+          | event.Start w ↦ none.1.0 w
+          | event.Exec w ↦ none.1.1.0 w
+          | event.Finish w ↦ none.1.1.1.0 w
+          | event.Release o ↦ none.1.1.1.1.0 o
+          | event.Bye o ↦ none.1.1.1.1.1.0 o
+          | event.Idle v ↦ none.1.1.1.1.1.1.0 v
+          | event.Nack v ↦ none.1.1.1.1.1.1.1.0 v
+          | event.Retire v ↦ none.1.1.1.1.1.1.1.1.0 v
+          | event.Copy b ↦ none.1.1.1.1.1.1.1.1.1.0 b
+          | event.Gone v ↦ none.1.1.1.1.1.1.1.1.1.1 v
+        ])
+      ]

@@ -76,14 +76,14 @@ module _ (m : Machine) (all ts : List Task) (g : Arrivals) (S : State) (ground :
       by false e =
           let p = control.chains.opener v y there in
           let on : IsOn ts y.object Input v =
-              record { operand = p.0; there = p.1; object = p.2; is_mode = input_from_test p.0.mode e } in
+          record { operand = p.0; there = p.1; object = p.2; is_mode = input_from_test p.0.mode e } in
           absurd (none-some q (sym ((control.chains.storages v y there).input on) ∙ behind))
 
   -- a reader of a version isn't of the task that writes its object next
   reader_apart : (x : Range) (a s : OpName) → IsOn ts x Input a → IsWriterOn ts x s → a.task ≡ s.task → ⊥
   reader_apart x a s on writer task =
       let one = ground.known.single a s on.operand writer.operand on.there writer.there
-          (on.object ∙ sym writer.object) task in
+      (on.object ∙ sym writer.object) task in
       let same = same_Some on.operand writer.operand (sym on.there ∙ ap (operand_among ts) one ∙ writer.there) in
       not_input writer.operand.mode writer.writer (ap (λ (p : Operand). p.mode) (sym same) ∙ on.is_mode)
 
@@ -98,7 +98,7 @@ module _ (m : Machine) (all ts : List Task) (g : Arrivals) (S : State) (ground :
     readers_left v y f there next followed upto a has =
         let arrival = (control.readers.versions v y there).each a has in
         let writer = subst (λ x. IsWriterOn ts x f.version) followed.object
-            (follower_writes f.version v followed.version followed.there followed.back) in
+        (follower_writes f.version v followed.version followed.there followed.back) in
         elim (cases_order a.task f.version.task) [
           | inl same ↦ absurd (reader_apart y.object a f.version arrival.on writer same)
           | inr (inl before) ↦ past a (omega (arith, before, upto))
@@ -200,8 +200,12 @@ module _ (m : Machine) (all ts : List Task) (g : Arrivals) (S : State) (ground :
         × (phase_of S (operand_name n k) ≡ Decoding)
     some_decoding =
         let waits = all_wait m all ts g S ground control quiet gone n x flies in
-        let f = fails_somewhere is_ready x.operands ((ground.stages.waiting n x flies).0 waits) in
-        (f.0, f.1, f.2, elim (decodes_or_ready (operand_name n f.0) f.1 refl f.2) [
-          | inl decoding ↦ decoding
-          | inr ready ↦ absurd (true≢false (sym (ready_told (operand_name n f.0) f.1 refl f.2 ready) ∙ f.3))
-        ])
+        let f = fails_somewhere is_ready x.operands ((ground.stages.waiting n x flies).0 waits) in (
+          f.0,
+          f.1,
+          f.2,
+          elim (decodes_or_ready (operand_name n f.0) f.1 refl f.2) [
+            | inl decoding ↦ decoding
+            | inr ready ↦ absurd (true≢false (sym (ready_told (operand_name n f.0) f.1 refl f.2 ready) ∙ f.3))
+          ],
+        )

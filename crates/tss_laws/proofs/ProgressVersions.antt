@@ -114,7 +114,7 @@ module _ (m : Machine) (all ts : List Task) (g : Arrivals) (S : State) (ground :
       let two = and_from y.produced (y.released == y.registered) produced same in
       let three = and_from (y.produced && (y.released == y.registered)) (is_none y.predecessor) two (ap is_none oldest) in
       let four = and_from (y.produced && (y.released == y.registered) && is_none y.predecessor) (is_none y.asked) three
-          (ap is_none (nobody_asks e.latest y there)) in
+      (ap is_none (nobody_asks e.latest y there)) in
       true≢false (sym (and_from (y.produced && (y.released == y.registered) && is_none y.predecessor && is_none y.asked)
       (not (is_count y.refused y.registered)) four (ap not fresh))
       ∙ (control.retirement.settled e.latest y there).asks last)

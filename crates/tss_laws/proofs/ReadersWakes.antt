@@ -36,8 +36,7 @@ arrivals_moved ts xs S T v y h released arrived first chained newest = record {
   head = h.head;
   tail = h.tail ∙ sym (same_tail S T xs released);
   first = λ a e.
-      let k = h.first a e in
-      (
+      let k = h.first a e in (
         (λ w. k.0 (waited (phase_of S a) (phase_of T a) (first a e) w)),
         (λ b. still_waits (phase_of S a) (phase_of T a) (first a e) (k.1 b)),
       );
@@ -91,8 +90,8 @@ neighbours_woken : (S T : State) (a b : OpName) → get T.mail.links a ≡ get S
     → AreNeighbours S a b → AreNeighbours T a b
 neighbours_woken S T a b links station holds was stays never n =
     let back : (c : OpName) → Holds T a c → Holds S a c = λ c h.
-        let k = station h.0 h.1 in
-        (k.0, k.1, sym k.2 ∙ h.2) in record {
+    let k = station h.0 h.1 in
+    (k.0, k.1, sym k.2 ∙ h.2) in record {
       waits = λ e. elim (waits_by e) [
         | inl l ↦ inl (links ∙ l)
         | inr h ↦ inr (holds b h)
