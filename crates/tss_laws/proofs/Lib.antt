@@ -138,3 +138,4 @@ pub mod ProgressPhases
 pub mod ProgressOldest
 pub mod ChainsRegistered
 pub mod ChainsOpen
+pub mod ReadersLink

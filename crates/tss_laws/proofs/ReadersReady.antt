@@ -43,7 +43,8 @@ passed_not_held link.Nothing c e = cc
 passed_not_held (link.Held b) c e = cc
 passed_not_held link.Passed c e = cc
 
-told_not_waiting : (p : Phase) → p ≡ Told → p ≡ Waiting → ⊥
+-- who is told isn't waiting
+pub told_not_waiting : (p : Phase) → p ≡ Told → p ≡ Waiting → ⊥
 told_not_waiting p e f = cc
 
 ready_not_early : (p : Phase) → p ≡ Ready → (p ≢ Waiting) × (p ≢ Told)
