@@ -139,3 +139,4 @@ pub mod ProgressOldest
 pub mod ChainsRegistered
 pub mod ChainsOpen
 pub mod ReadersLink
+pub mod EntriesGone
