@@ -140,3 +140,4 @@ pub mod ChainsRegistered
 pub mod ChainsOpen
 pub mod ReadersLink
 pub mod EntriesGone
+pub mod EntriesRetire
