@@ -141,3 +141,4 @@ pub mod ChainsOpen
 pub mod ReadersLink
 pub mod EntriesGone
 pub mod EntriesRetire
+pub mod ReadersEnlisted
