@@ -142,3 +142,4 @@ pub mod ReadersLink
 pub mod EntriesGone
 pub mod EntriesRetire
 pub mod ReadersEnlisted
+pub mod HoldersReady
