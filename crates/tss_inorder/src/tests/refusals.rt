@@ -1,4 +1,4 @@
-// Each refusal of main's calls and of a spent budget.
+// Each refusal.
 use super::{LIMITS, Row, run};
 use std::test::Fail;
 use tss_base::{Ending, Limits};

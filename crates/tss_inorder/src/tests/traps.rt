@@ -1,4 +1,4 @@
-// Each trap, of main and of a task.
+// Each trap.
 use super::{LIMITS, Row, run};
 use std::test::Fail;
 use tss_base::{Ending, Limits, Trap};
