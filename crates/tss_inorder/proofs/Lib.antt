@@ -10,4 +10,3 @@ pub mod RangeLemmas
 pub mod FlatLemmas
 pub mod CallLemmas
 pub mod OpenLemmas
-pub mod ImageLemmas

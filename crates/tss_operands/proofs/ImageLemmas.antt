@@ -1,12 +1,11 @@
--- The image of the tests: 64 bytes of code, and 4,096 bytes that can be written.
-use Rattle.std.proofs.Common.{◌≡◌, ℕ, ◌≤◌, true, false, List, [], ◌∷◌, length, refl, arith}
-use Rattle.std.specs.Prelude.{AllPairs}
+-- The images of tests: some words of code, and some bytes that can be written.
+use Rattle.std.proofs.Common.{ℕ, ◌≤◌, ◌<◌, true, false, List, [], ◌∷◌, length, refl, arith}
 use Rattle.std.proofs.lemmas.List.Elements.{All-cons, All-nil}
 use Rattle.std.proofs.lemmas.List.Quantifiers.{all_pairs_push}
 use Rattle.tss_base.specs.Image.{SegmentState, IsAccepted, IsSegment, segment_end}
 
 -- two such segments make an image
-pub IsAccepted-pair : (xs ys : List ℕ) → length xs ≡ 64 → length ys ≡ 4096
+pub IsAccepted-pair : (xs ys : List ℕ) → 4 ≤ length xs → length xs ≤ 0x10000 → 0 < length ys → length ys ≤ 0x100000
     → IsAccepted (record {
       entry = 0x10000;
       segments =
@@ -14,7 +13,7 @@ pub IsAccepted-pair : (xs ys : List ℕ) → length xs ≡ 64 → length ys ≡ 
           ∷ record { base = 0x20000; bytes = ys; writable = true; code = false }
           ∷ [];
     })
-IsAccepted-pair xs ys many more =
+IsAccepted-pair xs ys word near some few =
     let a : SegmentState = record { base = 0x10000; bytes = xs; writable = false; code = true } in
     let b : SegmentState = record { base = 0x20000; bytes = ys; writable = true; code = false } in
     record {

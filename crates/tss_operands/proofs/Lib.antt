@@ -5,4 +5,4 @@ mod MergingLemmas
 mod ReadingLemmas
 mod FreshLemmas
 mod SpawnLemmas
-mod ImageLemmas
+pub mod ImageLemmas

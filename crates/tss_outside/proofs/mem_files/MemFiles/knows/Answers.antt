@@ -1,5 +1,5 @@
 -- A name is known where it has a place.
-use Rattle.std.proofs.Common.{◌≡◌, refl, ap, ◌∙◌}
+use Rattle.std.proofs.Common.{refl, ap, ◌∙◌}
 use Rattle.std.specs.Prelude.{position, is_some}
 use Rattle.tss_outside.specs.MemFiles.{has_name, is_known}
 use Rattle.tss_outside.proofs.FileLemmas.{placed_or_not}

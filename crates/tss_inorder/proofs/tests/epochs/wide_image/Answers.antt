@@ -1,8 +1,8 @@
 -- The two segments make an image.
 use Rattle.std.proofs.Common.{rules, ◌≡◌, ap, sym, subst, ◌∙◌, [], ◌∷◌, ◌++◌, length, arith}
 use Rattle.tss_base.specs.Image.{IsAccepted}
-use Rattle.tss_inorder.proofs.ImageLemmas.{IsAccepted-pair}
-use Rattle.tss_inorder.proofs.tests.wide_image.Goals as goal
+use Rattle.tss_operands.proofs.ImageLemmas.{IsAccepted-pair}
+use Rattle.tss_inorder.proofs.tests.epochs.wide_image.Goals as goal
 
 pub new-requires-3 : goal.new-requires-3
 new-requires-3 c =
@@ -13,4 +13,5 @@ new-requires-3 c =
     ∙ ap (λ xs. xs ++ c.new-2.result ∷ [])
     (c.in_ok-push.ensures.items ∙ ap (λ xs. xs ++ c.new.result ∷ []) c.new-segments.ensures.items)
     ∙ (λ i. c.new.ensures i ∷ c.new-2.ensures i ∷ [])))
-    (IsAccepted-pair c.in_ok-code.code.items c.in_ok-data.data.items few (omega (arith, many)) (omega (arith, many)))
+    (IsAccepted-pair c.in_ok-code.code.items c.in_ok-data.data.items (omega (arith, few)) (omega (arith, few))
+    (omega (arith, many)) (omega (arith, many)))
