@@ -143,3 +143,5 @@ pub mod EntriesGone
 pub mod EntriesRetire
 pub mod ReadersEnlisted
 pub mod HoldersReady
+pub mod ProgressBanks
+pub mod ProgressRoom

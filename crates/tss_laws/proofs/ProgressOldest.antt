@@ -171,7 +171,8 @@ module _ (m : Machine) (all ts : List Task) (g : Arrivals) (S : State) (ground :
         by true e = writer_waits o p among own e waits
         by false e = reader_waits o p among own e waits
 
-    own_record : (o : OpName) (r : OperandState) → o.task ≡ n → slice_get x.operands o.place ≡ Some r
+    -- the record of an operand of the task
+    pub own_record : (o : OpName) (r : OperandState) → o.task ≡ n → slice_get x.operands o.place ≡ Some r
         → operand_at S.flight o ≡ Some r
     own_record o r own at = ap (record_in o.place) (ap (get S.flight) own ∙ flies) ∙ at
 
