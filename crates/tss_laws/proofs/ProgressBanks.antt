@@ -69,7 +69,7 @@ module _ (m : Machine) (all ts : List Task) (g : Arrivals) (S : State) (ground :
   -- ---- records of the oldest task
 
   -- an operand of the task has a record
-  record_of : (q : OpName) (p : Operand) → operand_among ts q ≡ Some p → q.task ≡ n
+  pub record_of : (q : OpName) (p : Operand) → operand_among ts q ≡ Some p → q.task ≡ n
       → (r : OperandState) × (slice_get x.operands q.place ≡ Some r) × (r.operand ≡ p)
   record_of q p among own =
       let of = ground.known.operands q p among in
