@@ -48,17 +48,27 @@ module _ (ts : List Task) (g : Arrivals) (S T : State) (versions : T.versions �
     own = t.own;
   }
 
-  -- an operand that is left holds what it held
-  pub holding_kept : (o : OpName) (p : Operand) → IsSameHolder ts g S T o → HoldsIn g S o p → HoldsIn g T o p
-  holding_kept o p k h =
-      subst (λ l. Holding (IsTrue g T o p) (HasOpened T o) (HasCome g T o) (writes p.mode) l (get T.mail.links o))
-      (sym k.looked)
-      (subst (λ next. Holding (IsTrue g T o p) (HasOpened T o) (HasCome g T o) (writes p.mode) (look_ups S o) next)
-      (sym k.links)
-      (holding_mapped (IsTrue g S o p) (IsTrue g T o p) (HasOpened S o) (HasOpened T o) (HasCome g S o) (HasCome g T o)
+  -- by what was looked up of it before
+  pub holding_there : (o : OpName) (p : Operand) → HoldsIn g S o p
+      → Holding (IsTrue g T o p) (HasOpened T o) (HasCome g T o) (writes p.mode) (look_ups S o) (get S.mail.links o)
+  holding_there o p h =
+      holding_mapped (IsTrue g S o p) (IsTrue g T o p) (HasOpened S o) (HasOpened T o) (HasCome g S o) (HasCome g T o)
       (writes p.mode) (look_ups S o) (get S.mail.links o) (orderly o) (λ s needs. true_kept o p s)
       (λ w e y. (y.0, ap (λ vs. get vs o) versions ∙ y.1, y.2))
-      (λ w e y. (y.0, y.1, ap (λ vs. get vs y.0) versions ∙ y.2, y.3)) h))
+      (λ w e y. (y.0, y.1, ap (λ vs. get vs y.0) versions ∙ y.2, y.3)) h
+
+  -- by what is looked up of it after
+  pub holding_after : (o : OpName) (p : Operand) (l : LookUps) (k : Option OpName) → look_ups T o ≡ l
+      → get T.mail.links o ≡ k
+      → Holding (IsTrue g T o p) (HasOpened T o) (HasCome g T o) (writes p.mode) l k → HoldsIn g T o p
+  holding_after o p l k looked links h =
+      subst (λ l. Holding (IsTrue g T o p) (HasOpened T o) (HasCome g T o) (writes p.mode) l (get T.mail.links o))
+      (sym looked)
+      (subst (λ next. Holding (IsTrue g T o p) (HasOpened T o) (HasCome g T o) (writes p.mode) l next) (sym links) h)
+
+  -- an operand that is left holds what it held
+  pub holding_kept : (o : OpName) (p : Operand) → IsSameHolder ts g S T o → HoldsIn g S o p → HoldsIn g T o p
+  holding_kept o p k h = holding_after o p (look_ups S o) (get S.mail.links o) k.looked k.links (holding_there o p h)
 
   before : (v : OpName) (y : Version) → get T.versions v ≡ Some y → get S.versions v ≡ Some y
   before v y e = sym (ap (λ vs. get vs v) versions) ∙ e

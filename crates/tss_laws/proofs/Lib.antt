@@ -145,3 +145,4 @@ pub mod ReadersEnlisted
 pub mod HoldersReady
 pub mod ProgressBanks
 pub mod ProgressRoom
+pub mod HoldersParted
