@@ -146,3 +146,4 @@ pub mod HoldersReady
 pub mod ProgressBanks
 pub mod ProgressRoom
 pub mod HoldersParted
+pub mod ReadersUse

@@ -52,7 +52,8 @@ links_kept m (x ∷ xs) h = links_kept (posted m x) xs h.1 ∙ posted-no_link m 
 
 -- ---- what versions send
 
-ready_with-no_link : (o v : OpName) (storage : Option StorageName) → AllSent IsNoLink (ready_with o v storage)
+-- a ready is none
+pub ready_with-no_link : (o v : OpName) (storage : Option StorageName) → AllSent IsNoLink (ready_with o v storage)
 ready_with-no_link o v None = tt
 ready_with-no_link o v (Some s) = (tt, tt)
 
