@@ -147,3 +147,5 @@ pub mod ProgressBanks
 pub mod ProgressRoom
 pub mod HoldersParted
 pub mod ReadersUse
+pub mod DecodeFacts
+pub mod ChainsDecode
