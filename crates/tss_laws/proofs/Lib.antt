@@ -149,3 +149,4 @@ pub mod HoldersParted
 pub mod ReadersUse
 pub mod DecodeFacts
 pub mod ChainsDecode
+pub mod HoldersFinished
