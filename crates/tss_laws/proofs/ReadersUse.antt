@@ -158,6 +158,7 @@ module _ (m : Machine) (all ts : List Task) (g : Arrivals) (S : State) (h : HasR
     versions : After.versions ≡ put_version S.versions v version
     readers : HasArrivals ts (o ∷ g v) After v version
     links : (a : OpName) → (Has a (g v) → ⊥) → get After.mail.links a ≡ get S.mail.links a
+    linked : (a b : OpName) → IsLinking After a b → IsLinking S a b ⊎ Has a (g v)
 
   left_versions : After.versions ≡ (used_behind S.versions o v x x.tail).part
   unfolding after_event
@@ -188,6 +189,7 @@ module _ (m : Machine) (all ts : List Task) (g : Arrivals) (S : State) (h : HasR
         readers = enlisted_told ts (g v) S After v x (enlisted x o) o (enlists (enlisted x o) refl refl refl refl refl
             (same o)) tail produced (told x.storage refl) refl same;
         links = λ a out. same a;
+        linked = λ a b e. inl (sym (same a) ∙ e);
       }
     where
       told : (s : Option StorageName) → x.storage ≡ s → phase_of After o ≡ Told
@@ -209,6 +211,7 @@ module _ (m : Machine) (all ts : List Task) (g : Arrivals) (S : State) (h : HasR
         readers = enlisted_head ts (g v) S After v x z o (enlists z refl refl refl refl refl (same o)) tail produced
             waits refl same;
         links = λ a out. same a;
+        linked = λ a b e. inl (sym (same a) ∙ e);
       }
     where
       waits : phase_of After o ≡ Waiting
@@ -235,6 +238,10 @@ module _ (m : Machine) (all ts : List Task) (g : Arrivals) (S : State) (h : HasR
             (same o (λ is. reader_apart v x t at member (sym is)))) t tail waits refl
             (ap (λ ls. get ls t) links ∙ at_inserted name_order S.mail.links t o) same;
         links = λ a out. same a (λ is. out (subst (λ a. Has a (g v)) (sym is) member));
+        linked = λ a b e. elim (decide_key name_order a t) [
+          | inl is ↦ inr (subst (λ a. Has a (g v)) (sym is) member)
+          | inr apart ↦ inl (sym (same a apart) ∙ e)
+        ];
       }
     where
       waits : phase_of After o ≡ Waiting
@@ -247,3 +254,108 @@ module _ (m : Machine) (all ts : List Task) (g : Arrivals) (S : State) (h : HasR
   left_by : (t : Option OpName) → x.tail ≡ t → Left
   left_by None e = left_alone e x.produced refl
   left_by (Some t) e = left_behind t e
+
+  -- ---- all readers
+
+  module _ (l : Left) where
+    grows : (w a : OpName) → Has a (g w) → Has a (New w)
+    grows w a k = elim (decide_key name_order w v) [
+      | inl same ↦ subst (Has a) (sym (ap New same ∙ at_set g v (o ∷ g v))) (inr (subst (λ w. Has a (g w)) same k))
+      | inr apart ↦ subst (Has a) (sym (beside_set g v w (o ∷ g v) apart)) k
+    ]
+
+    came_by : (w a : OpName) → w ≡ v → Has a (o ∷ g v) → ((w ≡ v) × (o ≡ a)) ⊎ Has a (g w)
+    came_by w a same (inl e) = inl (same, e)
+    came_by w a same (inr k) = inr (subst (λ w. Has a (g w)) (sym same) k)
+
+    came : (w a : OpName) → Has a (New w) → ((w ≡ v) × (o ≡ a)) ⊎ Has a (g w)
+    came w a k = elim (decide_key name_order w v) [
+      | inl same ↦ came_by w a same (subst (Has a) (ap New same ∙ at_set g v (o ∷ g v)) k)
+      | inr apart ↦ inr (subst (Has a) (beside_set g v w (o ∷ g v) apart) k)
+    ]
+
+    was : (w : OpName) (y : Version) → get After.versions w ≡ Some y
+        → ((w ≡ v) × (y ≡ l.version)) ⊎ ((w ≢ v) × (get S.versions w ≡ Some y))
+    was w y e = from_inserted name_order S.versions v l.version w y (sym (ap (λ vs. get vs w) l.versions) ∙ e)
+
+    before : (w : OpName) (y : Version) → get After.versions w ≡ Some y → (z : Version) × (get S.versions w ≡ Some z)
+    before w y e = elim (was w y e) [
+      | inl p ↦ (x, ap (get S.versions) p.0 ∙ at)
+      | inr p ↦ (y, p.1)
+    ]
+
+    abbrev HasComeNow : OpName → Type 0
+    HasComeNow a = (w : OpName) × (y : Version) × (get After.versions w ≡ Some y) × Has a (New w)
+
+    now_there : (a w : OpName) (y : Version) → get S.versions w ≡ Some y → Has a (g w) → HasComeNow a
+    now_there a w y e k =
+        let s = still_inserted name_order S.versions v l.version w y e in
+        (w, s.0, ap (λ vs. get vs w) l.versions ∙ s.1, grows w a k)
+
+    others_kept : (w : OpName) (y : Version) → w ≢ v → get S.versions w ≡ Some y → HasArrivals ts (g w) After w y
+    others_kept w y apart e =
+        arrivals_kept ts (g w) S After w y y (same_version y y refl) (λ a k. record {
+          phase = alike_same (phase_of S a) (phase_of After a) (others a (reader_apart w y a e k));
+          links = l.links a (λ q. apart (h.apart w v a y x e at k q));
+          holds = λ c q. (q.0, stations a ∙ q.1, q.2);
+          station = λ r i. (r, sym (stations a) ∙ i, refl);
+        }) (h.versions w y e)
+
+    each_version : (w : OpName) (y : Version) → get After.versions w ≡ Some y → HasArrivals ts (New w) After w y
+    each_version w y e = elim (was w y e) [
+      | inl p ↦
+          subst (λ xs. HasArrivals ts xs After w y) (sym (ap New p.0 ∙ at_set g v (o ∷ g v)))
+          (subst (λ w. HasArrivals ts (o ∷ g v) After w y) (sym p.0)
+          (subst (HasArrivals ts (o ∷ g v) After v) (sym p.1) l.readers))
+      | inr p ↦
+          subst (λ xs. HasArrivals ts xs After w y) (sym (beside_set g v w (o ∷ g v) p.0)) (others_kept w y p.0 p.1)
+    ]
+
+    not_elsewhere : (w a : OpName) (y : Version) → get After.versions w ≡ Some y → o ≡ a → Has a (g w) → ⊥
+    not_elsewhere w a y e same k =
+        let b = before w y e in
+        fresh w b.0 b.1 (subst (λ a. Has a (g w)) (sym same) k)
+
+    apart_now : (w u a : OpName) (y z : Version) → get After.versions w ≡ Some y → get After.versions u ≡ Some z
+        → Has a (New w) → Has a (New u) → w ≡ u
+    apart_now w u a y z e f k q = elim (came w a k) [
+      | inl p ↦ elim (came u a q) [
+        | inl r ↦ p.0 ∙ sym r.0
+        | inr r ↦ absurd (not_elsewhere u a z f p.1 r)
+      ]
+      | inr p ↦ elim (came u a q) [
+        | inl r ↦ absurd (not_elsewhere w a y e r.1 p)
+        | inr r ↦
+            let b = before w y e in
+            let c = before u z f in
+            h.apart w u a b.0 c.0 b.1 c.1 p r
+      ]
+    ]
+
+    readers_used : HasReaders ts New After
+    readers_used = record {
+      versions = each_version;
+      apart = apart_now;
+      links = λ a b e. elim (l.linked a b e) [
+        | inl k ↦ let f = h.links a b k in now_there a f.0 f.1 f.2 f.3
+        | inr k ↦ now_there a v x at k
+      ];
+      held = λ a b q. let f = h.held a b (q.0, sym (stations a) ∙ q.1, q.2) in now_there a f.0 f.1 f.2 f.3;
+    }
+
+  readers_after_use : HasReaders ts New After
+  readers_after_use = readers_used (left_by x.tail refl)
+
+registered_by_test : (vs : Named Version) (v : OpName) → contains_key vs v ≡ true → (x : Version) × (get vs v ≡ Some x)
+registered_by_test vs v e = something is_some (get vs v) refl e
+
+-- use
+pub HasReaders-use : (m : Machine) (all ts : List Task) (g : Arrivals) (S : State) → HasReaders ts g S → AreOrderly S
+    → HasChains ts S → HasHolders ts g S → HasOpenings m all S → (o : OpName) → IsEnabled m S (event.Use o)
+    → HasReaders ts (arrivals_after_event S g (event.Use o)) (after_event m S (event.Use o))
+unfolding is_enabled
+HasReaders-use m all ts g S h orderly chains holders openings o enabled =
+    let v = something (can_use_message S) (get S.mail.uses o) refl enabled in
+    let x = registered_by_test S.versions v.0 (ap (can_use_message S) (sym v.1) ∙ enabled) in
+    subst (λ u. HasReaders ts (arrivals_used g o u) (after_event m S (event.Use o))) (sym v.1)
+    (readers_after_use m all ts g S h orderly chains holders openings o v.0 x.0 v.1 x.1)
