@@ -264,10 +264,11 @@ module _ (m : Machine) (all ts : List Task) (S : State) (ground : HasGroundwork 
         let other : y.object.base ≢ g.object.base = λ same.
         let is = one_object m all ts S ground orderly w v p.0 operand.0 p.1 operand.1
         (ap (λ (x : Range). x.base) p.2 ∙ same ∙ ap (λ (x : Range). x.base) (sym operand.2)) in
-        no_version w (y, version, sym p.2 ∙ is ∙ operand.2) in
-        (c.0,
-        ap (λ m. get m y.object.base) entries ∙ beside_removed nat_order S.entries g.object.base y.object.base other ∙ c.1,
-        c.2)
+        no_version w (y, version, sym p.2 ∙ is ∙ operand.2) in (
+          c.0,
+          ap (λ m. get m y.object.base) entries ∙ beside_removed nat_order S.entries g.object.base y.object.base other ∙ c.1,
+          c.2,
+        )
 
   gone_by : (b : Bool) → g.retired ≡ b → AreOrderly T → HasEntries ts T
   gone_by true = retired_entries

@@ -78,8 +78,10 @@ module _ (m : Machine) (all ts : List Task) (g : Arrivals) (S : State) (ground :
 
   leaving_back : (y : Range) (w : OpName) → IsLeaving T y w → IsLeaving S y w
   leaving_back y w (inl k) =
-      inl ((from_removed name_order S.mail.retires v w tt (ap (λ m. get m w) (sym d.retires) ∙ k.0)).1,
-      (version_back y w k.1).1)
+      inl (
+        (from_removed name_order S.mail.retires v w tt (ap (λ m. get m w) (sym d.retires) ∙ k.0)).1,
+        (version_back y w k.1).1,
+      )
   leaving_back y w (inr k) = elim (d.back y w k) [
     | inl old ↦ inr old
     | inr new ↦ subst (IsLeaving S y) (sym new.0) (subst (λ y. IsLeaving S y v) new.1 leaves)
@@ -87,8 +89,10 @@ module _ (m : Machine) (all ts : List Task) (g : Arrivals) (S : State) (ground :
 
   leaving_still : (y : Range) (w : OpName) → w ≢ v → IsLeaving S y w → IsLeaving T y w
   leaving_still y w apart (inl k) =
-      inl (ap (λ m. get m w) d.retires ∙ beside_removed name_order S.mail.retires v w apart ∙ k.0,
-      version_still y w apart k.1)
+      inl (
+        ap (λ m. get m w) d.retires ∙ beside_removed name_order S.mail.retires v w apart ∙ k.0,
+        version_still y w apart k.1,
+      )
   leaving_still y w apart (inr k) = inr (d.still y w k)
 
   -- the latest version of an object is v only where it is of v's object
@@ -229,7 +233,7 @@ module _ (m : Machine) (all ts : List Task) (S : State) (ground : HasGroundwork 
     module _ (lies : x.storage ≡ Some Home) where
       gone : GoneContents
       gone = retired x.object None
-  
+
       home_gones : U.mail.gones ≡ insert S.mail.gones v (retired x.object None)
       home_gones = ap (λ (m : Mail). m.gones) (retired_mail (Some Home) lies)
 
@@ -248,9 +252,12 @@ module _ (m : Machine) (all ts : List Task) (S : State) (ground : HasGroundwork 
       home_still y w (inr k) =
           let apart : w ≢ v = λ same.
           none-some k.0 (sym (ground.places.versions v x at).2 ∙ ap (get S.mail.gones) (sym same) ∙ k.1) in
-          inr (k.0,
-          ap (λ m. get m w) home_gones ∙ beside_inserted name_order S.mail.gones v (retired x.object None) w apart ∙ k.1,
-          k.2, k.3)
+          inr (
+            k.0,
+            ap (λ m. get m w) home_gones ∙ beside_inserted name_order S.mail.gones v (retired x.object None) w apart ∙ k.1,
+            k.2,
+            k.3,
+          )
 
       retires_home : Retires ts S U v x
       retires_home = record {
@@ -262,8 +269,12 @@ module _ (m : Machine) (all ts : List Task) (S : State) (ground : HasGroundwork 
         entries = λ i. (Leaves-after_event m S (event.Retire v) i).entries;
         back = home_back;
         still = home_still;
-        goes = inr (retired x.object None,
-        ap (λ m. get m v) home_gones ∙ at_inserted name_order S.mail.gones v (retired x.object None), refl, refl);
+        goes = inr (
+          retired x.object None,
+          ap (λ m. get m v) home_gones ∙ at_inserted name_order S.mail.gones v (retired x.object None),
+          refl,
+          refl,
+        );
         decoded = decoded;
       }
 
@@ -281,8 +292,10 @@ module _ (m : Machine) (all ts : List Task) (S : State) (ground : HasGroundwork 
       buffer_back y w (inl k) =
           elim (from_inserted nat_order S.copies bank copy k.0 k.1 (ap (λ m. get m k.0) (sym copies) ∙ k.2)) [
             | inl new ↦
-                inr (sym k.3 ∙ ap (λ (c : CopyState). c.version) new.1,
-                ap (λ (c : CopyState). c.object) (sym new.1) ∙ k.4)
+                inr (
+                  sym k.3 ∙ ap (λ (c : CopyState). c.version) new.1,
+                  ap (λ (c : CopyState). c.object) (sym new.1) ∙ k.4,
+                )
             | inr old ↦ inl (inl (k.0, k.1, old.1, k.3, k.4))
           ]
 
@@ -291,8 +304,13 @@ module _ (m : Machine) (all ts : List Task) (S : State) (ground : HasGroundwork 
           inr (k.0, ap (λ (m : Mail). get m.gones w) (retired_mail (Some (Buffer n)) lies) ∙ k.1, k.2, k.3)
       buffer_still y w (inl k) =
           let apart : k.0 ≢ bank = λ same. none-some k.1 (sym idle ∙ ap (get S.copies) (sym same) ∙ k.2) in
-          inl (k.0, k.1, ap (λ m. get m k.0) copies ∙ beside_inserted nat_order S.copies bank copy k.0 apart ∙ k.2,
-          k.3, k.4)
+          inl (
+            k.0,
+            k.1,
+            ap (λ m. get m k.0) copies ∙ beside_inserted nat_order S.copies bank copy k.0 apart ∙ k.2,
+            k.3,
+            k.4,
+          )
 
       retires_buffer : Retires ts S U v x
       retires_buffer = record {

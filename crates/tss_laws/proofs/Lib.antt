@@ -150,3 +150,5 @@ pub mod ReadersUse
 pub mod DecodeFacts
 pub mod ChainsDecode
 pub mod HoldersFinished
+pub mod ChainsDecoded
+pub mod ChainsEvents

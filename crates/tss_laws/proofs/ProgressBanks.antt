@@ -83,7 +83,7 @@ module _ (m : Machine) (all ts : List Task) (g : Arrivals) (S : State) (ground :
       → operand_among ts q ≡ Some (r.operand)
   record_among q r own at =
       let p = flying_operand m all ts g S ground control quiet q r
-          (own_record m all ts g S ground control quiet gone n x flies least q r own at) in
+      (own_record m all ts g S ground control quiet gone n x flies least q r own at) in
       let k = record_of q p.0 p.1 own in
       p.1 ∙ ap Some (sym k.2 ∙ ap (λ (r : OperandState). r.operand) (same_Some k.0 r (sym k.1 ∙ at)))
 
@@ -91,11 +91,15 @@ module _ (m : Machine) (all ts : List Task) (g : Arrivals) (S : State) (ground :
   decoded_ready : (q : OpName) (p : Operand) → operand_among ts q ≡ Some p → q.task ≡ n → is_decoded (phase_of S q) ≡ true
       → (r : OperandState) × (slice_get x.operands q.place ≡ Some r) × (r.operand ≡ p) × (is_ready r ≡ true)
   decoded_ready q p among own decoded =
-      let r = record_of q p among own in
-      (r.0, r.1, r.2, elim (decodes_or_ready m all ts g S ground control quiet gone n x flies least q r.0 own r.1) [
-        | inl decoding ↦ absurd (true≢false (sym decoded ∙ ap is_decoded decoding))
-        | inr ready ↦ ready_told m all ts g S ground control quiet gone n x flies least q r.0 own r.1 ready
-      ])
+      let r = record_of q p among own in (
+        r.0,
+        r.1,
+        r.2,
+        elim (decodes_or_ready m all ts g S ground control quiet gone n x flies least q r.0 own r.1) [
+          | inl decoding ↦ absurd (true≢false (sym decoded ∙ ap is_decoded decoding))
+          | inr ready ↦ ready_told m all ts g S ground control quiet gone n x flies least q r.0 own r.1 ready
+        ],
+      )
 
   module _ (o : OpName) (p : Operand) (own : o.task ≡ n) (decode : get S.mail.decodes o ≡ Some p) where
     -- an object of the bank
@@ -147,7 +151,7 @@ module _ (m : Machine) (all ts : List Task) (g : Arrivals) (S : State) (ground :
     one_version v w y z there other same here =
         let up = (control.chains.linked v y there).youngest (no_successor v y there here) w (z, other, sym same) in
         let down = (control.chains.linked w z other).youngest
-            (no_successor w z other (ap (bank_of m.sizes) (sym same) ∙ here)) v (y, there, same) in
+        (no_successor w z other (ap (bank_of m.sizes) (sym same) ∙ here)) v (y, there, same) in
         control.chains.one y.object v w (inl (y, there, refl)) (inl (z, other, sym same)) (omega (arith, up, down))
 
     -- ---- entries of the bank
@@ -171,7 +175,7 @@ module _ (m : Machine) (all ts : List Task) (g : Arrivals) (S : State) (ground :
           let upto = none_later q r at (ap (bank_of m.sizes) object ∙ here) decoded in
           let k = decoded_ready q r at (omega (arith, from, upto)) decoded in
           let same = subst (λ y. same_range y z ≡ true) (sym (ap (λ (r : Operand). r.object) k.2 ∙ object))
-              (same_range-refl z) in
+          (same_range-refl z) in
           absurd (true≢false (sym (and_from (same_range k.0.operand.object z) (is_ready k.0) same k.3)
           ∙ none q.place k.0 k.1))
     ]
@@ -184,15 +188,15 @@ module _ (m : Machine) (all ts : List Task) (g : Arrivals) (S : State) (ground :
         let there = ap (bank_of m.sizes) y.2 ∙ here in
         let q = control.chains.opener e.latest y.0 y.1 in
         let left = left_of e.object here none e.latest q.0 q.1 (q.2 ∙ y.2)
-            (name_decoded m all S ground.numbers control.orderly e.latest (ground.names.versions e.latest y.0 y.1).0.0) in
+        (name_decoded m all S ground.numbers control.orderly e.latest (ground.names.versions e.latest y.0 y.1).0.0) in
         none_alone m all ts g S ground control quiet b e y.0 entry y.1
         (ap (λ (z : Range). z.base) y.2 ∙ (control.entries.operand b e entry).0) live.sent
         (no_successor e.latest y.0 y.1 there) (no_predecessor e.latest y.0 y.1 there)
         (produced_when_left m all ts g S ground control quiet e.latest y.0 y.1 left)
         (λ a has.
-            let arrival = (control.readers.versions e.latest y.0 y.1).each a has in
-            left_of e.object here none a arrival.on.operand arrival.on.there (arrival.on.object ∙ y.2)
-            (arrived_decoded (phase_of S a) arrival.arrived))
+        let arrival = (control.readers.versions e.latest y.0 y.1).each a has in
+        left_of e.object here none a arrival.on.operand arrival.on.there (arrival.on.object ∙ y.2)
+        (arrived_decoded (phase_of S a) arrival.arrived))
 
     -- each object with an entry has such an operand
     pub used_at : (b : ℕ) (e : Entry) → get S.entries b ≡ Some e → IsHere e.object → (k : ℕ) × IsUsedAt e.object k

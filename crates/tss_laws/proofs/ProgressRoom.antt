@@ -57,18 +57,18 @@ module _ {K X J Y : Type 0} {R : K → K → Ordering} {Q : J → J → Ordering
   counted_more m k v fresh rest true is n into =
       let j = into k v (at_inserted order m k v) is in
       let old = rest (remove n j.0) (λ q x at passes.
-          let new : q ≢ k = λ same. none-some x (sym fresh ∙ ap (get m) (sym same) ∙ at) in
-          let i = into q x (beside_inserted order m k v q new ∙ at) passes in
-          let beside : i.0 ≢ j.0 = λ same. new (apart q k i.0 i.3 (subst (Rel k) (sym same) j.3)) in
-          (i.0, i.1, beside_removed other n j.0 i.0 beside ∙ i.2, i.3)) in
+      let new : q ≢ k = λ same. none-some x (sym fresh ∙ ap (get m) (sym same) ∙ at) in
+      let i = into q x (beside_inserted order m k v q new ∙ at) passes in
+      let beside : i.0 ≢ j.0 = λ same. new (apart q k i.0 i.3 (subst (Rel k) (sym same) j.3)) in
+      (i.0, i.1, beside_removed other n j.0 i.0 beside ∙ i.2, i.3)) in
       let less = len_removed other n j.0 j.1 j.2 in
       let more = sum_added order (λ k x. one_if (p k x)) m k v fresh in
       let one = ap one_if is in
       omega (arith, old, less, more, one)
   counted_more m k v fresh rest false is n into =
       let old = rest n (λ q x at passes.
-          let new : q ≢ k = λ same. none-some x (sym fresh ∙ ap (get m) (sym same) ∙ at) in
-          into q x (beside_inserted order m k v q new ∙ at) passes) in
+      let new : q ≢ k = λ same. none-some x (sym fresh ∙ ap (get m) (sym same) ∙ at) in
+      into q x (beside_inserted order m k v q new ∙ at) passes) in
       let more = sum_added order (λ k x. one_if (p k x)) m k v fresh in
       let none = ap one_if is in
       omega (arith, old, more, none)
@@ -77,8 +77,8 @@ module _ {K X J Y : Type 0} {R : K → K → Ordering} {Q : J → J → Ordering
   pub count_into : (m : FinMap R X) (n : FinMap Q Y) → GoInto p Rel m n → count_of p m ≤ len n
   count_into = map_induction order (λ m. (n : FinMap Q Y) → GoInto p Rel m n → count_of p m ≤ len n)
       (λ n into.
-          let none = sum_empty order (λ k x. one_if (p k x)) in
-          omega (arith, none))
+      let none = sum_empty order (λ k x. one_if (p k x)) in
+      omega (arith, none))
       (λ m k v fresh rest. counted_more m k v fresh rest (p k v) refl)
 
 -- ---- entries and places
@@ -95,10 +95,12 @@ module _ (m : Machine) (all ts : List Task) (g : Arrivals) (S : State) (ground :
         (inl (y, there, sym q.2)))
     | inr some ↦
         let q = control.chains.opener v y there in
-        let e = control.entries.operand y.object.base some.0 some.1 in
-        (some.0, some.1,
+        let e = control.entries.operand y.object.base some.0 some.1 in (
+          some.0,
+          some.1,
           sym e.1.2 ∙ one_object m all ts S ground control.orderly some.0.latest v e.1.0 q.0 e.1.1 q.1
-          (ap (λ (z : Range). z.base) e.1.2 ∙ e.0 ∙ ap (λ (z : Range). z.base) (sym q.2)) ∙ q.2)
+              (ap (λ (z : Range). z.base) e.1.2 ∙ e.0 ∙ ap (λ (z : Range). z.base) (sym q.2)) ∙ q.2,
+        )
   ]
 
   -- a place is held by a version
@@ -110,7 +112,7 @@ module _ (m : Machine) (all ts : List Task) (g : Arrivals) (S : State) (ground :
       version.0,
       version.1,
       same_Some (bank_of m.sizes version.0.object) bank
-      (sym (ground.places.versions v version.0 version.1).0 ∙ at),
+          (sym (ground.places.versions v version.0 version.1).0 ∙ at),
     )
     | inr (inr (inl going)) ↦ absurd (none-some going.0 (sym (quiet.gones v) ∙ going.1))
     | inr (inr (inr copy)) ↦ absurd (none-some copy.1 (sym (quiet.copies copy.0) ∙ copy.2))
@@ -133,7 +135,7 @@ module _ (m : Machine) (all ts : List Task) (g : Arrivals) (S : State) (ground :
   not_own z k used same =
       let untold = (decoding_stands (look_ups S o) p (control.orderly o) decode).1.0 in
       let at = own_record m all ts g S ground control quiet gone n x flies least o used.0 own
-          (ap (slice_get x.operands) (sym same) ∙ used.1) in
+      (ap (slice_get x.operands) (sym same) ∙ used.1) in
       let kept = same_Some untold.kept used.0 (sym untold.there ∙ at) in
       true≢false (sym used.3 ∙ ap (λ (r : OperandState). is_some r.source) (sym kept) ∙ ap is_some untold.told)
 
@@ -152,7 +154,7 @@ module _ (m : Machine) (all ts : List Task) (g : Arrivals) (S : State) (ground :
       let count = length-map x.operands (λ (r : OperandState). r.operand) in
       let same = ap length flying.operands in
       let less = len_removed nat_order (all_below operand_count) o.place tt
-          (get-all_below operand_count o.place (slice_get_within x.operands o.place own_place.0 own_place.1)) in
+      (get-all_below operand_count o.place (slice_get_within x.operands o.place own_place.0 own_place.1)) in
       let below = len-all_below operand_count in
       omega (arith, most, count, same, less, below)
 
@@ -179,9 +181,9 @@ module _ (m : Machine) (all ts : List Task) (g : Arrivals) (S : State) (ground :
   entries_few = count_into nat_order nat_order (λ b e. bank_of m.sizes e.object == bank_of m.sizes p.object) OfEntry
       entries_apart S.entries others
       (λ b e at passes.
-          let here = number_from (bank_of m.sizes e.object) (bank_of m.sizes p.object) passes in
-          let used = used_at m all ts g S ground control quiet gone n x flies least o p own decode b e at here in
-          (used.0, tt, other_there e.object used.0 used.1, (e, used.1.0, at, used.1.1, used.1.2)))
+      let here = number_from (bank_of m.sizes e.object) (bank_of m.sizes p.object) passes in
+      let used = used_at m all ts g S ground control quiet gone n x flies least o p own decode b e at here in
+      (used.0, tt, other_there e.object used.0 used.1, (e, used.1.0, at, used.1.1, used.1.2)))
 
   -- an operand on the object of a version of the bank
   abbrev OfVersion : OpName → ℕ → Type 0
@@ -199,13 +201,16 @@ module _ (m : Machine) (all ts : List Task) (g : Arrivals) (S : State) (ground :
   places_few = count_into name_order nat_order (λ v b. b == bank_of m.sizes p.object) OfVersion
       versions_apart S.places others
       (λ v bank at passes.
-          let y = version_of_place m all ts g S ground control quiet v bank at in
-          let here = y.2 ∙ number_from bank (bank_of m.sizes p.object) passes in
-          let e = entry_of_version m all ts g S ground control v y.0 y.1 in
-          let used = used_at m all ts g S ground control quiet gone n x flies least o p own decode y.0.object.base e.0 e.1
-              (ap (bank_of m.sizes) e.2 ∙ here) in
-          (used.0, tt, other_there e.0.object used.0 used.1,
-            (y.0, used.1.0, y.1, used.1.1, used.1.2 ∙ e.2, here)))
+      let y = version_of_place m all ts g S ground control quiet v bank at in
+      let here = y.2 ∙ number_from bank (bank_of m.sizes p.object) passes in
+      let e = entry_of_version m all ts g S ground control v y.0 y.1 in
+      let used = used_at m all ts g S ground control quiet gone n x flies least o p own decode y.0.object.base e.0 e.1
+      (ap (bank_of m.sizes) e.2 ∙ here) in (
+        used.0,
+        tt,
+        other_there e.0.object used.0 used.1,
+        (y.0, used.1.0, y.1, used.1.1, used.1.2 ∙ e.2, here),
+      ))
 
   -- ---- the decode may happen
 
@@ -216,7 +221,7 @@ module _ (m : Machine) (all ts : List Task) (g : Arrivals) (S : State) (ground :
     | inr some ↦
         let object = object_of_entry m all ts S ground control.orderly control.entries o p decode some.0 some.1 in
         let used = used_at m all ts g S ground control quiet gone n x flies least o p own decode p.object.base some.0
-            some.1 (ap (bank_of m.sizes) object) in
+        some.1 (ap (bank_of m.sizes) object) in
         let q = operand_name n used.0 in
         let at = record_among m all ts g S ground control quiet gone n x flies least q used.1.0 refl used.1.1 in
         let one = ground.known.single q o used.1.0.operand p at among (used.1.2 ∙ object) (sym own) in

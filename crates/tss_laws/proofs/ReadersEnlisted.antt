@@ -176,16 +176,16 @@ module _ (ts : List Task) (xs : List OpName) (S T : State) (v : OpName) (x z : V
         )
       ])
       (λ a e.
-        let done = no_tail S xs (sym k.old.tail ∙ tail) a e in
-        let done_now = ap has_released (k.same a (has_newest a xs e)) ∙ done in
-        let n = newest_at S xs k.old.newest a e in
-        record {
-          waits = λ w. absurd (told_first (phase_of T o) told w);
-          linking = λ c l. absurd (n.linking c (sym (links a) ∙ l));
-          holding = λ c q. absurd (nothing_held q.0.link c (n.record_link q.0 (sym (k.station a) ∙ q.1)) q.2);
-          woken = λ none. not_early (phase_of T a) done_now;
-          passed = λ r none at late. absurd (not_both (has_released (phase_of T a)) done_now late);
-        })
+      let done = no_tail S xs (sym k.old.tail ∙ tail) a e in
+      let done_now = ap has_released (k.same a (has_newest a xs e)) ∙ done in
+      let n = newest_at S xs k.old.newest a e in
+      record {
+        waits = λ w. absurd (told_first (phase_of T o) told w);
+        linking = λ c l. absurd (n.linking c (sym (links a) ∙ l));
+        holding = λ c q. absurd (nothing_held q.0.link c (n.record_link q.0 (sym (k.station a) ∙ q.1)) q.2);
+        woken = λ none. not_early (phase_of T a) done_now;
+        passed = λ r none at late. absurd (not_both (has_released (phase_of T a)) done_now late);
+      })
       (λ a h other. links a)
 
   -- a version without a tail that isn't produced has no reader yet
@@ -235,18 +235,18 @@ module _ (ts : List Task) (xs : List OpName) (S T : State) (v : OpName) (x z : V
         | inl p ↦ absurd (none-some t (ap newest_of (sym p.0) ∙ newest))
       ])
       (λ a e.
-        let is : t ≡ a = same_Some t a (sym newest ∙ e) in
-        let n = newest_at S xs k.old.newest a e in
-        let free : (c : OpName) → Holds T a c → ⊥ = λ c q.
-          nothing_held q.0.link c (n.record_link q.0 (sym (k.station a) ∙ q.1)) q.2 in
-        let here : get T.mail.links a ≡ Some o = ap (get T.mail.links) (sym is) ∙ sent in
-        record {
-          waits = λ w. inl here;
-          linking = λ c l. (same_Some c o (sym l ∙ here), waits, free);
-          holding = λ c q. absurd (free c q);
-          woken = λ none. absurd (none waits);
-          passed = λ r none at late. absurd (none waits);
-        })
+      let is : t ≡ a = same_Some t a (sym newest ∙ e) in
+      let n = newest_at S xs k.old.newest a e in
+      let free : (c : OpName) → Holds T a c → ⊥ = λ c q.
+      nothing_held q.0.link c (n.record_link q.0 (sym (k.station a) ∙ q.1)) q.2 in
+      let here : get T.mail.links a ≡ Some o = ap (get T.mail.links) (sym is) ∙ sent in
+      record {
+        waits = λ w. inl here;
+        linking = λ c l. (same_Some c o (sym l ∙ here), waits, free);
+        holding = λ c q. absurd (free c q);
+        woken = λ none. absurd (none waits);
+        passed = λ r none at late. absurd (none waits);
+      })
       (λ a h other. links a (λ is. other (newest ∙ ap Some (sym is))))
     where
       same_head : (xs : List OpName) (b : Bool) → newest_of xs ≡ Some t → head_of b xs ≡ head_of b (o ∷ xs)

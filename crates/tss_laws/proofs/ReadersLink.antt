@@ -185,8 +185,8 @@ module _ (m : Machine) (ts : List Task) (g : Arrivals) (S : State) (h : HasReade
     holds_it : r.source ≡ None → AreNeighbours After o b
     holds_it none =
         let silent = fails (tells (sent_by_link r.source next) b) (λ t.
-          let k = (link_tells r.source next b t).1 in
-          none-some k.0 (sym none ∙ k.1)) in
+        let k = (link_tells r.source next b t).1 in
+        none-some k.0 (sym none ∙ k.1)) in
         let still : phase_of After b ≡ Waiting = other_by b b_apart false silent ∙ (Old.linking next there).1 in
         let goes = ap farewell_after_link (untold_stays (look_ups S o) r kept none (orderly o)) in
         let here : operand_at After.flight o ≡ Some (operand_after_link r next) =
@@ -205,7 +205,7 @@ module _ (m : Machine) (ts : List Task) (g : Arrivals) (S : State) (h : HasReade
         let told = other_by b b_apart true (ap (tells (sent_by_link r.source next)) (sym b_is)
         ∙ link_tells_next r.source next s some) in
         let late : IsEarly (phase_of S o) → ⊥ = λ early.
-          none-some s (sym (early_record S orderly o r early kept).0 ∙ some) in record {
+        none-some s (sym (early_record S orderly o r early kept).0 ∙ some) in record {
           waits = λ e. absurd (told_not_waiting (phase_of After b) told e);
           linking = λ d l. absurd (no_link_now d l);
           holding = λ d k.

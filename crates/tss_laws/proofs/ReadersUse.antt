@@ -218,9 +218,9 @@ module _ (m : Machine) (all ts : List Task) (g : Arrivals) (S : State) (h : HasR
       waits =
           now
           ∙ ap (λ b. phase_told b Waiting) (fails (tells (after_use S.versions o v).sent o) (λ t.
-            let k = (use_tells S.versions o v o t).1 in
-            not_both x.produced
-            (ap (λ (x : Version). x.produced) (same_Some x k.version (sym at ∙ k.there)) ∙ k.produced) produced))
+          let k = (use_tells S.versions o v o t).1 in
+          not_both x.produced
+          (ap (λ (x : Version). x.produced) (same_Some x k.version (sym at ∙ k.there)) ∙ k.produced) produced))
 
   left_behind : (t : OpName) → x.tail ≡ Some t → Left
   left_behind t tail =
@@ -248,8 +248,8 @@ module _ (m : Machine) (all ts : List Task) (g : Arrivals) (S : State) (h : HasR
       waits =
           now
           ∙ ap (λ b. phase_told b Waiting) (fails (tells (after_use S.versions o v).sent o) (λ t.
-            let k = (use_tells S.versions o v o t).1 in
-            none-some _ (sym k.first ∙ ap (λ (x : Version). x.tail) (same_Some k.version x (sym k.there ∙ at)) ∙ tail)))
+          let k = (use_tells S.versions o v o t).1 in
+          none-some _ (sym k.first ∙ ap (λ (x : Version). x.tail) (same_Some k.version x (sym k.there ∙ at)) ∙ tail)))
 
   left_by : (t : Option OpName) → x.tail ≡ t → Left
   left_by None e = left_alone e x.produced refl
