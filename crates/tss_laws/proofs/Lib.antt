@@ -152,3 +152,4 @@ pub mod ChainsDecode
 pub mod HoldersFinished
 pub mod ChainsDecoded
 pub mod ChainsEvents
+pub mod HoldersLink
