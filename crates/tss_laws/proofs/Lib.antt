@@ -153,3 +153,4 @@ pub mod HoldersFinished
 pub mod ChainsDecoded
 pub mod ChainsEvents
 pub mod HoldersLink
+pub mod HoldersNeeded
