@@ -154,3 +154,5 @@ pub mod ChainsDecoded
 pub mod ChainsEvents
 pub mod HoldersLink
 pub mod HoldersNeeded
+pub mod ProgressFinished
+pub mod ProgressDrained
