@@ -156,3 +156,4 @@ pub mod HoldersLink
 pub mod HoldersNeeded
 pub mod ProgressFinished
 pub mod ProgressDrained
+pub mod ReadersWritten

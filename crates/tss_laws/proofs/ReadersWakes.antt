@@ -71,7 +71,8 @@ pub record Wakes (ts : List Task) (g : Arrivals) (S T : State) (o : OpName) : Ty
   pub newest : (v : OpName) (y : Version) → get S.versions v ≡ Some y → newest_of (g v) ≡ Some o → IsNewest T o
   pub own_link : (b : OpName) → IsLinking T o b ⊎ Holds T o b → IsLinking S o b ⊎ Holds S o b
 
-waiting_told : (p q : Phase) → p ≡ Waiting → q ≡ Told
+-- what is seen of both is the same but whether it waits, and is told
+pub waiting_told : (p q : Phase) → p ≡ Waiting → q ≡ Told
     → (has_released q ≡ has_released p) × (has_arrived q ≡ has_arrived p)
 waiting_told p q e f = (
   ap has_released f ∙ ap has_released (sym e),
@@ -81,8 +82,8 @@ waiting_told p q e f = (
 told_apart : (p : Phase) → p ≡ Told → p ≡ Waiting → ⊥
 told_apart p e f = cc
 
--- neighbours of whom the older is told, and the newer waits as before
-neighbours_woken : (S T : State) (a b : OpName) → get T.mail.links a ≡ get S.mail.links a
+-- neighbours of whom the older is told stay so, where the newer waits as before
+pub neighbours_woken : (S T : State) (a b : OpName) → get T.mail.links a ≡ get S.mail.links a
     → ((r : OperandState) → operand_at T.flight a ≡ Some r
     → (k : OperandState) × (operand_at S.flight a ≡ Some k) × (r.link ≡ k.link))
     → ((c : OpName) → Holds S a c → Holds T a c) → phase_of S a ≡ Waiting
