@@ -157,3 +157,6 @@ pub mod HoldersNeeded
 pub mod ProgressFinished
 pub mod ProgressDrained
 pub mod ReadersWritten
+pub mod EntriesWritten
+pub mod EntriesSettling
+pub mod EntriesSettleCases
