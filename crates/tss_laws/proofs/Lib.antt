@@ -160,3 +160,5 @@ pub mod ReadersWritten
 pub mod EntriesWritten
 pub mod EntriesSettling
 pub mod EntriesSettleCases
+pub mod HoldersThinned
+pub mod HoldersRetired
