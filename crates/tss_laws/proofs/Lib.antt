@@ -162,3 +162,4 @@ pub mod EntriesSettling
 pub mod EntriesSettleCases
 pub mod HoldersThinned
 pub mod HoldersRetired
+pub mod ReadersRelease
