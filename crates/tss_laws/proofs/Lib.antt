@@ -163,3 +163,4 @@ pub mod EntriesSettleCases
 pub mod HoldersThinned
 pub mod HoldersRetired
 pub mod ReadersRelease
+pub mod HoldersUse
