@@ -164,3 +164,4 @@ pub mod HoldersThinned
 pub mod HoldersRetired
 pub mod ReadersRelease
 pub mod HoldersUse
+pub mod HoldersUsed
