@@ -165,3 +165,4 @@ pub mod HoldersRetired
 pub mod ReadersRelease
 pub mod HoldersUse
 pub mod HoldersUsed
+pub mod EntriesSettled
