@@ -67,14 +67,14 @@ module _ (ts : List Task) (S T : State) (h : HasChains ts S) (v : OpName) (x : V
   next_object : y.object ≡ x.object
   next_object = ap (λ (u : Version). u.object) (sym next_is) ∙ follows.object
 
-  next_back : y.predecessor ≡ Some v
+  pub next_back : y.predecessor ≡ Some v
   next_back = ap (λ (u : Version). u.predecessor) (sym next_is) ∙ follows.back
 
   next_apart : f.version ≢ v
   next_apart e = below_self v.task (subst (λ (q : OpName). v.task < q.task) e follows.younger)
 
   -- one before it
-  before_is : (p : OpName) → x.predecessor ≡ Some p → IsAfter S v x p
+  pub before_is : (p : OpName) → x.predecessor ≡ Some p → IsAfter S v x p
   before_is p e = (h.linked v x d.there).after p e
 
   not_before_self : x.predecessor ≡ Some v → ⊥
@@ -96,20 +96,20 @@ module _ (ts : List Task) (S T : State) (h : HasChains ts S) (v : OpName) (x : V
   -- ---- where a version came from
 
   -- a version that is left is the next one, the one before, or as it was
-  abbrev IsNextOne : OpName → Version → Version → Type 0
+  abbrev pub IsNextOne : OpName → Version → Version → Type 0
   IsNextOne w old new = (w ≡ f.version) × (old ≡ y) × (new ≡ z)
 
-  abbrev IsOneBefore : OpName → Version → Version → Type 0
+  abbrev pub IsOneBefore : OpName → Version → Version → Type 0
   IsOneBefore w old new = (x.predecessor ≡ Some w) × (new ≡ bridged f.version old)
 
-  abbrev IsOther : OpName → Version → Version → Type 0
+  abbrev pub IsOther : OpName → Version → Version → Type 0
   IsOther w old new = (x.predecessor ≡ Some w → ⊥) × (w ≢ f.version) × (new ≡ old)
 
-  record Came (w : OpName) (new : Version) : Type 0 where
-    old : Version
-    there : get S.versions w ≡ Some old
-    stays : w ≢ v
-    which : IsNextOne w old new ⊎ (IsOneBefore w old new ⊎ IsOther w old new)
+  pub record Came (w : OpName) (new : Version) : Type 0 where
+    pub old : Version
+    pub there : get S.versions w ≡ Some old
+    pub stays : w ≢ v
+    pub which : IsNextOne w old new ⊎ (IsOneBefore w old new ⊎ IsOther w old new)
 
   decide_named : (o : Option OpName) (w : OpName) → (o ≡ Some w) ⊎ (o ≡ Some w → ⊥)
   decide_named None w = inr (λ e. none-some w e)
@@ -147,7 +147,7 @@ module _ (ts : List Task) (S T : State) (h : HasChains ts S) (v : OpName) (x : V
       }
 
   -- each version that is left was there
-  came : (w : OpName) (new : Version) → get T.versions w ≡ Some new → Came w new
+  pub came : (w : OpName) (new : Version) → get T.versions w ≡ Some new → Came w new
   came w new e = elim (decide_key name_order w f.version) [
     | inl is ↦ record {
       old = y;
@@ -167,7 +167,7 @@ module _ (ts : List Task) (S T : State) (h : HasChains ts S) (v : OpName) (x : V
   same_object_by w old new (inr (inl b)) = ap (λ (u : Version). u.object) b.1
   same_object_by w old new (inr (inr o)) = ap (λ (u : Version). u.object) o.2
 
-  same_object : (w : OpName) (new : Version) (c : Came w new) → new.object ≡ c.old.object
+  pub same_object : (w : OpName) (new : Version) (c : Came w new) → new.object ≡ c.old.object
   same_object w new c = same_object_by w c.old new c.which
 
   same_registered_by : (w : OpName) (old new : Version)
@@ -198,7 +198,7 @@ module _ (ts : List Task) (S T : State) (h : HasChains ts S) (v : OpName) (x : V
   version_later_by w old e far apart (inl b) = (bridged f.version old, d.gave.before w old b e)
   version_later_by w old e far apart (inr n) = (old, d.gave.others w far apart n ∙ e)
 
-  version_later : (w : OpName) (old : Version) → get S.versions w ≡ Some old → w ≢ v
+  pub version_later : (w : OpName) (old : Version) → get S.versions w ≡ Some old → w ≢ v
       → (new : Version) × (get T.versions w ≡ Some new)
   version_later w old e far = elim (decide_key name_order w f.version) [
     | inl is ↦ (z, ap (λ q. get T.versions q) is ∙ d.gave.next)

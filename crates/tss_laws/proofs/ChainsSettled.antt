@@ -181,15 +181,21 @@ module _ (ts : List Task) (S T : State) (h : HasChains ts S) (v : OpName) (d : V
       ts h
 
   module _ (few : (x : Version) → get S.versions v ≡ Some x → x.released ≤ x.registered) where
-    chains_over : IsTakenOver S.versions v d → HasChains ts T
-    chains_over o =
+    -- the version that follows one that gives way
+    pub next_over : IsTakenOver S.versions v d → Version
+    next_over o = (chains_next ts S h v o.version o.gives.there o.follow o.gives.next).0.0
+
+    -- one that is taken over departs
+    pub departs_over : (o : IsTakenOver S.versions v d)
+        → Departs S T v o.version o.follow (next_over o) (took_over o.version (next_over o))
+    unfolding next_over
+    departs_over o =
         let x = o.version in
         let f = o.follow in
         let g = o.gives in
         let n = chains_next ts S h v x g.there f g.next in
         let y = n.0.0 in
-        HasChains-departed ts S T h v x f y (took_over x y)
-        (record {
+        record {
           there = g.there;
           follow = g.next;
           next = n.0.1;
@@ -206,25 +212,32 @@ module _ (ts : List Task) (S T : State) (h : HasChains ts S) (v : OpName) (d : V
           same_produced = refl;
           registered = refl;
           storage = subst (λ how. TakesStorage how x y (took_over x y)) (sym g.way) refl;
-        })
+        }
 
-    -- the chains where a version has given way to one beside it
-    chains_unlinked : (p : IsPassedBy S.versions v d)
-        → HasChains ts (with_versions S (unlinked S.versions v p.version p.follow.version))
-    chains_unlinked p =
+    chains_over : IsTakenOver S.versions v d → HasChains ts T
+    chains_over o =
+        HasChains-departed ts S T h v o.version o.follow (next_over o) (took_over o.version (next_over o))
+        (departs_over o)
+
+    -- the state where a version has given way to one beside it
+    abbrev pub passed_state : IsPassedBy S.versions v d → State
+    passed_state p = with_versions S (unlinked S.versions v p.version p.follow.version)
+
+    -- that version departs
+    pub departs_beside : (p : IsPassedBy S.versions v d)
+        → Departs S (passed_state p) v p.version p.follow p.next (moved_up p.version p.next)
+    departs_beside p =
         let x = p.version in
         let f = p.follow in
         let g = p.gives in
         let n = chains_next ts S h v x g.there f g.next in
-        let y = n.0.0 in
-        HasChains-departed ts S (with_versions S (unlinked S.versions v x f.version)) h v x f y (moved_up x y)
-        (record {
+        record {
           there = g.there;
           follow = g.next;
-          next = n.0.1;
+          next = p.next_there;
           produced = (done_parts x f.last g.done).0;
           unused = no_use_when_done ts S h v x g.there f g.next g.done (few x g.there);
-          gave = gave_way_beside S.versions v x f.version n.1 n.2 (chains_own ts S h v x g.there) y n.0.1;
+          gave = gave_way_beside S.versions v x f.version n.1 n.2 (chains_own ts S h v x g.there) p.next p.next_there;
           opens = refl;
           uses = refl;
           object = refl;
@@ -232,8 +245,14 @@ module _ (ts : List Task) (S T : State) (h : HasChains ts S) (v : OpName) (d : V
           successor = refl;
           same_produced = refl;
           registered = refl;
-          storage = subst (λ how. TakesStorage how x y (moved_up x y)) (sym g.way) refl;
-        })
+          storage = subst (λ how. TakesStorage how x p.next (moved_up x p.next)) (sym g.way) refl;
+        }
+
+    -- the chains there
+    pub chains_unlinked : (p : IsPassedBy S.versions v d) → HasChains ts (passed_state p)
+    chains_unlinked p =
+        HasChains-departed ts S (passed_state p) h v p.version p.follow p.next (moved_up p.version p.next)
+        (departs_beside p)
 
 module _ (ts : List Task) (S T : State) (h : HasChains ts S) (v : OpName) (d : Versioned)
     (part : T.versions ≡ d.part) (opens : T.mail.opens ≡ S.mail.opens) (uses : T.mail.uses ≡ S.mail.uses)

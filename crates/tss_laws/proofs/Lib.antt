@@ -166,3 +166,4 @@ pub mod ReadersRelease
 pub mod HoldersUse
 pub mod HoldersUsed
 pub mod EntriesSettled
+pub mod RetirementSettled

@@ -213,7 +213,7 @@ module _ (m : Machine) (all ts : List Task) (g : Arrivals) (S : State) (ground :
         let some = (fit.sizes Slots m.sizes.slots refl).0 in
         let station = station_of m.sizes t.number in
         let empty = count_none nat_order (λ task x. station_of m.sizes task == station) S.flight
-            (λ k x e. absurd (none-some x (sym (none k) ∙ e))) in
+        (λ k x e. absurd (none-some x (sym (none k) ∙ e))) in
         lt-ltb (tasks_in m.sizes station S.flight) m.sizes.slots (omega (arith, some, empty))
 
     no_inbox : IsAdmissible m → IsStuck m S → S.inbox ≡ None
@@ -236,7 +236,7 @@ module _ (m : Machine) (all ts : List Task) (g : Arrivals) (S : State) (ground :
         let flight = zero_test (len S.flight) (empty_if nat_order S.flight (λ k x e. none-some x (sym (none k) ∙ e))) in
         let queue = ap (λ ns. length ns == 0) quiet.queue in
         let workers = zero_test (len S.workers)
-            (empty_if nat_order S.workers (λ k x e. none-some x (sym (quiet.workers k) ∙ e))) in
+        (empty_if nat_order S.workers (λ k x e. none-some x (sym (quiet.workers k) ∙ e))) in
         let one = and_from i c (ap is_none (no_inbox fit stuck)) idle_gateway in
         let two = and_from (i && c) (len S.flight == 0) one flight in
         let three = and_from (i && c && (len S.flight == 0)) (length S.queue == 0) two queue in
@@ -253,7 +253,7 @@ module _ (m : Machine) (all ts : List Task) (g : Arrivals) (S : State) (ground :
         let held = zero_test (len S.buffers) (empty_if name_order S.buffers (no_buffer buffers)) in
         let versions = zero_test (len S.versions) (empty_if name_order S.versions no_version) in
         let copies = zero_test (len S.copies)
-            (empty_if nat_order S.copies (λ k x e. none-some x (sym (quiet.copies k) ∙ e))) in
+        (empty_if nat_order S.copies (λ k x e. none-some x (sym (quiet.copies k) ∙ e))) in
         let one = and_from e p entries places in
         let two = and_from (e && p) b one held in
         let three = and_from (e && p && b) v two versions in
