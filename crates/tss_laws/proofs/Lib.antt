@@ -167,3 +167,4 @@ pub mod HoldersUse
 pub mod HoldersUsed
 pub mod EntriesSettled
 pub mod RetirementSettled
+pub mod ReadersOpened
