@@ -168,3 +168,4 @@ pub mod HoldersUsed
 pub mod EntriesSettled
 pub mod RetirementSettled
 pub mod ReadersOpened
+pub mod ProgressLetGo

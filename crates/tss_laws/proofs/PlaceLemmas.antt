@@ -93,7 +93,8 @@ one_stage : (m : Numbered Flying) (n : ℕ) (s t : Stage) → StandsAt m n s →
 one_stage m n s t a b =
     sym a.2 ∙ ap (λ (x : Flying). x.stage) (same_Some a.0 b.0 (sym a.1 ∙ b.1)) ∙ b.2
 
-beside_remaining : (m : Numbered Flying) (n : ℕ) (y : Flying) (q : ℕ) → q ≢ n
+-- another task stays as it is
+pub beside_remaining : (m : Numbered Flying) (n : ℕ) (y : Flying) (q : ℕ) → q ≢ n
     → get (remaining_tasks m n y) q ≡ get m q
 beside_remaining m n y q other =
     elim (is_gone y) as (λ b. get (if b then remove m n else insert m n y) q ≡ get m q) [
