@@ -10,10 +10,30 @@ use Rattle.tss_maps.proofs.Keys.{name_order, decide_key}
 use Rattle.tss_maps.proofs.Changes.{at_inserted, beside_inserted, from_inserted}
 use Rattle.tss_protocol.specs.State.{State, Entry, Version}
 use Rattle.tss_phases.proofs.Tests.{not_both}
-use Rattle.tss_laws.specs.Members.{operand_among, IsVersionOf, IsOpenOf, IsMember, total}
+use Rattle.tss_laws.specs.Members.{operand_among, IsVersionOf, IsOpenOf, IsMember, registered_of, opening_reader, uses_of, total}
 use Rattle.tss_laws.specs.Entries.{IsGoingHome, IsLeaving, IsUsed, IsLive, IsRetiring, IsLastVersion, HasEntries}
 use Rattle.tss_laws.specs.Chains.{HasChains}
 use Rattle.tss_laws.proofs.EntriesFrames.{DecodesNoMore, KeepsLatest, KeepsLeaving, entries_kept}
+
+-- as many readers were directed to each version where as many are registered at the one that is written
+pub total_written : (S T : State) (v : OpName) (x y : Version) → get S.versions v ≡ Some x
+    → T.versions ≡ insert S.versions v y → y.registered ≡ x.registered → T.mail.opens ≡ S.mail.opens
+    → T.mail.uses ≡ S.mail.uses → (w : OpName) → total T w ≡ total S w
+total_written S T v x y there versions same opens uses w =
+    let registered : registered_of (get T.versions w) ≡ registered_of (get S.versions w) =
+    elim (decide_key name_order w v) [
+      | inl is ↦
+          ap (λ m. registered_of (get m w)) versions
+          ∙ ap (λ k. registered_of (get (insert S.versions v y) k)) is
+          ∙ ap registered_of (at_inserted name_order S.versions v y)
+          ∙ same
+          ∙ ap registered_of (sym there)
+          ∙ ap (λ k. registered_of (get S.versions k)) (sym is)
+      | inr apart ↦
+          ap (λ m. registered_of (get m w)) versions
+          ∙ ap registered_of (beside_inserted name_order S.versions v y w apart)
+    ] in
+    λ i. registered i + opening_reader (get (opens i) w) + uses_of (uses i) w
 
 -- what is changed
 pub record WritesVersion (ts : List Task) (S T : State) (v : OpName) (x y : Version) : Type 0 where

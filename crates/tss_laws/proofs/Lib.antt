@@ -169,3 +169,5 @@ pub mod EntriesSettled
 pub mod RetirementSettled
 pub mod ReadersOpened
 pub mod ProgressLetGo
+pub mod RetirementWritten
+pub mod EntriesNack
