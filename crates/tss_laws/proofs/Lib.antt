@@ -171,3 +171,4 @@ pub mod ReadersOpened
 pub mod ProgressLetGo
 pub mod RetirementWritten
 pub mod EntriesNack
+pub mod HoldersSettled
