@@ -172,3 +172,8 @@ pub mod ProgressLetGo
 pub mod RetirementWritten
 pub mod EntriesNack
 pub mod HoldersSettled
+pub mod BoundMeasure
+pub mod BoundSettle
+pub mod BoundMain
+pub mod BoundExec
+pub mod BoundFlight
