@@ -177,3 +177,4 @@ pub mod BoundSettle
 pub mod BoundMain
 pub mod BoundExec
 pub mod BoundFlight
+pub mod BoundTables
