@@ -178,3 +178,4 @@ pub mod BoundMain
 pub mod BoundExec
 pub mod BoundFlight
 pub mod BoundTables
+pub mod BoundStations
