@@ -1,6 +1,6 @@
 -- All that operands hold after a use.
 use Rattle.std.proofs.Common.{◌≡◌, ◌≢◌, ◌⊎◌, ◌<◌, ℕ, Bool, true, false, List, [], ◌∷◌, Option, Some, None, refl, sym, ap, ◌∙◌, subst, inl, inr, arith, true≢false}
-use Rattle.std.specs.Prelude.{cond}
+use Rattle.std.specs.Prelude.{cond, is_some}
 use Rattle.std.specs.FinMap.{get}
 use Rattle.std.proofs.lemmas.Option.{none-some, same_Some}
 use Rattle.tss_base.specs.declared.operand.OpName.{OpName}
@@ -25,10 +25,11 @@ use Rattle.tss_phases.specs.Orderly.{IsUntold, FitsPhase, IsOrderly, AreOrderly}
 use Rattle.tss_phases.proofs.PhaseLemmas.{phase_using, phase_silent, phase_telling, station_told}
 use Rattle.tss_phases.proofs.OrderlyLemmas.{using_stands}
 use Rattle.tss_phases.proofs.UseEvent.{look_ups-use-other}
+use Rattle.tss_phases.proofs.Tests.{something}
 use Rattle.tss_locality.proofs.LeftFields.{Leaves-after_event}
 use Rattle.tss_laws.specs.Members.{operand_among}
 use Rattle.tss_laws.specs.Chains.{IsUseInOrder}
-use Rattle.tss_laws.specs.Readers.{Arrivals, Has, has_arrived, tail_of, set_arrivals, arrivals_used, IsNewest, HasArrivals}
+use Rattle.tss_laws.specs.Readers.{Arrivals, Has, has_arrived, tail_of, set_arrivals, arrivals_used, arrivals_after_event, IsNewest, HasArrivals}
 use Rattle.tss_laws.specs.Holders.{IsOwnOrRead, IsTrue, link_fits, HasHolders}
 use Rattle.tss_laws.specs.Control.{HasGroundwork, IsControlled}
 use Rattle.tss_laws.proofs.ReadersLists.{newest_of, newest_at}
@@ -345,3 +346,14 @@ module _ (m : Machine) (all ts : List Task) (g : Arrivals) (S : State) (ground :
   holders_used =
       holders_by ts New T each_holds openers_used records_used
       (HasRunners-after_event m all S ground.numbers ground.stages h.orderly h.holders.runners (event.Use o) on tt)
+
+-- use
+pub HasHolders-use : (m : Machine) (all ts : List Task) (g : Arrivals) (S : State) → HasGroundwork m all ts S
+    → IsControlled ts g S → (o : OpName) → IsEnabled m S (event.Use o)
+    → HasHolders ts (arrivals_after_event S g (event.Use o)) (after_event m S (event.Use o))
+unfolding is_enabled
+HasHolders-use m all ts g S ground h o on =
+    let v = something (can_use_message S) (get S.mail.uses o) refl on in
+    let x = something is_some (get S.versions v.0) refl (ap (can_use_message S) (sym v.1) ∙ on) in
+    subst (λ u. HasHolders ts (arrivals_used g o u) (after_event m S (event.Use o))) (sym v.1)
+    (holders_used m all ts g S ground h o on v.0 x.0 v.1 x.1)

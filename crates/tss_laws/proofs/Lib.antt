@@ -179,3 +179,4 @@ pub mod BoundExec
 pub mod BoundFlight
 pub mod BoundTables
 pub mod BoundStations
+pub mod HoldersPromises
