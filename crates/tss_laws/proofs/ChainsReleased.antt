@@ -67,7 +67,7 @@ module _ (ts : List Task) (S T : State) (c : HasChains ts S) (h : HasRetirement 
 -- ---- release
 
 -- a version that is produced now, and one that one more reader has released
-produced_like : (x : Version) → (x.storage ≡ None → ⊥) → AreAlike x (produced_now x)
+pub produced_like : (x : Version) → (x.storage ≡ None → ⊥) → AreAlike x (produced_now x)
 produced_like x stored = record {
   object = refl;
   storage = refl;
@@ -76,8 +76,13 @@ produced_like x stored = record {
   produced = λ e. absurd (stored e);
 }
 
-released_like : (x : Version) (o : OpName) → AreAlike x (released_once x o)
+pub released_like : (x : Version) (o : OpName) → AreAlike x (released_once x o)
 released_like x o =
+    record { object = refl; storage = refl; predecessor = refl; successor = refl; produced = λ e. refl }
+
+-- one that was refused
+pub refused_like : (x : Version) → AreAlike x (refused_once x)
+refused_like x =
     record { object = refl; storage = refl; predecessor = refl; successor = refl; produced = λ e. refl }
 
 module _ (ts : List Task) (g : Arrivals) (S T : State) (k : IsControlled ts g S) (o : OpName) (c : ReleaseContents)
@@ -124,10 +129,6 @@ module _ (m : Machine) (all ts : List Task) (g : Arrivals) (S : State) (ground :
   HasChains-release o = chains_release o (get S.mail.releases o) refl
 
   -- ---- nack
-
-  refused_like : (x : Version) → AreAlike x (refused_once x)
-  refused_like x =
-      record { object = refl; storage = refl; predecessor = refl; successor = refl; produced = λ e. refl }
 
   chains_nack : (v : OpName) (T : State) (x : Option Version) → get S.versions v ≡ x
       → T.versions ≡ (nacked_at S.versions v x).part → T.mail.opens ≡ S.mail.opens → T.mail.uses ≡ S.mail.uses

@@ -116,10 +116,15 @@ module _ (vs : Named Version) (v : OpName) (others : OthersSettled vs v) where
   with_quiet : (d : Versioned) → IsQuiet vs v d → SettlesWith vs v d
   with_quiet d q = subst (SettlesWith vs v) (sym q.is) (record {
     versions = record {
-      from = λ w z e. (z, e, becomes_itself z, elim (decide_key name_order w v) [
-        | inl same ↦ q.calm z (ap (get vs) (sym same) ∙ e)
-        | inr other ↦ others w z e other
-      ]);
+      from = λ w z e. (
+        z,
+        e,
+        becomes_itself z,
+        elim (decide_key name_order w v) [
+          | inl same ↦ q.calm z (ap (get vs) (sym same) ∙ e)
+          | inr other ↦ others w z e other
+        ],
+      );
       stay = λ w y e. inl (y, e);
     };
     sent = tt;

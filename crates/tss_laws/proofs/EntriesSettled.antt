@@ -130,8 +130,10 @@ module _ (ts : List Task) (S T : State) (v : OpName) (d : Settled ts S T v) wher
 
       leaving_still : IsLeaving S e.object e.latest → IsLeaving T e.object e.latest
       leaving_still (inl k) =
-          inl (ap (λ m. get m e.latest) d.mail.retires ∙ k.0,
-          version_still e.object e.latest (may_last k.0) k.1)
+          inl (
+            ap (λ m. get m e.latest) d.mail.retires ∙ k.0,
+            version_still e.object e.latest (may_last k.0) k.1,
+          )
       leaving_still (inr k) = inr (going_still e.object e.latest k)
 
       -- it asks as it did
@@ -198,7 +200,7 @@ module _ (ts : List Task) (S T : State) (v : OpName) (d : Settled ts S T v) (h :
         record {
           produced = new.2;
           oldest = new.3;
-          released = subst (λ n. count ≤ n) (sym k.released ) (equal_below count y.registered y.released number new.4);
+          released = subst (λ n. count ≤ n) (sym k.released) (equal_below count y.registered y.released number new.4);
         }
   ]
     where

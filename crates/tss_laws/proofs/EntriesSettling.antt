@@ -223,19 +223,21 @@ module _ (ts : List Task) (U : State) (h : HasChains ts U) (v : OpName) (x : Ver
         (y, ap (get U.versions) same ∙ there, subst (Becomes y) one becomes, subst IsSettled one calm)
     from_place w u e (Before b) =
         let t = before_by ws z k w b in
-        let one = same_Some (bridged s t.0) u (sym t.2 ∙ e) in
-        (t.0, t.1,
-        subst (Becomes t.0) one
-        (record {
-          object = refl;
-          produced = refl;
-          registered = refl;
-          released = refl;
-          refused = refl;
-          oldest = λ e. e;
-          asked = inl refl;
-        }),
-        subst IsSettled one (settled_bridged s t.0 t.3))
+        let one = same_Some (bridged s t.0) u (sym t.2 ∙ e) in (
+          t.0,
+          t.1,
+          subst (Becomes t.0) one
+              (record {
+                object = refl;
+                produced = refl;
+                registered = refl;
+                released = refl;
+                refused = refl;
+                oldest = λ e. e;
+                asked = inl refl;
+              }),
+          subst IsSettled one (settled_bridged s t.0 t.3),
+        )
     from_place w u e (Beyond a b c) =
         let old = sym (k.others w a b c) ∙ e in (u, old, becomes_itself u, others w u old a)
 

@@ -84,8 +84,7 @@ module _ (m : Machine) (all ts : List Task) (g : Arrivals) (S : State) (ground :
       ap (λ l. version_opener z p.mode (phase_at l)) (look_ups-retire m S v w)
       ∙ h.holders.openers w z p (before w z e) at)
       (λ o next e.
-      let r = h.holders.records o next (sym (ap (λ ks. get ks o) (links-retire m S v)) ∙ e) in
-      (
+      let r = h.holders.records o next (sym (ap (λ ks. get ks o) (links-retire m S v)) ∙ e) in (
         r.0,
         ap (λ (l : LookUps). l.station) (look_ups-retire m S v o) ∙ r.1,
         λ left. r.2 (sym (ap phase_at (look_ups-retire m S v o)) ∙ left),

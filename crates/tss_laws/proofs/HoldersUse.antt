@@ -109,10 +109,14 @@ module _ (m : Machine) (S : State) (o v : OpName) (x : Version) (there : get S.m
       × (look_ups T o ≡ record (look_ups S o) { using = None; telling = Some (record { version = v; storage = s }) }))
   told_own None e f = inl f
   told_own (Some s) e f =
-      inr (s, e, f ∙ (λ i. record (look_ups S o) {
-        using = None;
-        telling = cond (own_name o i) (Some (record { version = v; storage = s })) (get S.mail.readies o);
-      }))
+      inr (
+        s,
+        e,
+        f ∙ (λ i. record (look_ups S o) {
+          using = None;
+          telling = cond (own_name o i) (Some (record { version = v; storage = s })) (get S.mail.readies o);
+        }),
+      )
 
   used_alone_by : x.tail ≡ None → (b : Bool) → x.produced ≡ b → UsedBy S T o v x
   used_alone_by tail true produced =
@@ -145,8 +149,12 @@ module _ (m : Machine) (S : State) (o v : OpName) (x : Version) (there : get S.m
         version = enlisted x o;
         put = versions_are ∙ ap (λ (d : Versioned). d.part) is;
         like = record { object = refl; storage = refl; produced = refl };
-        links = inr (last, tail, ap (λ ls. get ls last) links ∙ at_inserted name_order S.mail.links last o,
-            λ q apart. ap (λ ls. get ls q) links ∙ beside_inserted name_order S.mail.links last o q apart);
+        links = inr (
+          last,
+          tail,
+          ap (λ ls. get ls last) links ∙ at_inserted name_order S.mail.links last o,
+          λ q apart. ap (λ ls. get ls q) links ∙ beside_inserted name_order S.mail.links last o q apart,
+        );
         own = inl (own_is ∙ ap (λ (d : Versioned). received_all d.sent o (record (look_ups S o) { using = None })) is);
       }
 

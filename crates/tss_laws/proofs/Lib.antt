@@ -180,3 +180,4 @@ pub mod BoundFlight
 pub mod BoundTables
 pub mod BoundStations
 pub mod HoldersPromises
+pub mod RetirementReleased

@@ -196,7 +196,7 @@ module _ (m : Machine) (ts : List Task) (g : Arrivals) (S : State) (h : HasReade
     silent w y a e q apart =
         others false reader a apart
         ∙ ap (λ b. phase_told b (phase_of S a)) (fails (tells (sent_by_release S.versions o v x false) a) (λ t.
-          not_both false (tells_head false a y.object ((h.versions w y e).each a q).on t).0 refl))
+        not_both false (tells_head false a y.object ((h.versions w y e).each a q).on t).0 refl))
 
     readers_released : HasReaders ts g After
     readers_released =
@@ -205,9 +205,9 @@ module _ (m : Machine) (ts : List Task) (g : Arrivals) (S : State) (h : HasReade
         (arrivals_released ts (g v) S (Middle false) v x o (h.versions v x f.there) (same_stations false) member f.phase now
         (λ a apart q. silent v x a f.there q apart))
         (λ w y apart e. arrivals_beside ts (g w) S (Middle false) w y (same_stations false)
-          (λ a q. silent w y a e q
-            (λ is. apart (h.apart w v o y x e f.there (subst (λ a. Has a (g w)) is q) member)))
-          (h.versions w y e)))
+        (λ a q. silent w y a e q
+        (λ is. apart (h.apart w v o y x e f.there (subst (λ a. Has a (g w)) is q) member)))
+        (h.versions w y e)))
 
   -- ---- by the producer
 
@@ -244,11 +244,11 @@ module _ (m : Machine) (ts : List Task) (g : Arrivals) (S : State) (h : HasReade
         (arrivals_produced ts (g v) S (Middle true) v x (h.versions v x f.there) (same_stations true) head_told
         (λ a q. head_or_same v x a f.there q))
         (λ w y apart e. arrivals_beside ts (g w) S (Middle true) w y (same_stations true)
-          (λ a q. elim (head_or_same w y a e q) [
-            | inr same ↦ same
-            | inl p ↦ absurd (apart (h.apart w v a y x e f.there q (has_oldest a (g v) p.1)))
-          ])
-          (h.versions w y e)))
+        (λ a q. elim (head_or_same w y a e q) [
+          | inr same ↦ same
+          | inl p ↦ absurd (apart (h.apart w v a y x e f.there q (has_oldest a (g v) p.1)))
+        ])
+        (h.versions w y e)))
 
   by_producer : (b : Bool) → c.producer ≡ b → HasReaders ts g After
   by_producer true e = readers_produced e

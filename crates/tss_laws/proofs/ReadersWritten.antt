@@ -178,8 +178,7 @@ module _ (ts : List Task) (xs : List OpName) (S T : State) (v : OpName) (x : Ver
         tail = ap (tail_without o) h.tail ∙ tail_released S T o before after xs others;
         first = λ a e.
             let f = h.first a e in
-            let waits = each_waiting a (has_oldest a xs e) in
-            (
+            let waits = each_waiting a (has_oldest a xs e) in (
               (λ w. f.0 (waited (phase_of S a) (phase_of T a) waits w)),
               (λ b. still_waits (phase_of S a) (phase_of T a) waits (f.1 b)),
             );
