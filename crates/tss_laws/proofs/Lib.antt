@@ -181,3 +181,5 @@ pub mod BoundTables
 pub mod BoundStations
 pub mod HoldersPromises
 pub mod RetirementReleased
+pub mod ReadersFollowing
+pub mod ReadersOpen

@@ -346,7 +346,8 @@ module _ (m : Machine) (all ts : List Task) (g : Arrivals) (S : State) (h : HasR
   readers_after_use : HasReaders ts New After
   readers_after_use = readers_used (left_by x.tail refl)
 
-registered_by_test : (vs : Named Version) (v : OpName) → contains_key vs v ≡ true → (x : Version) × (get vs v ≡ Some x)
+-- a version passes the test where it is registered
+pub registered_by_test : (vs : Named Version) (v : OpName) → contains_key vs v ≡ true → (x : Version) × (get vs v ≡ Some x)
 registered_by_test vs v e = something is_some (get vs v) refl e
 
 -- use
