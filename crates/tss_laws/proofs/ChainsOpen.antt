@@ -112,11 +112,11 @@ module _ (vs : Named Version) (o : OpName) (c : OpenContents) (f : Follow) (apar
 
 module _ (m : Machine) (all ts : List Task) (g : Arrivals) (S : State) (ground : HasGroundwork m all ts S)
     (k : IsControlled ts g S) (o : OpName) (c : OpenContents) (opening : get S.mail.opens o ≡ Some c) where
-  fresh : get S.versions o ≡ None
+  pub fresh : get S.versions o ≡ None
   fresh = (ground.openings.opens o c opening).no_version
 
   -- an open that follows nothing
-  registers_first : (T : State) → c.follows ≡ None
+  pub registers_first : (T : State) → c.follows ≡ None
       → T.versions ≡ put_version S.versions o (first_version o c.operand.object c.storage c.operand.mode)
       → T.mail.opens ≡ remove S.mail.opens o → T.mail.uses ≡ S.mail.uses
       → Registers S T o c (first_version o c.operand.object c.storage c.operand.mode)
@@ -142,17 +142,17 @@ module _ (m : Machine) (all ts : List Task) (g : Arrivals) (S : State) (ground :
 
   -- one that follows another, before that is settled
   module _ (f : Follow) (to : c.follows ≡ Some f) (u : Version) (there : get S.versions f.version ≡ Some u) where
-    front_apart : f.version ≢ o
+    pub front_apart : f.version ≢ o
     front_apart is = none-some u (sym fresh ∙ ap (λ q. get S.versions q) (sym is) ∙ there)
 
     -- the state with the open taken and the version registered
-    abbrev registered_state : State
+    abbrev pub registered_state : State
     registered_state = record S {
       versions = followed S.versions o c f;
       mail = record (S.mail) { opens = remove S.mail.opens o };
     }
 
-    registers_behind : Registers S registered_state o c (following c f)
+    pub registers_behind : Registers S registered_state o c (following c f)
     registers_behind = record {
       opening = opening;
       fresh = fresh;
@@ -186,7 +186,7 @@ module _ (m : Machine) (all ts : List Task) (g : Arrivals) (S : State) (ground :
         (released_few ts g S k.readers f.version u there))
         (others_followed S.versions o c f front_apart (λ q y e. k.retirement.settled q y e))
 
-  part_how : (f : Follow) (how : How)
+  pub part_how : (f : Follow) (how : How)
       → (opened_how S.versions o c f how).part ≡ (settled (followed S.versions o c f) f.version).part
   part_how f Beside = refl
   part_how f Over = refl

@@ -98,9 +98,10 @@ module _ (m : Machine) (all ts : List Task) (g : Arrivals) (S : State) (ground :
               ];
           nacks = λ w nack.
               let other = from_removed name_order S.mail.nacks v w tt nack in
-              let a = (ground.asking.nacks w other.1).0 in
-              (a.0,
-              (a.1.0, beside_inserted name_order S.versions v (refused_once x) w other.0 ∙ a.1.1, a.1.2));
+              let a = (ground.asking.nacks w other.1).0 in (
+                a.0,
+                (a.1.0, beside_inserted name_order S.versions v (refused_once x) w other.0 ∙ a.1.1, a.1.2),
+              );
         }
 
     nacked : T ≡ with_versioned (without S (event.Nack v)) (settled U.versions v)

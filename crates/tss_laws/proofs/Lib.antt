@@ -183,3 +183,4 @@ pub mod HoldersPromises
 pub mod RetirementReleased
 pub mod ReadersFollowing
 pub mod ReadersOpen
+pub mod RetirementOpen

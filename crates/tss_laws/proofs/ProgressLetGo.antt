@@ -193,7 +193,7 @@ module _ (m : Machine) (S : State) (orderly : AreOrderly S) (gone : HasLetGo S) 
   take_by on needs None e o r at finished = absurd (true≢false (sym on ∙ ap (can_take m S) e))
   take_by on needs (Some t) e o r at finished =
       let flight : (after_take S S.inbox).flight ≡ flight_after_take S.flight t =
-          ap (λ x. (after_take S x).flight) e in
+      ap (λ x. (after_take S x).flight) e in
       let y = ap (λ f. get f o.task) (sym flight) ∙ finished.1 in
       elim (from_inserted nat_order S.flight t.number (entered t) o.task finished.0 y) [
         | inl new ↦
@@ -222,9 +222,11 @@ module _ (m : Machine) (S : State) (orderly : AreOrderly S) (gone : HasLetGo S) 
         | inr other ↦
             let beside = sym (ap (λ f. get f o.task) (flight-finish m S w b x busy flying)) ∙ finished.1 in
             still_late (phase_of S o) (phase_of T o)
-            (gone o k.0 k.1 (finished.0,
+            (gone o k.0 k.1 (
+              finished.0,
               sym (beside_remaining S.flight b.task.number (finished_task m S w b x busy flying) o.task other) ∙ beside,
-              finished.2))
+              finished.2,
+            ))
             (forward-after_event m S orderly (event.Finish w) on needs o)
       ]
 

@@ -84,11 +84,10 @@ first_arrival ts T v z n =
       released = n.released ∙ ap (λ b. cond {A = ℕ} b 1 0) (sym late);
       head = n.head ∙ ap (λ b. head_of b (v ∷ [])) (sym n.produced);
       tail = n.tail ∙ ap (λ b. cond b None (Some v)) (sym late);
-      first = λ a e.
-          (
-            (λ w. absurd (told_not_waiting (phase_of T v) n.told (ap (phase_of T) (same_Some v a e) ∙ w))),
-            (λ b. absurd (not_both z.produced n.produced b)),
-          );
+      first = λ a e. (
+        (λ w. absurd (told_not_waiting (phase_of T v) n.told (ap (phase_of T) (same_Some v a e) ∙ w))),
+        (λ b. absurd (not_both z.produced n.produced b)),
+      );
       chained = tt;
       newest = record { linking = n.no_link; record_link = n.nothing };
     }

@@ -39,7 +39,7 @@ use Rattle.tss_laws.proofs.ReleaseFacts.{Releases, releases_facts, released_few,
 -- ---- no nack is sent
 
 -- the versioning tables send no nack
-nacks_left : (ns : Named (Unit {0})) → IsJoint (λ vs m. m.nacks ≡ ns)
+pub nacks_left : (ns : Named (Unit {0})) → IsJoint (λ vs m. m.nacks ≡ ns)
 nacks_left ns = record {
   write = λ vs m v x y e asked object h. h;
   dies = λ vs m v x g e object quiet h. h;
