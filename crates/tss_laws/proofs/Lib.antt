@@ -184,3 +184,4 @@ pub mod RetirementReleased
 pub mod ReadersFollowing
 pub mod ReadersOpen
 pub mod RetirementOpen
+pub mod WaitsUsers
