@@ -185,3 +185,6 @@ pub mod ReadersFollowing
 pub mod ReadersOpen
 pub mod RetirementOpen
 pub mod WaitsUsers
+pub mod WaitsRising
+pub mod WaitsRound
+pub mod WaitsSilent

@@ -1,0 +1,282 @@
+-- A state without messages: an operand in flight that isn't ready waits, one whose task has finished or left has released
+-- its version, and no reader of a produced version waits.
+use Rattle.std.proofs.Common.{◌≡◌, ◌≢◌, ℕ, zero, suc, ◌+◌, ◌<◌, ◌≤◌, ◌⊎◌, Bool, true, false, List, [], ◌∷◌, length, Option, Some, None, refl, sym, ap, ◌∙◌, subst, inl, inr, arith, true≢false}
+use Rattle.std.specs.Prelude.{◌==◌, ◌&&◌, ◌||◌, not, cond, is_none, is_some, nat_lt, slice_get}
+use Rattle.std.specs.FinMap.{get, len}
+use Rattle.std.proofs.lemmas.Bool.{and_from, or_from, eq-eqb, eqb-true, le-ltb, not-true}
+use Rattle.std.proofs.lemmas.Option.{none-some, same_Some}
+use Rattle.tss_base.specs.declared.operand.OpName.{OpName}
+use Rattle.tss_base.specs.declared.operand.Operand.{Operand}
+use Rattle.tss_base.specs.declared.operand.Task.{Task}
+use Rattle.tss_base.specs.declared.machine.Machine.{Machine}
+use Rattle.tss_base.specs.declared.event.Stage.{Stage}
+use Rattle.tss_base.specs.declared.event.Stage.TheVariants as stage
+use Rattle.tss_base.specs.declared.event.LinkState.TheVariants as link
+use Rattle.tss_base.specs.declared.event.Farewell.{Farewell}
+use Rattle.tss_base.specs.declared.event.Farewell.TheVariants as farewell
+use Rattle.tss_base.specs.declared.event.Follow.{Follow}
+use Rattle.tss_maps.proofs.Keys.{name_order}
+use Rattle.tss_maps.proofs.Entries.{absent_empty}
+use Rattle.tss_maps.proofs.Sums.{count_none}
+use Rattle.tss_model.specs.Access.{operands_of}
+use Rattle.tss_protocol.specs.Names.{same_name}
+use Rattle.tss_protocol.specs.Mail.{Source, Mail, StorageName, is_silent, message_count}
+use Rattle.tss_protocol.specs.State.{State, OperandState, Flying, Version}
+use Rattle.tss_protocol.specs.Stations.{operand_at, is_ready, has_finished}
+use Rattle.tss_protocol.specs.Versions.{may_die}
+use Rattle.tss_protocol.specs.Needs.{is_in_inbox, is_past_by, is_past}
+use Rattle.tss_locality.proofs.Flights.{record_in, from_mapped}
+use Rattle.tss_phases.specs.Phase.{Phase, Ahead, Decoding, Sent, Waiting, Told, Ready, Releasing, Leaving, Promised, Left, LookUps, inbox_has, is_ahead, record_phase, station_phase, look_ups, phase_of, has_released}
+use Rattle.tss_phases.specs.Orderly.{FitsPhase, WasTold}
+use Rattle.tss_phases.specs.Openers.{open_opener, opener_by}
+use Rattle.tss_phases.proofs.PhaseLemmas.{phase_silent}
+use Rattle.tss_phases.proofs.Shown.{is_still}
+use Rattle.tss_phases.proofs.OrderlyLemmas.{left_by_absence}
+use Rattle.tss_laws.specs.Members.{operand_among, registered_of, opening_reader, uses_of, total}
+use Rattle.tss_laws.specs.Tasks.{task_at}
+use Rattle.tss_laws.specs.Readers.{Arrivals, Has, oldest_of, released_among, Holds, AreChained}
+use Rattle.tss_laws.specs.Holders.{link_fits}
+use Rattle.tss_laws.specs.Runners.{is_late}
+use Rattle.tss_laws.specs.Control.{HasGroundwork, IsControlled}
+use Rattle.tss_laws.proofs.GroundworkSpawn.{among_object, of_spawned}
+use Rattle.tss_laws.proofs.ProgressPhases.{HasLetGo}
+
+-- ---- no message
+
+-- no message under way
+pub record HasNoMessage (S : State) : Type 0 where
+  pub decodes : (o : OpName) → get S.mail.decodes o ≡ None
+  pub opens : (o : OpName) → get S.mail.opens o ≡ None
+  pub uses : (o : OpName) → get S.mail.uses o ≡ None
+  pub readies : (o : OpName) → get S.mail.readies o ≡ None
+  pub links : (o : OpName) → get S.mail.links o ≡ None
+  pub releases : (o : OpName) → get S.mail.releases o ≡ None
+  pub byes : (o : OpName) → get S.mail.byes o ≡ None
+  pub idles : (v : OpName) → get S.mail.idles v ≡ None
+  pub nacks : (v : OpName) → get S.mail.nacks v ≡ None
+  pub retires : (v : OpName) → get S.mail.retires v ≡ None
+
+-- where the mail is silent there is none
+pub no_message : (S : State) → is_silent S.mail ≡ true → HasNoMessage S
+no_message S silent =
+    let none = eqb-true (message_count S.mail) 0 silent in
+    record {
+      decodes = λ o. absent_empty S.mail.decodes o (omega (arith, none));
+      opens = λ o. absent_empty S.mail.opens o (omega (arith, none));
+      uses = λ o. absent_empty S.mail.uses o (omega (arith, none));
+      readies = λ o. absent_empty S.mail.readies o (omega (arith, none));
+      links = λ o. absent_empty S.mail.links o (omega (arith, none));
+      releases = λ o. absent_empty S.mail.releases o (omega (arith, none));
+      byes = λ o. absent_empty S.mail.byes o (omega (arith, none));
+      idles = λ v. absent_empty S.mail.idles v (omega (arith, none));
+      nacks = λ v. absent_empty S.mail.nacks v (omega (arith, none));
+      retires = λ v. absent_empty S.mail.retires v (omega (arith, none));
+    }
+
+-- ---- phases
+
+still_record : (f : Farewell) (s : Option Source) → is_still (record_phase f s) ≡ true
+still_record farewell.Nothing None = refl
+still_record farewell.Nothing (Some s) = refl
+still_record farewell.Promised s = refl
+still_record farewell.Left s = refl
+
+still_station : (r : Option OperandState) (ahead : Bool) → is_still (station_phase r ahead) ≡ true
+still_station None true = refl
+still_station None false = refl
+still_station (Some r) ahead = still_record r.farewell r.source
+
+-- one that holds a link waits
+still_holder : (p : Phase) (b : OpName) → is_still p ≡ true → link_fits p (link.Held b) ≡ true → p ≡ Waiting
+still_holder Ahead b s l = absurd (true≢false (sym l))
+still_holder Decoding b s l = absurd (true≢false (sym l))
+still_holder Sent b s l = absurd (true≢false (sym l))
+still_holder Waiting b s l = refl
+still_holder Told b s l = absurd (true≢false (sym s))
+still_holder Ready b s l = absurd (true≢false (sym l))
+still_holder Releasing b s l = absurd (true≢false (sym l))
+still_holder Leaving b s l = absurd (true≢false (sym l))
+still_holder Promised b s l = absurd (true≢false (sym l))
+still_holder Left b s l = absurd (true≢false (sym l))
+
+-- one whose release was sent has released
+still_late : (p : Phase) → is_still p ≡ true → is_late p ≡ true → has_released p ≡ true
+still_late Ahead s l = absurd (true≢false (sym l))
+still_late Decoding s l = absurd (true≢false (sym l))
+still_late Sent s l = absurd (true≢false (sym l))
+still_late Waiting s l = absurd (true≢false (sym l))
+still_late Told s l = absurd (true≢false (sym l))
+still_late Ready s l = absurd (true≢false (sym l))
+still_late Releasing s l = absurd (true≢false (sym s))
+still_late Leaving s l = refl
+still_late Promised s l = refl
+still_late Left s l = refl
+
+not_told : (l : LookUps) (r : OperandState) → WasTold l → l.station ≡ Some r → is_ready r ≡ false → ⊥
+not_told l r told there unready =
+    let same = same_Some told.0 r (sym told.1 ∙ there) in
+    true≢false (sym (ap is_some told.2.1) ∙ ap is_ready same ∙ unready)
+
+-- one that has a record and isn't ready waits
+unready_waits : (p : Phase) (l : LookUps) (r : OperandState) → is_still p ≡ true → FitsPhase p l → l.station ≡ Some r
+    → is_ready r ≡ false → p ≡ Waiting
+unready_waits Ahead l r s h there unready = absurd (none-some r (sym h.0 ∙ there))
+unready_waits Decoding l r s h there unready = absurd (true≢false (sym s))
+unready_waits Sent l r s h there unready = absurd (true≢false (sym s))
+unready_waits Waiting l r s h there unready = refl
+unready_waits Told l r s h there unready = absurd (true≢false (sym s))
+unready_waits Ready l r s h there unready =
+    absurd (not_told l r (h.0.1.kept, h.0.1.there, (h.0.0, h.0.1.told)) there unready)
+unready_waits Releasing l r s h there unready = absurd (true≢false (sym s))
+unready_waits Leaving l r s h there unready = absurd (true≢false (sym s))
+unready_waits Promised l r s h there unready = absurd (not_told l r h.0 there unready)
+unready_waits Left l r s (inl absent, taken) there unready = absurd (none-some r (sym absent ∙ there))
+unready_waits Left l r s (inr told, taken) there unready = absurd (not_told l r told there unready)
+
+-- who has released a version doesn't hold it, nor waits for it
+pub released_open : (s : Option StorageName) (p : Phase) → has_released p ≡ true → open_opener s p ≡ false
+released_open s Ahead e = absurd (true≢false (sym e))
+released_open s Decoding e = absurd (true≢false (sym e))
+released_open s Sent e = absurd (true≢false (sym e))
+released_open s Waiting e = absurd (true≢false (sym e))
+released_open s Told e = absurd (true≢false (sym e))
+released_open s Ready e = absurd (true≢false (sym e))
+released_open s Releasing e = absurd (true≢false (sym e))
+released_open None Leaving e = refl
+released_open (Some s) Leaving e = refl
+released_open None Promised e = refl
+released_open (Some s) Promised e = refl
+released_open None Left e = refl
+released_open (Some s) Left e = refl
+
+is_finished_stage : (s : Stage) → has_finished s ≡ true → s ≡ stage.Finished
+is_finished_stage stage.Waiting e = absurd (true≢false (sym e))
+is_finished_stage stage.Queued e = absurd (true≢false (sym e))
+is_finished_stage stage.Running e = absurd (true≢false (sym e))
+is_finished_stage stage.Finished e = refl
+
+-- readers that have all released are all counted
+released_all : (S : State) (xs : List OpName) → ((a : OpName) → Has a xs → has_released (phase_of S a) ≡ true)
+    → released_among S xs ≡ length xs
+released_all S [] released = refl
+released_all S (a ∷ xs) released =
+    ap (λ b. cond {A = ℕ} b (suc (released_among S xs)) (released_among S xs)) (released a (inl refl))
+    ∙ ap suc (released_all S xs (λ b h. released b (inr h)))
+
+first_of_three : (a b c r : ℕ) → a ≡ r → b ≡ 0 → c ≡ 0 → a + b + c ≡ r
+first_of_three a b c r d e f = omega (arith, d, e, f)
+
+module _ (m : Machine) (all ts : List Task) (g : Arrivals) (S : State) (ground : HasGroundwork m all ts S)
+    (control : IsControlled ts g S) (silent : HasNoMessage S) where
+  -- each phase is still
+  still : (o : OpName) → is_still (phase_of S o) ≡ true
+  still o =
+      ap is_still (phase_silent (look_ups S o) (record {
+        decoding = silent.decodes o;
+        opening = silent.opens o;
+        using = silent.uses o;
+        telling = silent.readies o;
+        releasing = silent.releases o;
+        leaving = silent.byes o;
+      }))
+      ∙ still_station (operand_at S.flight o) (is_ahead S o.task)
+
+  -- an operand in flight that isn't ready waits
+  pub waits_unready : (o : OpName) (r : OperandState) → operand_at S.flight o ≡ Some r → is_ready r ≡ false
+      → phase_of S o ≡ Waiting
+  waits_unready o r at unready =
+      unready_waits (phase_of S o) (look_ups S o) r (still o) (control.orderly o).fits at unready
+
+  -- ---- tasks that have finished or left
+
+  flying_record : (q : OpName) (p : Operand) (x : Flying) → operand_among ts q ≡ Some p → get S.flight q.task ≡ Some x
+      → (r : OperandState) × (operand_at S.flight q ≡ Some r)
+  flying_record q p x among there =
+      let of = ground.known.operands q p among in
+      let flying = ground.numbers.flight q.task x there in
+      let task = same_Some of.task x.task (sym of.spawned ∙ flying.task) in
+      let k = from_mapped (λ (r : OperandState). r.operand) x.operands q.place p
+          (ap (λ rs. slice_get rs q.place) flying.operands ∙ ap (λ t. slice_get (operands_of t) q.place) (sym task) ∙ of.place) in
+      (k.0, ap (record_in q.place) there ∙ k.1)
+
+  -- their operands have released their versions
+  pub past_released : HasLetGo S → (q : OpName) (p : Operand) → operand_among ts q ≡ Some p → is_past S q.task ≡ true
+      → has_released (phase_of S q) ≡ true
+  past_released gone q p among past = by (get S.flight q.task) refl past
+    where
+      apart : (t : Option Task) → S.inbox ≡ t → not (is_in_inbox t q.task) ≡ true → inbox_has S.inbox q.task ≡ false
+      apart None e h = ap (λ t. inbox_has t q.task) e
+      apart (Some t) e h = ap (λ t. inbox_has t q.task) e ∙ not-true (t.number == q.task) h
+
+      by : (x : Option Flying) → get S.flight q.task ≡ x → is_past_by S q.task x ≡ true
+          → has_released (phase_of S q) ≡ true
+      by None e h =
+          let low = of_spawned S ts ground.round q p among in
+          ap has_released (left_by_absence (look_ups S q) (control.orderly q) (ap (record_in q.place) e)
+          (or_from (nat_lt S.main.spawned q.task) (inbox_has S.inbox q.task) (le-ltb S.main.spawned q.task low)
+          (apart S.inbox refl h)))
+      by (Some x) e h =
+          let r = flying_record q p x among e in
+          still_late (phase_of S q) (still q) (gone q r.0 r.1 (x, e, is_finished_stage x.stage h))
+
+  -- ---- readers
+
+  holder_waits : (a b : OpName) → Holds S a b → phase_of S a ≡ Waiting
+  holder_waits a b holds =
+      let named = ground.round.within.named.records a holds.0 holds.1 in
+      let p = among_object ts a named.0 named.1 in
+      let fits = (control.holders.links a p.0 holds.0 p.1 holds.1).fits in
+      still_holder (phase_of S a) b (still a) (ap (link_fits (phase_of S a)) (sym holds.2) ∙ fits)
+
+  none_waits : (xs : List OpName) → AreChained S xs
+      → ((a : OpName) → oldest_of xs ≡ Some a → phase_of S a ≡ Waiting → ⊥)
+      → (b : OpName) → Has b xs → phase_of S b ≡ Waiting → ⊥
+  none_waits [] chained first b has waits = has
+  none_waits (a ∷ []) chained first b (inl same) waits = first a refl (ap (phase_of S) same ∙ waits)
+  none_waits (a ∷ []) chained first b (inr has) waits = has
+  none_waits (c ∷ a ∷ xs) chained first b (inr has) waits = none_waits (a ∷ xs) chained.1 first b has waits
+  none_waits (c ∷ a ∷ xs) chained first b (inl same) waits = elim (chained.0.waits (ap (phase_of S) same ∙ waits)) [
+    | inl linking ↦ none-some c (sym (silent.links a) ∙ linking)
+    | inr holds ↦ none_waits (a ∷ xs) chained.1 first a (inl refl) (holder_waits a c holds)
+  ]
+
+  -- no reader of a produced version waits
+  pub no_reader_waits : (v : OpName) (y : Version) → get S.versions v ≡ Some y → y.produced ≡ true
+      → (b : OpName) → Has b (g v) → phase_of S b ≡ Waiting → ⊥
+  no_reader_waits v y there produced =
+      let h = control.readers.versions v y there in
+      none_waits (g v) h.chained
+      (λ a first waits. true≢false (sym produced ∙ (h.first a first).0 waits))
+
+  -- ---- a produced version with a successor
+
+  nobody_asks : (v : OpName) (y : Version) → get S.versions v ≡ Some y → y.asked ≡ None
+  nobody_asks v y there = by y.asked refl
+    where
+      by : (a : Option ℕ) → y.asked ≡ a → y.asked ≡ None
+      by None e = e
+      by (Some count) e = absurd (elim (ground.asking.asking v count (y, there, e)) [
+        | inl idle ↦ none-some idle.0 (sym (silent.idles v) ∙ idle.1)
+        | inr (inl nack) ↦ none-some tt (sym (silent.nacks v) ∙ nack)
+        | inr (inr retire) ↦ none-some tt (sym (silent.retires v) ∙ retire)
+      ])
+
+  total_registered : (v : OpName) (y : Version) → get S.versions v ≡ Some y → total S v ≡ y.registered
+  total_registered v y there =
+      first_of_three (registered_of (get S.versions v)) (opening_reader (get S.mail.opens v)) (uses_of S.mail.uses v)
+      y.registered (ap registered_of there) (ap opening_reader (silent.opens v))
+      (count_none name_order (λ o w. same_name w v) S.mail.uses
+      (λ o w e. absurd (none-some w (sym (silent.uses o) ∙ e))))
+
+  -- it has a reader that hasn't released it
+  pub none_behind : (v : OpName) (y : Version) (f : Follow) → get S.versions v ≡ Some y → y.successor ≡ Some f
+      → y.produced ≡ true → ((a : OpName) → Has a (g v) → has_released (phase_of S a) ≡ true) → ⊥
+  none_behind v y f there next produced released =
+      let last = ((control.chains.linked v y there).followed f next).last in
+      let readers = control.readers.versions v y there in
+      let same = readers.released ∙ released_all S (g v) released ∙ sym readers.registered
+          ∙ sym (last ∙ total_registered v y there) in
+      true≢false (sym (and_from (y.produced && (y.released == f.last)) (is_none y.asked)
+      (and_from y.produced (y.released == f.last) produced (eq-eqb y.released f.last same))
+      (ap is_none (nobody_asks v y there)))
+      ∙ (control.retirement.settled v y there).dies f next)
