@@ -188,3 +188,4 @@ pub mod WaitsUsers
 pub mod WaitsRising
 pub mod WaitsRound
 pub mod WaitsSilent
+pub mod ReadersEvents
