@@ -116,6 +116,13 @@ module _ (ts : List Task) (S T : State) (o v : OpName) (x : Version) (there : ge
       ap (λ us. uses_of us w) uses ∙ uses_beside S.mail.uses o v w using apart in
       λ i. registered i + opening_reader (get (opens i) w) + left i
 
+  -- as many readers were directed to each version
+  pub used_total : (w : OpName) → total T w ≡ total S w
+  used_total w = elim (decide_key name_order v w) [
+    | inl is ↦ subst (λ k. total T k ≡ total S k) is same_total
+    | inr apart ↦ other_total w apart
+  ]
+
   chains_used : HasChains ts S → HasChains ts T
   chains_used h =
       HasChains-alike ts S T
@@ -125,10 +132,7 @@ module _ (ts : List Task) (S T : State) (o v : OpName) (x : Version) (there : ge
         like = used.more.like;
         opens = opens;
         uses = λ q w e. (from_removed name_order S.mail.uses o q w (sym (ap (λ us. get us q) uses) ∙ e)).1;
-        all = λ w. elim (decide_key name_order v w) [
-          | inl is ↦ subst (λ k. total T k ≡ total S k) is same_total
-          | inr apart ↦ other_total w apart
-        ];
+        all = used_total;
       })) h
 
 module _ (m : Machine) (ts : List Task) (S : State) (h : HasChains ts S) where

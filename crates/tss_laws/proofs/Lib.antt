@@ -189,3 +189,4 @@ pub mod WaitsRising
 pub mod WaitsRound
 pub mod WaitsSilent
 pub mod ReadersEvents
+pub mod EntriesUse
