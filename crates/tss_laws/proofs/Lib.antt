@@ -190,3 +190,4 @@ pub mod WaitsRound
 pub mod WaitsSilent
 pub mod ReadersEvents
 pub mod EntriesUse
+pub mod WaitsOperands
