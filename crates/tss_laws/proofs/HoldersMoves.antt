@@ -115,10 +115,10 @@ told_true T q (m ∷ ms) l s all e f =
     told_true T q ms (received m q l) s all.1 e (λ g. told_one T q m l s all.0 g f)
 
 module _ (T : Source → Type 0) (O C : Type 0) (w : Bool) (l : LookUps) (k : Option OpName) where
-  -- by a ready
-  pub holding_told : phase_at l ≡ Waiting → Holding T O C w l k → (s : Source) → T s
-      → Holding T O C w (record l { telling = Some s }) k
-  holding_told e h s t =
+  -- by a ready, whatever it waited for
+  pub holding_told_by : phase_at l ≡ Waiting → ((r : OperandState) → l.station ≡ Some r → LinksFit w l k r)
+      → (s : Source) → T s → Holding T O C w (record l { telling = Some s }) k
+  holding_told_by e links s t =
       let shown = waiting_shows l e in
       let a = shown.0 in
       let r = shown.1 in
@@ -128,7 +128,7 @@ module _ (T : Source → Type 0) (O C : Type 0) (w : Bool) (l : LookUps) (k : Op
       (λ u f. subst T (same_Some s u f) t)
       (λ x f. absurd (told_waits (sym is ∙ f)))
       (λ x f. absurd (told_waits (sym is ∙ f)))
-      (links_moved T O C w j k r.kept r.there r.told a.releasing a.leaving l (h.links r.kept r.there)
+      (links_moved T O C w j k r.kept r.there r.told a.releasing a.leaving l (links r.kept r.there)
       (λ f. ap (λ p. link_fits p r.kept.link) is ∙ fits_told r.kept.link (ap (λ p. link_fits p r.kept.link) (sym e) ∙ f))
       (λ f. told_decodes (sym is ∙ f)) (λ f. told_sent (sym is ∙ f)) (λ f. told_promised (sym is ∙ f)))
     where
@@ -148,6 +148,26 @@ module _ (T : Source → Type 0) (O C : Type 0) (w : Bool) (l : LookUps) (k : Op
       fits_told link.Nothing e = refl
       fits_told (link.Held next) e = refl
       fits_told link.Passed e = absurd (true≢false (sym e))
+
+  -- by a ready
+  pub holding_told : phase_at l ≡ Waiting → Holding T O C w l k → (s : Source) → T s
+      → Holding T O C w (record l { telling = Some s }) k
+  holding_told e h s t = holding_told_by e h.links s t
+
+  -- where news is sent, that tells it what is true or doesn't tell it, and what it waited for may have changed
+  pub holding_news_by : (ms : List Message) (q : OpName) → AreNews ms → (tells ms q ≡ true → phase_at l ≡ Waiting)
+      → AllSent (TellsTrue q T) ms → ((r : OperandState) → l.station ≡ Some r → LinksFit w l k r)
+      → (tells ms q ≡ false → Holding T O C w l k) → Holding T O C w (received_all ms q l) k
+  holding_news_by ms q news waits all links h = by (tells ms q) refl
+    where
+      by : (b : Bool) → tells ms q ≡ b → Holding T O C w (received_all ms q l) k
+      by false e = subst (λ l. Holding T O C w l k) (sym (untold ms q l news e)) (h e)
+      by true e =
+          let t = told ms q l news e in
+          let silent = (waiting_shows l (waits e)).0.telling in
+          subst (λ l. Holding T O C w l k) (sym t.1)
+          (holding_told_by (waits e) links t.0
+          (told_true T q ms l t.0 all (λ i. (t.1 i).telling) (λ f. absurd (none_left l.telling t.0 silent f))))
 
   -- where news is sent, that tells it what is true or doesn't tell it
   pub holding_news : (ms : List Message) (q : OpName) → AreNews ms → (tells ms q ≡ true → phase_at l ≡ Waiting)
