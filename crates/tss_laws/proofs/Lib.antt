@@ -191,3 +191,4 @@ pub mod WaitsSilent
 pub mod ReadersEvents
 pub mod EntriesUse
 pub mod WaitsOperands
+pub mod EntriesRelease
