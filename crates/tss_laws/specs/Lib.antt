@@ -20,3 +20,4 @@ pub mod Holders
 pub mod Control
 pub mod UseCounts
 pub mod MessageCounts
+pub mod Buffers
