@@ -193,3 +193,4 @@ pub mod ReadersEvents
 pub mod EntriesUse
 pub mod WaitsOperands
 pub mod EntriesRelease
+pub mod ProgressSettled
