@@ -194,3 +194,4 @@ pub mod EntriesUse
 pub mod WaitsOperands
 pub mod EntriesRelease
 pub mod ProgressSettled
+pub mod EntriesRegistered
