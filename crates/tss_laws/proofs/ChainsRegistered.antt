@@ -81,7 +81,7 @@ module _ (ts : List Task) (S T : State) (h : HasChains ts S) (o : OpName) (c : O
   order = h.opens o c d.opening
 
   -- a version that was there has another name
-  old_apart : (w : OpName) (y : Version) → get S.versions w ≡ Some y → w ≢ o
+  pub old_apart : (w : OpName) (y : Version) → get S.versions w ≡ Some y → w ≢ o
   old_apart w y e is = none-some y (sym d.fresh ∙ ap (λ q. get S.versions q) (sym is) ∙ e)
 
   -- ---- the version that is followed
@@ -89,7 +89,7 @@ module _ (ts : List Task) (S T : State) (h : HasChains ts S) (o : OpName) (c : O
   front_there : (f : Follow) (to : c.follows ≡ Some f) → get S.versions f.version ≡ Some (d.behind f to).0
   front_there f to = (d.behind f to).1
 
-  front_object : (f : Follow) (to : c.follows ≡ Some f) → (d.behind f to).0.object ≡ c.operand.object
+  pub front_object : (f : Follow) (to : c.follows ≡ Some f) → (d.behind f to).0.object ≡ c.operand.object
   front_object f to =
       object_of_member ts S h f.version (d.behind f to).0 (d.behind f to).1 c.operand.object (order.after f to).member
 
@@ -160,19 +160,19 @@ module _ (ts : List Task) (S T : State) (h : HasChains ts S) (o : OpName) (c : O
     ap (λ (u : Version). u.object) same,
   )
 
-  version_back : (r : Range) (w : OpName) → IsVersionOf T r w → ((w ≡ o) × (c.operand.object ≡ r)) ⊎ IsVersionOf S r w
+  pub version_back : (r : Range) (w : OpName) → IsVersionOf T r w → ((w ≡ o) × (c.operand.object ≡ r)) ⊎ IsVersionOf S r w
   version_back r w m = elim (came w m.0 m.1) [
     | inl new ↦ inl (new.0, sym d.object ∙ ap (λ (u : Version). u.object) (sym new.1) ∙ m.2)
     | inr (inl front) ↦ let u = front_was w m.0 front in inr (u.0, u.1, sym u.2 ∙ m.2)
     | inr (inr old) ↦ inr (m.0, old.0, m.2)
   ]
 
-  open_back : (r : Range) (w : OpName) → IsOpenOf T r w → (w ≢ o) × IsOpenOf S r w
+  pub open_back : (r : Range) (w : OpName) → IsOpenOf T r w → (w ≢ o) × IsOpenOf S r w
   open_back r w m =
       let b = from_removed name_order S.mail.opens o w m.0 (sym (ap (λ os. get os w) d.opens) ∙ m.1) in
       (b.0, (m.0, b.1, m.2))
 
-  member_back : (r : Range) (w : OpName) → IsMember T r w → IsMember S r w
+  pub member_back : (r : Range) (w : OpName) → IsMember T r w → IsMember S r w
   member_back r w (inl m) = elim (version_back r w m) [
     | inl new ↦ inr (c, ap (λ q. get S.mail.opens q) new.0 ∙ d.opening, new.1)
     | inr old ↦ inl old
@@ -180,7 +180,7 @@ module _ (ts : List Task) (S T : State) (h : HasChains ts S) (o : OpName) (c : O
   member_back r w (inr m) = inr (open_back r w m).1
 
   -- a version that was there still is
-  abbrev StillVersion : OpName → Version → Type 0
+  abbrev pub StillVersion : OpName → Version → Type 0
   StillVersion w u = (y : Version) × (get T.versions w ≡ Some y) × (y.object ≡ u.object) × (y.registered ≡ u.registered)
       × (y.predecessor ≡ u.predecessor)
 
@@ -207,10 +207,10 @@ module _ (ts : List Task) (S T : State) (h : HasChains ts S) (o : OpName) (c : O
     )
   ]
 
-  still : (w : OpName) (u : Version) → get S.versions w ≡ Some u → StillVersion w u
+  pub still : (w : OpName) (u : Version) → get S.versions w ≡ Some u → StillVersion w u
   still w u e = still_by w u e c.follows refl
 
-  member_on : (r : Range) (w : OpName) → IsMember S r w → IsMember T r w
+  pub member_on : (r : Range) (w : OpName) → IsMember S r w → IsMember T r w
   member_on r w (inl m) = let t = still w m.0 m.1 in inl (t.0, t.1, t.2 ∙ m.2)
   member_on r w (inr m) = elim (decide_key name_order w o) [
     | inl is ↦
@@ -255,7 +255,7 @@ module _ (ts : List Task) (S T : State) (h : HasChains ts S) (o : OpName) (c : O
       + opening_reader ((ap (λ os. get os w) d.opens ∙ beside_removed name_order S.mail.opens o w far) i)
       + uses_of (d.uses i) w
 
-  total_same : (w : OpName) → total T w ≡ total S w
+  pub total_same : (w : OpName) → total T w ≡ total S w
   total_same w = elim (decide_key name_order w o) [
     | inl is ↦ subst (λ k. total T k ≡ total S k) (sym is) total_new
     | inr far ↦ total_by w far

@@ -30,7 +30,7 @@ use Rattle.tss_phases.proofs.UseEvent.{look_ups-use-own, look_ups-use-other}
 use Rattle.tss_laws.specs.Members.{operand_among}
 use Rattle.tss_laws.specs.Readers.{Arrivals, Has, set_arrivals}
 use Rattle.tss_laws.specs.Holders.{IsTrue, IsOwnOrRead, HasHolders}
-use Rattle.tss_laws.proofs.ReadersUse.{at_set, beside_set}
+use Rattle.tss_laws.proofs.ReadersCome.{at_set, beside_set}
 
 -- ---- a version that is alike for its holders
 

@@ -33,7 +33,8 @@ use Rattle.tss_laws.specs.Readers.{Arrivals, Has, has_arrived, tail_of, set_arri
 use Rattle.tss_laws.specs.Holders.{IsOwnOrRead, IsTrue, link_fits, HasHolders}
 use Rattle.tss_laws.specs.Control.{HasGroundwork, IsControlled}
 use Rattle.tss_laws.proofs.ReadersLists.{newest_of, newest_at}
-use Rattle.tss_laws.proofs.ReadersUse.{at_set, sent_link}
+use Rattle.tss_laws.proofs.ReadersCome.{at_set}
+use Rattle.tss_laws.proofs.ReadersUse.{sent_link}
 use Rattle.tss_laws.proofs.HoldersFits.{Holding, LinksFit, HoldsIn, HasOpened, HasCome, holding_of, holding_mapped, holders_by}
 use Rattle.tss_laws.proofs.HoldersMoves.{holding_fresh, links_none}
 use Rattle.tss_laws.proofs.HoldersLeaves.{may_be_linked, holding_linking}

@@ -146,6 +146,7 @@ pub mod HoldersReady
 pub mod ProgressBanks
 pub mod ProgressRoom
 pub mod HoldersParted
+pub mod ReadersCome
 pub mod ReadersUse
 pub mod DecodeFacts
 pub mod ChainsDecode
@@ -193,3 +194,5 @@ pub mod EntriesUse
 pub mod WaitsOperands
 pub mod EntriesRelease
 pub mod Values
+pub mod ProgressSettled
+pub mod EntriesRegistered

@@ -1,5 +1,5 @@
 -- One more reader comes to a version: what has to be known so that its readers are in order.
-use Rattle.std.proofs.Common.{◌≡◌, ◌≢◌, ◌⊎◌, inl, inr, ℕ, suc, Bool, true, false, cond, List, [], ◌∷◌, length, Option, Some, None, refl, sym, ap, ◌∙◌, subst}
+use Rattle.std.proofs.Common.{◌≡◌, ◌≢◌, ◌⊎◌, inl, inr, ℕ, suc, Bool, true, false, cond, List, [], ◌∷◌, Option, Some, None, refl, sym, ap, ◌∙◌, subst}
 use Rattle.std.specs.FinMap.{get}
 use Rattle.std.proofs.lemmas.Option.{none-some, same_Some}
 use Rattle.tss_base.specs.declared.operand.OpName.{OpName}
@@ -15,7 +15,7 @@ use Rattle.tss_laws.specs.Members.{IsOn}
 use Rattle.tss_laws.specs.Readers.{Has, oldest_of, head_of, tail_of, released_among, has_arrived, IsArrival, Holds, IsLinking, AreNeighbours, IsNewest, AreChained, HasArrivals}
 use Rattle.tss_laws.proofs.ReadersLists.{newest_of, IsNext, has_older, has_newer, has_oldest, has_newest, none_after_newest, chained_at, chained_by, newest_at, newest_by}
 use Rattle.tss_laws.proofs.ReadersCounts.{same_released}
-use Rattle.tss_laws.proofs.ReadersKept.{is_told, waiting_from_test, SameReader, alike_same, neighbours_kept, arrival_kept}
+use Rattle.tss_laws.proofs.ReadersKept.{waiting_from_test, SameReader, alike_same, neighbours_kept, arrival_kept}
 use Rattle.tss_laws.proofs.ReadersStates.{nothing_held}
 
 -- ---- lists

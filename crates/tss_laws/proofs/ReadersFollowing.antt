@@ -1,49 +1,25 @@
 -- A version is opened that follows another: what that leaves of all versions, and whom a settle of the followed one tells.
-use Rattle.std.proofs.Common.{◌≡◌, ◌≢◌, ◌⊎◌, inl, inr, ℕ, suc, ◌<◌, ◌≤◌, Bool, true, false, List, [], ◌∷◌, Option, Some, None, refl, sym, ap, ◌∙◌, subst, arith}
-use Rattle.std.specs.Prelude.{is_some}
-use Rattle.std.specs.FinMap.{get, len}
+use Rattle.std.proofs.Common.{◌≡◌, ◌≢◌, ◌⊎◌, inl, inr, ℕ, ◌<◌, ◌≤◌, true, List, Option, Some, None, refl, sym, ap, ◌∙◌, subst, arith}
+use Rattle.std.specs.FinMap.{get}
 use Rattle.std.proofs.lemmas.Option.{none-some, same_Some}
-use Rattle.tss_base.specs.declared.range.Range.{Range}
 use Rattle.tss_base.specs.declared.operand.OpName.{OpName}
-use Rattle.tss_base.specs.declared.operand.Mode.{Mode}
-use Rattle.tss_base.specs.declared.operand.Mode.TheVariants.{Input, Output, Inout}
-use Rattle.tss_base.specs.declared.operand.Operand.{Operand}
+use Rattle.tss_base.specs.declared.operand.Mode.TheVariants.{Output, Inout}
 use Rattle.tss_base.specs.declared.operand.Task.{Task}
-use Rattle.tss_base.specs.declared.machine.Machine.{Machine}
-use Rattle.tss_base.specs.declared.event.Event.TheVariants as event
 use Rattle.tss_base.specs.declared.event.How.{How}
 use Rattle.tss_base.specs.declared.event.How.TheVariants.{Beside, Over}
 use Rattle.tss_base.specs.declared.event.Follow.{Follow}
-use Rattle.tss_base.specs.declared.event.LinkState.TheVariants as link
 use Rattle.tss_base.specs.Names.{Named}
 use Rattle.tss_maps.proofs.Keys.{name_order}
-use Rattle.tss_maps.proofs.Changes.{from_inserted, still_inserted, at_inserted}
-use Rattle.tss_protocol.specs.Mail.{Home, Buffer, OpenContents}
-use Rattle.tss_protocol.specs.State.{State, OperandState, Version}
-use Rattle.tss_protocol.specs.Stations.{operand_at}
-use Rattle.tss_protocol.specs.Versions.{new_version, first_version, put_version, version_changed, change_version, followed, opened_how, opened_by, after_open, settled, can_open, is_followable}
-use Rattle.tss_protocol.specs.UnitMachine.{IsEnabled, is_enabled, after_event, without, open_message_taken, can_open_message}
-use Rattle.tss_phases.specs.Phase.{Phase, Sent, Waiting, Told, look_ups, phase_of}
-use Rattle.tss_phases.specs.Told.{tells, phase_told}
+use Rattle.tss_maps.proofs.Changes.{from_inserted, still_inserted}
+use Rattle.tss_protocol.specs.Mail.{Buffer, OpenContents}
+use Rattle.tss_protocol.specs.State.{State, Version}
+use Rattle.tss_protocol.specs.Versions.{new_version, put_version, version_changed, followed}
 use Rattle.tss_phases.specs.Settling.{SettleTells}
-use Rattle.tss_phases.specs.Orderly.{AreOrderly, OpensForWaiting}
-use Rattle.tss_phases.proofs.Tests.{something, not_both}
-use Rattle.tss_phases.proofs.PhaseLemmas.{phase_opening}
-use Rattle.tss_phases.proofs.OrderlyLemmas.{opening_stands}
-use Rattle.tss_phases.proofs.OpenEvent.{open_tells, first_open_tells, phase_of-open, phase_of-open-other}
-use Rattle.tss_locality.proofs.LeftFields.{Leaves-after_event}
-use Rattle.tss_laws.specs.Members.{total, operand_among, IsOn}
-use Rattle.tss_laws.specs.Chains.{IsOpenInOrder, OpensAfter, FollowsAs, HasChains}
-use Rattle.tss_laws.specs.Openings.{HasOpenings}
-use Rattle.tss_laws.specs.Readers.{Arrivals, first_arrivals, set_arrivals, arrivals_opened, arrivals_after_event, Has, has_arrived, IsLinking, HasArrivals, HasReaders}
-use Rattle.tss_laws.specs.Holders.{HasHolders}
+use Rattle.tss_laws.specs.Members.{total}
+use Rattle.tss_laws.specs.Chains.{IsOpenInOrder, OpensAfter, HasChains}
 use Rattle.tss_laws.proofs.ReadersKept.{SameForReaders, same_version}
-use Rattle.tss_laws.proofs.ReadersLinks.{links-open}
-use Rattle.tss_laws.proofs.ReadersTold.{FollowsOver, StandsBeside, settle_tells_over, IsTaker, taker_writes, followed_by_takers, with_storage_beside, produced_has_storage, from_changed}
-use Rattle.tss_laws.proofs.ReadersSettled.{HasFewReaders, registered_in_total, few_readers, readers_settled, fails}
-use Rattle.tss_laws.proofs.ReadersUse.{sent_link, registered_by_test}
-use Rattle.tss_laws.proofs.ReadersWritten.{SameStations}
-use Rattle.tss_laws.proofs.ReadersOpened.{IsNew, no_arrivals_yet, IsRead, first_arrival, Opens, readers_opened}
+use Rattle.tss_laws.proofs.ReadersTold.{FollowsOver, StandsBeside, settle_tells_over, IsTaker, followed_by_takers, with_storage_beside, produced_has_storage, from_changed}
+use Rattle.tss_laws.proofs.ReadersSettled.{HasFewReaders, registered_in_total, few_readers}
 
 less_than_itself : (a : ℕ) → a < a → ⊥
 less_than_itself a h = omega (arith, h)

@@ -1,19 +1,17 @@
 -- What a state has to keep so that its readers stay as they are: what is seen of the phase, the link under way and the
 -- record of each, and of each version what its readers make of it.
-use Rattle.std.proofs.Common.{◌≡◌, ◌≢◌, ℕ, ◌⊎◌, inl, inr, Bool, true, false, List, [], ◌∷◌, length, Option, Some, None, refl, sym, ap, ◌∙◌, subst}
+use Rattle.std.proofs.Common.{◌≡◌, inl, inr, Bool, true, false, List, Some, refl, sym, ap, ◌∙◌, subst}
 use Rattle.std.specs.FinMap.{get}
-use Rattle.tss_base.specs.declared.range.Range.{Range}
 use Rattle.tss_base.specs.declared.operand.OpName.{OpName}
 use Rattle.tss_base.specs.declared.operand.Mode.TheVariants.{Input}
 use Rattle.tss_base.specs.declared.operand.Task.{Task}
-use Rattle.tss_base.specs.declared.event.LinkState.TheVariants as link
 use Rattle.tss_protocol.specs.State.{State, OperandState, Version}
 use Rattle.tss_protocol.specs.Stations.{operand_at}
 use Rattle.tss_phases.specs.Phase.{Phase, Ahead, Decoding, Sent, Waiting, Told, Ready, Releasing, Leaving, Promised, Left, phase_of, has_released}
 use Rattle.tss_phases.specs.Openers.{is_waiting}
 use Rattle.tss_laws.specs.Members.{IsOn, IsWriterOn}
-use Rattle.tss_laws.specs.Readers.{Arrivals, Has, AreOnce, oldest_of, head_of, tail_of, released_among, has_arrived, IsArrival, Holds, IsLinking, AreNeighbours, IsNewest, HasArrivals, HasReaders}
-use Rattle.tss_laws.proofs.ReadersLists.{newest_of, IsNext, has_older, has_newer, has_oldest, has_newest, chained_at, chained_by, newest_at, newest_by}
+use Rattle.tss_laws.specs.Readers.{Has, head_of, has_arrived, IsArrival, Holds, AreNeighbours, IsNewest, HasArrivals}
+use Rattle.tss_laws.proofs.ReadersLists.{has_older, has_newer, has_oldest, has_newest, chained_at, chained_by, newest_at, newest_by}
 use Rattle.tss_laws.proofs.ReadersCounts.{same_released, same_tail}
 
 -- ---- phases

@@ -1,19 +1,18 @@
 -- Finish and bye take no reader's link, whether their task leaves or not.
-use Rattle.std.proofs.Common.{◌≡◌, ◌≢◌, ◌⊎◌, inl, inr, ℕ, Bool, true, false, List, Option, Some, None, refl, sym, ap, ◌∙◌, subst}
+use Rattle.std.proofs.Common.{◌≡◌, inl, inr, ℕ, Bool, false, List, Option, Some, None, refl, sym, ap, ◌∙◌}
 use Rattle.std.specs.Prelude.{is_some, slice_get, ◌&&◌, not}
 use Rattle.std.specs.FinMap.{get}
-use Rattle.std.proofs.lemmas.Option.{none-some, same_Some}
+use Rattle.std.proofs.lemmas.Option.{same_Some}
 use Rattle.tss_base.specs.declared.operand.OpName.{OpName}
-use Rattle.tss_base.specs.declared.operand.Operand.{Operand}
 use Rattle.tss_base.specs.declared.operand.Task.{Task}
 use Rattle.tss_base.specs.declared.machine.Machine.{Machine}
 use Rattle.tss_base.specs.declared.event.Event.TheVariants as event
 use Rattle.tss_maps.proofs.Keys.{nat_order, name_order, decide_key}
 use Rattle.tss_protocol.specs.State.{State, OperandState, Flying, Busy}
-use Rattle.tss_protocol.specs.Stations.{operand_at, has_passed, operand_after_bye, remaining_tasks}
+use Rattle.tss_protocol.specs.Stations.{operand_at, has_passed, operand_after_bye}
 use Rattle.tss_protocol.specs.Workers.{can_finish}
 use Rattle.tss_protocol.specs.UnitMachine.{IsEnabled, is_enabled, after_event}
-use Rattle.tss_phases.specs.Phase.{Phase, Waiting, Told, Ready, Releasing, Leaving, look_ups, phase_at, phase_of, is_ahead}
+use Rattle.tss_phases.specs.Phase.{Phase, Ready, Releasing, Leaving, look_ups, phase_at, phase_of, is_ahead}
 use Rattle.tss_phases.specs.Leaving.{phase_parted}
 use Rattle.tss_phases.specs.Orderly.{AreOrderly, FinishesReady}
 use Rattle.tss_phases.proofs.Tests.{something}
@@ -22,7 +21,7 @@ use Rattle.tss_phases.proofs.OrderlyLemmas.{leaving_stands, taken_by_record}
 use Rattle.tss_phases.proofs.FinishEvent.{finished_task, flight-finish, phase_of-finish, phase_of-finish-other, look_ups-finish-beyond}
 use Rattle.tss_phases.proofs.ByeEvent.{parted_task, parted_record, parted_record_other, flight-bye, leaving_before, phase_of-bye, phase_of-bye-other}
 use Rattle.tss_locality.proofs.LeftFields.{Leaves-after_event}
-use Rattle.tss_laws.specs.Readers.{Arrivals, Holds, HasReaders}
+use Rattle.tss_laws.specs.Readers.{Arrivals, HasReaders}
 use Rattle.tss_laws.specs.Holders.{HasHolders}
 use Rattle.tss_laws.proofs.ReadersKept.{LooksAlike, alike_same}
 use Rattle.tss_laws.proofs.ReadersLinks.{links-finish, links-bye}

@@ -1,6 +1,6 @@
 -- Readers after a link: its operand holds it, or tells the reader that came right after it.
 use Rattle.std.proofs.Common.{◌≡◌, ◌≢◌, ◌⊎◌, inl, inr, Bool, true, false, List, Option, Some, None, refl, sym, ap, ◌∙◌, subst}
-use Rattle.std.specs.Prelude.{is_some, slice_get}
+use Rattle.std.specs.Prelude.{is_some}
 use Rattle.std.specs.FinMap.{get, remove}
 use Rattle.std.proofs.lemmas.Option.{none-some, same_Some}
 use Rattle.tss_base.specs.declared.operand.OpName.{OpName}
@@ -12,26 +12,25 @@ use Rattle.tss_base.specs.declared.event.LinkState.{LinkState}
 use Rattle.tss_base.specs.declared.event.LinkState.TheVariants as link
 use Rattle.tss_maps.proofs.Keys.{name_order}
 use Rattle.tss_maps.proofs.Changes.{at_removed, beside_removed}
-use Rattle.tss_protocol.specs.Mail.{Source, Message}
+use Rattle.tss_protocol.specs.Mail.{Source}
 use Rattle.tss_protocol.specs.State.{State, OperandState, Flying, Version}
-use Rattle.tss_protocol.specs.Stations.{operand_at, remaining_tasks, after_link, link_after_link, farewell_after_link, operand_after_link, sent_by_link}
+use Rattle.tss_protocol.specs.Stations.{operand_at, remaining_tasks, link_after_link, farewell_after_link, operand_after_link, sent_by_link}
 use Rattle.tss_protocol.specs.UnitMachine.{IsEnabled, is_enabled, after_event, without, link_message_taken}
-use Rattle.tss_phases.specs.Phase.{Phase, Ahead, Decoding, Sent, Waiting, Told, Ready, Releasing, Leaving, Promised, Left, LookUps, look_ups, phase_at, phase_of, has_released, is_ahead}
-use Rattle.tss_phases.specs.Openers.{is_waiting}
+use Rattle.tss_phases.specs.Phase.{Phase, Ahead, Decoding, Sent, Waiting, Told, Ready, Releasing, Leaving, Promised, Left, LookUps, look_ups, phase_at, phase_of, is_ahead}
 use Rattle.tss_phases.specs.Alone.{HasRecord}
 use Rattle.tss_phases.specs.Leaving.{phase_linked}
 use Rattle.tss_phases.specs.Told.{tells, phase_told}
 use Rattle.tss_phases.specs.Orderly.{FitsPhase, WasTold, IsOrderly, AreOrderly, TellWaiting, LinksWaiting}
-use Rattle.tss_phases.proofs.Tests.{something, not_both}
+use Rattle.tss_phases.proofs.Tests.{something}
 use Rattle.tss_phases.proofs.OrderlyLemmas.{taken_by_record}
 use Rattle.tss_phases.proofs.LinkEvent.{link_tells, link_tells_next, linked_task, flight-link, linked_record, linked_record_other, phase_of-link, phase_of-link-other}
 use Rattle.tss_locality.proofs.LeftFields.{Leaves-after_event}
-use Rattle.tss_laws.specs.Readers.{Arrivals, has_arrived, Holds, IsLinking, AreNeighbours, IsNewest, HasReaders}
+use Rattle.tss_laws.specs.Readers.{Arrivals, IsLinking, AreNeighbours, HasReaders}
 use Rattle.tss_laws.specs.Holders.{HasHolders}
 use Rattle.tss_laws.proofs.SentLemmas.{after_link-all}
 use Rattle.tss_laws.proofs.HoldersNext.{linking_waits}
-use Rattle.tss_laws.proofs.ReadersLists.{newest_of, IsNext, next_apart, chained_at, newest_at}
-use Rattle.tss_laws.proofs.ReadersKept.{is_told, waiting_from_test, told_from_test, waited, LooksAlike, alike_same}
+use Rattle.tss_laws.proofs.ReadersLists.{IsNext, next_apart, chained_at, newest_at}
+use Rattle.tss_laws.proofs.ReadersKept.{is_told, told_from_test, waited, LooksAlike, alike_same}
 use Rattle.tss_laws.proofs.ReadersLinks.{IsNoLink, links_kept}
 use Rattle.tss_laws.proofs.ReadersSettled.{fails}
 use Rattle.tss_laws.proofs.ReadersStations.{IsEarly, early_record, record_from_remaining, record_stays, station_before, holds_after}

@@ -1,5 +1,5 @@
 -- No event but a use and a link changes which links are under way.
-use Rattle.std.proofs.Common.{◌≡◌, ℕ, zero, suc, Bool, true, false, List, [], ◌∷◌, Option, Some, None, refl, sym, ap, ◌∙◌}
+use Rattle.std.proofs.Common.{◌≡◌, ℕ, zero, suc, Bool, true, false, List, [], ◌∷◌, Option, Some, None, refl, ◌∙◌}
 use Rattle.std.specs.Prelude.{◌++◌, if◌then◌else◌}
 use Rattle.std.specs.FinMap.{get}
 use Rattle.tss_base.specs.declared.range.Range.{Range}
@@ -19,7 +19,7 @@ use Rattle.tss_protocol.specs.Mail.{StorageName, Home, Buffer, Source, OpenConte
 use Rattle.tss_protocol.specs.State.{State, Busy, Flying, Entry, Version, CopyState}
 use Rattle.tss_protocol.specs.Gateway.{decodes_from}
 use Rattle.tss_protocol.specs.Renaming.{decode_message, live_message, may_retire, idle_by}
-use Rattle.tss_protocol.specs.Versions.{Settling, Versioned, ready_with, may_die, may_ask, settle_asking, settle_how, settle_by, settle_at, settle, settled, unchanged, followed, opened_how, opened_by, after_open, head_ready, put_version, produced_now, released_once, released_by, released_at, after_release, is_last, refused_once, nacked_at, after_nack}
+use Rattle.tss_protocol.specs.Versions.{Settling, ready_with, may_die, may_ask, settle_asking, settle_how, settle_by, settle_at, settle, settled, unchanged, opened_how, opened_by, head_ready, released_by, released_at, nacked_at}
 use Rattle.tss_protocol.specs.Buffers.{sent_by_retire, sent_by_copy, is_last_piece}
 use Rattle.tss_protocol.specs.UnitMachine.{after_event, without, after_take, decode_message_taken, open_message_taken, ready_message_taken, after_start, start_task, after_exec, after_finish, release_message_taken, bye_message_taken, idle_message_taken, retire_version, after_copy, gone_message_taken}
 use Rattle.tss_laws.proofs.SentLemmas.{AllSent, AllSent-append, after_ready-all, flight_after_finish-all}

@@ -1,7 +1,7 @@
 -- Readers after an open: those of the version that is opened, and the settle of the one that it follows.
-use Rattle.std.proofs.Common.{◌≡◌, ◌≢◌, ◌⊎◌, inl, inr, ℕ, suc, Bool, true, false, List, [], ◌∷◌, Option, Some, None, refl, sym, ap, ◌∙◌, subst}
+use Rattle.std.proofs.Common.{◌≡◌, ◌≢◌, inl, inr, suc, true, List, [], Option, Some, None, refl, sym, ap, ◌∙◌, subst}
 use Rattle.std.specs.FinMap.{get, len}
-use Rattle.std.proofs.lemmas.Option.{none-some, same_Some}
+use Rattle.std.proofs.lemmas.Option.{same_Some}
 use Rattle.tss_base.specs.declared.range.Range.{Range}
 use Rattle.tss_base.specs.declared.operand.OpName.{OpName}
 use Rattle.tss_base.specs.declared.operand.Mode.{Mode}
@@ -13,12 +13,11 @@ use Rattle.tss_base.specs.declared.event.Event.TheVariants as event
 use Rattle.tss_base.specs.declared.event.How.{How}
 use Rattle.tss_base.specs.declared.event.How.TheVariants.{Beside, Over}
 use Rattle.tss_base.specs.declared.event.Follow.{Follow}
-use Rattle.tss_base.specs.declared.event.LinkState.TheVariants as link
 use Rattle.tss_base.specs.Names.{Named}
 use Rattle.tss_maps.proofs.Keys.{name_order}
 use Rattle.tss_maps.proofs.Changes.{still_inserted, at_inserted, beside_inserted}
 use Rattle.tss_protocol.specs.Mail.{Home, OpenContents}
-use Rattle.tss_protocol.specs.State.{State, OperandState, Version}
+use Rattle.tss_protocol.specs.State.{State, Version}
 use Rattle.tss_protocol.specs.Stations.{operand_at}
 use Rattle.tss_protocol.specs.Versions.{first_version, put_version, followed, opened_how, opened_by, after_open, settled}
 use Rattle.tss_protocol.specs.UnitMachine.{IsEnabled, is_enabled, after_event, without, open_message_taken, can_open_message}
@@ -30,10 +29,10 @@ use Rattle.tss_phases.proofs.PhaseLemmas.{phase_opening}
 use Rattle.tss_phases.proofs.OrderlyLemmas.{opening_stands}
 use Rattle.tss_phases.proofs.OpenEvent.{open_tells, first_open_tells, phase_of-open, phase_of-open-other}
 use Rattle.tss_locality.proofs.LeftFields.{Leaves-after_event}
-use Rattle.tss_laws.specs.Members.{operand_among, IsOn}
+use Rattle.tss_laws.specs.Members.{IsOn}
 use Rattle.tss_laws.specs.Chains.{IsOpenInOrder, FollowsAs, HasChains}
 use Rattle.tss_laws.specs.Openings.{HasOpenings}
-use Rattle.tss_laws.specs.Readers.{Arrivals, first_arrivals, set_arrivals, arrivals_opened, arrivals_after_event, Has, has_arrived, IsLinking, HasArrivals, HasReaders}
+use Rattle.tss_laws.specs.Readers.{Arrivals, first_arrivals, set_arrivals, arrivals_opened, arrivals_after_event, Has, has_arrived, HasArrivals, HasReaders}
 use Rattle.tss_laws.specs.Holders.{HasHolders}
 use Rattle.tss_laws.proofs.ReadersKept.{same_version}
 use Rattle.tss_laws.proofs.ReadersLinks.{links-open}
@@ -41,7 +40,7 @@ use Rattle.tss_laws.proofs.ReadersTold.{taker_writes}
 use Rattle.tss_laws.proofs.ReadersSettled.{readers_settled, fails}
 use Rattle.tss_laws.proofs.ReadersUse.{sent_link}
 use Rattle.tss_laws.proofs.ReadersWritten.{SameStations}
-use Rattle.tss_laws.proofs.ReadersOpened.{IsNew, no_arrivals_yet, IsRead, first_arrival, Opens, readers_opened}
+use Rattle.tss_laws.proofs.ReadersOpened.{no_arrivals_yet, first_arrival, Opens, readers_opened}
 use Rattle.tss_laws.proofs.ReadersFollowing.{opened_tells, few_opened, from_opened, own_opened, stay_opened}
 
 one_mode : (p q : Operand) → p ≡ q → (m n : Mode) → p.mode ≡ m → q.mode ≡ n → m ≡ n

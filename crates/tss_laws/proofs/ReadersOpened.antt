@@ -1,5 +1,5 @@
 -- A version is opened: its readers, and all others.
-use Rattle.std.proofs.Common.{◌≡◌, ◌≢◌, ◌⊎◌, inl, inr, ℕ, suc, ◌<◌, Bool, true, false, cond, List, [], ◌∷◌, Option, Some, None, refl, sym, ap, ◌∙◌, subst, arith}
+use Rattle.std.proofs.Common.{◌≡◌, ◌≢◌, ◌⊎◌, inl, inr, ℕ, ◌<◌, true, false, cond, List, [], ◌∷◌, Some, None, refl, sym, ap, ◌∙◌, subst, arith}
 use Rattle.std.specs.FinMap.{get}
 use Rattle.std.proofs.lemmas.Option.{none-some, same_Some}
 use Rattle.tss_base.specs.declared.operand.OpName.{OpName}
@@ -9,13 +9,13 @@ use Rattle.tss_base.specs.declared.event.LinkState.TheVariants as link
 use Rattle.tss_maps.proofs.Keys.{name_order, decide_key}
 use Rattle.tss_protocol.specs.State.{State, OperandState, Version}
 use Rattle.tss_protocol.specs.Stations.{operand_at}
-use Rattle.tss_phases.specs.Phase.{Phase, Waiting, Told, phase_of, has_released}
+use Rattle.tss_phases.specs.Phase.{Told, phase_of, has_released}
 use Rattle.tss_phases.proofs.Tests.{not_both}
 use Rattle.tss_laws.specs.Members.{IsOn}
-use Rattle.tss_laws.specs.Readers.{Arrivals, set_arrivals, Has, head_of, tail_of, has_arrived, IsArrival, IsLinking, HasArrivals, HasReaders}
+use Rattle.tss_laws.specs.Readers.{Arrivals, set_arrivals, Has, head_of, has_arrived, IsArrival, IsLinking, HasArrivals, HasReaders}
 use Rattle.tss_laws.proofs.ReadersKept.{SameForReaders, alike_same, arrivals_kept}
 use Rattle.tss_laws.proofs.ReadersReady.{told_not_waiting}
-use Rattle.tss_laws.proofs.ReadersUse.{at_set, beside_set}
+use Rattle.tss_laws.proofs.ReadersCome.{at_set, beside_set}
 use Rattle.tss_laws.proofs.ReadersWritten.{SameStations, link_was, held_was, reader_by}
 
 -- ---- a version without readers

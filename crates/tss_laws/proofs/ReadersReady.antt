@@ -1,8 +1,8 @@
 -- Readers after a ready: its operand passes a held link on to the reader that came right after it.
-use Rattle.std.proofs.Common.{◌≡◌, ◌≢◌, ◌⊎◌, inl, inr, Bool, true, false, List, Option, Some, None, refl, sym, ap, ◌∙◌, subst}
+use Rattle.std.proofs.Common.{◌≡◌, ◌≢◌, ◌⊎◌, inl, inr, Bool, true, false, List, Some, refl, sym, ap, ◌∙◌}
 use Rattle.std.specs.Prelude.{is_some}
 use Rattle.std.specs.FinMap.{get}
-use Rattle.std.proofs.lemmas.Option.{none-some, same_Some}
+use Rattle.std.proofs.lemmas.Option.{same_Some}
 use Rattle.tss_base.specs.declared.operand.OpName.{OpName}
 use Rattle.tss_base.specs.declared.operand.Task.{Task}
 use Rattle.tss_base.specs.declared.machine.Machine.{Machine}
@@ -22,7 +22,7 @@ use Rattle.tss_phases.proofs.Tests.{something, not_both}
 use Rattle.tss_phases.proofs.OrderlyLemmas.{telling_stands}
 use Rattle.tss_phases.proofs.ReadyEvent.{ready_tells, ready_tells_next, ready_record, ready_record_other, told_before, phase_of-ready, phase_of-ready-other}
 use Rattle.tss_locality.proofs.LeftFields.{Leaves-after_event}
-use Rattle.tss_laws.specs.Readers.{Arrivals, has_arrived, Holds, IsLinking, AreNeighbours, IsNewest, HasReaders}
+use Rattle.tss_laws.specs.Readers.{Arrivals, has_arrived, Holds, AreNeighbours, IsNewest, HasReaders}
 use Rattle.tss_laws.proofs.HoldersNext.{held_waits}
 use Rattle.tss_laws.proofs.ReadersLists.{newest_of, IsNext, next_apart, chained_at, newest_at}
 use Rattle.tss_laws.proofs.ReadersKept.{LooksAlike, alike_same, waiting_from_test}

@@ -1,5 +1,5 @@
 -- Readers after a release: by a reader of the version, or by its producer, which tells the first of them.
-use Rattle.std.proofs.Common.{◌≡◌, ◌≢◌, ◌⊎◌, inl, inr, ℕ, suc, Bool, true, false, List, Option, Some, None, refl, sym, ap, ◌∙◌, subst}
+use Rattle.std.proofs.Common.{◌≡◌, ◌≢◌, ◌⊎◌, inl, inr, suc, Bool, true, false, List, Some, None, refl, sym, ap, ◌∙◌, subst}
 use Rattle.std.specs.Prelude.{is_some}
 use Rattle.std.specs.FinMap.{get, len}
 use Rattle.std.proofs.lemmas.Option.{none-some, same_Some}
@@ -17,13 +17,13 @@ use Rattle.tss_protocol.specs.State.{State, Version}
 use Rattle.tss_protocol.specs.Stations.{operand_at}
 use Rattle.tss_protocol.specs.Versions.{put_version, produced_now, released_by, released_at, settled}
 use Rattle.tss_protocol.specs.UnitMachine.{IsEnabled, is_enabled, after_event, without, release_message_taken}
-use Rattle.tss_phases.specs.Phase.{Waiting, Told, Releasing, Leaving, phase_of, has_released}
+use Rattle.tss_phases.specs.Phase.{Waiting, Told, Leaving, phase_of, has_released}
 use Rattle.tss_phases.specs.Openers.{is_waiting}
 use Rattle.tss_phases.specs.Told.{tells, phase_told, WaitsIfTold}
 use Rattle.tss_phases.specs.Settling.{SettleTells}
 use Rattle.tss_phases.specs.Orderly.{AreOrderly, ReleasesRegistered}
 use Rattle.tss_phases.proofs.Tests.{something, not_both}
-use Rattle.tss_phases.proofs.ReleaseEvent.{version_released, versions_released, sent_by_release, release_tells, release_tells_head, release_sends_here, phase_of-release, phase_of-release-other}
+use Rattle.tss_phases.proofs.ReleaseEvent.{version_released, sent_by_release, release_tells, release_tells_head, release_sends_here, phase_of-release, phase_of-release-other}
 use Rattle.tss_locality.specs.Rounds.{IsRounded}
 use Rattle.tss_locality.proofs.LeftFields.{Leaves-after_event}
 use Rattle.tss_laws.specs.Members.{operand_among, IsOn}
@@ -31,9 +31,9 @@ use Rattle.tss_laws.specs.Chains.{HasChains}
 use Rattle.tss_laws.specs.Readers.{Arrivals, Has, oldest_of, head_of, has_arrived, AreNeighbours, HasArrivals, HasReaders}
 use Rattle.tss_laws.specs.Holders.{IsOwnOrRead, HasHolders}
 use Rattle.tss_laws.proofs.ReleaseFacts.{Releases, releases_facts}
-use Rattle.tss_laws.proofs.ReadersLists.{newest_of, IsNext, has_older, has_newer, has_oldest, none_before_oldest, chained_at, chained_by, newest_at, newest_by}
+use Rattle.tss_laws.proofs.ReadersLists.{IsNext, has_older, has_newer, has_oldest, none_before_oldest, chained_at, chained_by, newest_at, newest_by}
 use Rattle.tss_laws.proofs.ReadersCounts.{same_released, same_tail}
-use Rattle.tss_laws.proofs.ReadersKept.{alike_same, waited, still_waits, neighbours_kept, arrival_kept}
+use Rattle.tss_laws.proofs.ReadersKept.{alike_same, still_waits, neighbours_kept, arrival_kept}
 use Rattle.tss_laws.proofs.ReadersWakes.{waiting_told, neighbours_woken}
 use Rattle.tss_laws.proofs.ReadersReady.{told_not_waiting}
 use Rattle.tss_laws.proofs.ReadersLinks.{links-release}

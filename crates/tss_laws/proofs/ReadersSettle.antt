@@ -1,6 +1,6 @@
 -- What a settle leaves to the readers of versions: it removes versions alone that as many have released as it was to
 -- have, and changes nothing in the others that readers make.
-use Rattle.std.proofs.Common.{◌≡◌, ◌≢◌, ◌⊎◌, inl, inr, ℕ, zero, suc, Bool, true, false, Option, Some, None, refl, sym, ap, ◌∙◌, subst, arith}
+use Rattle.std.proofs.Common.{◌≡◌, ◌⊎◌, inl, inr, ℕ, zero, suc, Bool, true, false, Option, Some, None, refl, sym, ap, ◌∙◌, subst, arith}
 use Rattle.std.specs.Prelude.{option_map, ◌&&◌, ◌==◌, is_none, if◌then◌else◌}
 use Rattle.std.proofs.lemmas.Bool.Decides.{nat_tests}
 use Rattle.std.proofs.lemmas.Option.{none-some, same_Some}
@@ -13,7 +13,7 @@ use Rattle.tss_base.specs.Names.{Named}
 use Rattle.tss_maps.proofs.Keys.{name_order, decide_key}
 use Rattle.tss_maps.proofs.Changes.{from_inserted, from_removed, at_inserted, beside_inserted, beside_removed}
 use Rattle.tss_protocol.specs.State.{Version}
-use Rattle.tss_protocol.specs.Versions.{Settling, Versioned, put_version, drop_version, version_changed, change_version, change_named, may_die, may_ask, followed_by, unlinked, settle_asking, settle_how, settle_by, settle_at, settle, unchanged}
+use Rattle.tss_protocol.specs.Versions.{Settling, put_version, drop_version, version_changed, change_version, change_named, may_die, may_ask, followed_by, unlinked, settle_asking, settle_how, settle_by, settle_at, settle, unchanged}
 use Rattle.tss_phases.proofs.Tests.{both}
 use Rattle.tss_laws.proofs.ReadersKept.{SameForReaders, same_version}
 

@@ -1,11 +1,9 @@
 -- Readers after events that settle a version: a nack, and what the others share with it.
-use Rattle.std.proofs.Common.{◌≡◌, ◌≢◌, ◌⊎◌, inl, inr, ℕ, suc, ◌+◌, ◌≤◌, Bool, true, false, List, Option, Some, None, refl, sym, ap, ◌∙◌, subst, arith}
+use Rattle.std.proofs.Common.{◌≡◌, inl, inr, ℕ, suc, ◌+◌, ◌≤◌, Bool, true, false, List, Option, Some, None, refl, sym, ap, ◌∙◌, subst, arith}
 use Rattle.std.specs.Prelude.{is_some}
-use Rattle.std.specs.FinMap.{get, insert, len}
-use Rattle.std.proofs.lemmas.Option.{none-some, same_Some}
+use Rattle.std.specs.FinMap.{get, len}
+use Rattle.std.proofs.lemmas.Option.{same_Some}
 use Rattle.tss_base.specs.declared.operand.OpName.{OpName}
-use Rattle.tss_base.specs.declared.operand.Mode.TheVariants.{Input}
-use Rattle.tss_base.specs.declared.operand.Operand.{Operand}
 use Rattle.tss_base.specs.declared.operand.Task.{Task}
 use Rattle.tss_base.specs.declared.machine.Machine.{Machine}
 use Rattle.tss_base.specs.declared.event.Event.TheVariants as event
@@ -15,24 +13,23 @@ use Rattle.tss_maps.proofs.Keys.{name_order}
 use Rattle.tss_maps.proofs.Changes.{from_inserted, still_inserted}
 use Rattle.tss_protocol.specs.State.{State, Version}
 use Rattle.tss_protocol.specs.Stations.{operand_at}
-use Rattle.tss_protocol.specs.Versions.{put_version, settle, settled, refused_once, nacked_at, after_nack}
+use Rattle.tss_protocol.specs.Versions.{put_version, settled, refused_once, nacked_at, after_nack}
 use Rattle.tss_protocol.specs.UnitMachine.{IsEnabled, is_enabled, after_event}
 use Rattle.tss_phases.specs.Phase.{phase_of}
 use Rattle.tss_phases.specs.Told.{tells, phase_told}
 use Rattle.tss_phases.specs.Settling.{SettleTells}
 use Rattle.tss_phases.specs.Orderly.{TellWaiting}
-use Rattle.tss_phases.proofs.Tests.{something}
 use Rattle.tss_phases.proofs.NackEvent.{nack_tells, phase_of-nack}
 use Rattle.tss_locality.proofs.LeftFields.{Leaves-after_event}
-use Rattle.tss_laws.specs.Members.{registered_of, opening_reader, uses_of, total, operand_among, IsOn}
+use Rattle.tss_laws.specs.Members.{registered_of, opening_reader, uses_of, total}
 use Rattle.tss_laws.specs.Chains.{HasChains}
 use Rattle.tss_laws.specs.Entries.{HasRetirement}
 use Rattle.tss_laws.specs.Asking.{HasAsking}
-use Rattle.tss_laws.specs.Readers.{Arrivals, Has, Holds, HasReaders}
-use Rattle.tss_laws.proofs.ReadersKept.{SameReader, SameForReaders, LooksAlike, alike_same, same_version}
-use Rattle.tss_laws.proofs.ReadersStates.{KeepsReaders, readers_kept, StaysOrGone, readers_fewer}
+use Rattle.tss_laws.specs.Readers.{Arrivals, Has, HasReaders}
+use Rattle.tss_laws.proofs.ReadersKept.{SameForReaders, LooksAlike, alike_same, same_version}
+use Rattle.tss_laws.proofs.ReadersStates.{KeepsReaders, readers_kept, readers_fewer}
 use Rattle.tss_laws.proofs.ReadersLinks.{links-nack}
-use Rattle.tss_laws.proofs.ReadersSettle.{IsDone, Thins, thins_settle}
+use Rattle.tss_laws.proofs.ReadersSettle.{Thins, thins_settle}
 use Rattle.tss_laws.proofs.ReadersTold.{FollowsOver, StandsBeside, settle_tells_over, IsTaker, taker_writes, followed_by_takers, with_storage_beside, produced_has_storage}
 
 -- ---- a settle

@@ -1,42 +1,34 @@
 -- Decode, take, finish and bye change no version and no link of a reader that has come.
-use Rattle.std.proofs.Common.{◌≡◌, ◌≢◌, ◌⊎◌, inl, inr, ℕ, Bool, true, false, List, Option, Some, None, refl, sym, ap, ◌∙◌, subst}
-use Rattle.std.specs.Prelude.{is_some, slice_get, option_map, ◌&&◌, not}
+use Rattle.std.proofs.Common.{◌≡◌, ◌≢◌, inl, inr, Bool, true, false, List, Option, Some, None, refl, sym, ap, ◌∙◌, subst}
+use Rattle.std.specs.Prelude.{slice_get, option_map}
 use Rattle.std.specs.FinMap.{get}
 use Rattle.std.proofs.lemmas.Option.{none-some, same_Some}
 use Rattle.tss_base.specs.declared.operand.OpName.{OpName}
 use Rattle.tss_base.specs.declared.operand.Operand.{Operand}
 use Rattle.tss_base.specs.declared.operand.Task.{Task}
 use Rattle.tss_base.specs.declared.machine.Machine.{Machine}
-use Rattle.tss_base.specs.declared.event.Event.{Event}
 use Rattle.tss_base.specs.declared.event.Event.TheVariants as event
-use Rattle.tss_base.specs.declared.event.Farewell.TheVariants as farewell
 use Rattle.tss_base.specs.declared.event.LinkState.TheVariants as link
 use Rattle.tss_maps.proofs.Keys.{nat_order, name_order, decide_key}
 use Rattle.tss_model.specs.Access.{operands_of}
-use Rattle.tss_protocol.specs.State.{State, OperandState, Flying, Busy, Version}
-use Rattle.tss_protocol.specs.Stations.{operand_at, new_operand, entered, flight_after_take, has_passed, remaining_tasks}
-use Rattle.tss_protocol.specs.Workers.{can_finish}
+use Rattle.tss_protocol.specs.State.{State, OperandState}
+use Rattle.tss_protocol.specs.Stations.{operand_at, new_operand, entered, flight_after_take}
 use Rattle.tss_protocol.specs.UnitMachine.{IsEnabled, is_enabled, after_event, after_take, can_decode_message}
-use Rattle.tss_phases.specs.Phase.{Phase, Ahead, Decoding, Sent, Ready, Releasing, Leaving, look_ups, phase_of, is_ahead}
+use Rattle.tss_phases.specs.Phase.{Phase, Decoding, Sent, Ready, Releasing, Leaving, look_ups, phase_of}
 use Rattle.tss_phases.specs.Leaving.{phase_parted}
-use Rattle.tss_phases.specs.Orderly.{AreOrderly, TakesSpawned, FinishesReady}
+use Rattle.tss_phases.specs.Orderly.{AreOrderly, TakesSpawned}
 use Rattle.tss_phases.proofs.Tests.{something, not_both}
-use Rattle.tss_phases.proofs.Records.{operand_in, record_beside_put}
-use Rattle.tss_phases.proofs.LeavingTasks.{remaining_beside}
-use Rattle.tss_phases.proofs.OrderlyLemmas.{ahead_by_test, taken_by_record, leaving_stands}
+use Rattle.tss_phases.proofs.Records.{record_beside_put}
+use Rattle.tss_phases.proofs.OrderlyLemmas.{ahead_by_test}
 use Rattle.tss_phases.proofs.OrderlyDecode.{new_record}
 use Rattle.tss_phases.proofs.DecodeEvent.{decoding_before, phase_of-decode, phase_of-decode-other}
-use Rattle.tss_phases.proofs.TakeEvent.{inbox_is_ahead, look_ups-take, phase_of-take-other}
-use Rattle.tss_phases.proofs.FinishEvent.{finished_task, flight-finish, phase_of-finish, phase_of-finish-other}
-use Rattle.tss_phases.proofs.ByeEvent.{parted_task, parted_record, parted_record_other, flight-bye, leaving_before, phase_of-bye, phase_of-bye-other}
+use Rattle.tss_phases.proofs.TakeEvent.{inbox_is_ahead, phase_of-take-other}
 use Rattle.tss_locality.proofs.LeftFields.{Leaves-after_event}
 use Rattle.tss_laws.specs.Members.{operand_among}
-use Rattle.tss_laws.specs.Readers.{Arrivals, Has, Holds, HasReaders, has_arrived}
-use Rattle.tss_laws.specs.Holders.{HasHolders}
+use Rattle.tss_laws.specs.Readers.{Arrivals, Holds, HasReaders, has_arrived}
 use Rattle.tss_laws.proofs.ReadersKept.{SameReader, LooksAlike, alike_same, same_version}
-use Rattle.tss_laws.proofs.ReadersStates.{nothing_held, KeepsReaders, readers_kept}
-use Rattle.tss_laws.proofs.ReadersLinks.{links-decode, links-take, links-finish, links-bye}
-use Rattle.tss_laws.proofs.ReadersStations.{IsEarly, held_early, early_record, record_from_remaining, record_stays}
+use Rattle.tss_laws.proofs.ReadersStates.{nothing_held, readers_kept}
+use Rattle.tss_laws.proofs.ReadersLinks.{links-decode, links-take}
 
 -- ---- phases that look alike
 

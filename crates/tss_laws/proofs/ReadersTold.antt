@@ -1,26 +1,25 @@
 -- Whom a settle tells is a writer: a version that is followed over is followed by an inout's.
-use Rattle.std.proofs.Common.{◌≡◌, ◌≢◌, ◌⊎◌, inl, inr, ℕ, Bool, true, false, List, Option, Some, None, refl, sym, ap, ◌∙◌, subst}
+use Rattle.std.proofs.Common.{◌≡◌, ◌≢◌, ◌⊎◌, inl, inr, ℕ, true, List, Option, Some, None, refl, sym, ap, ◌∙◌, subst}
 use Rattle.std.specs.Prelude.{◌&&◌, ◌==◌, is_none}
-use Rattle.std.specs.FinMap.{get, insert}
+use Rattle.std.specs.FinMap.{get}
 use Rattle.std.proofs.lemmas.Option.{none-some, same_Some}
 use Rattle.tss_base.specs.declared.range.Range.{Range}
 use Rattle.tss_base.specs.declared.operand.OpName.{OpName}
 use Rattle.tss_base.specs.declared.operand.Mode.{Mode}
-use Rattle.tss_base.specs.declared.operand.Mode.TheVariants.{Input, Output, Inout}
+use Rattle.tss_base.specs.declared.operand.Mode.TheVariants.{Input, Inout}
 use Rattle.tss_base.specs.declared.operand.Operand.{Operand}
 use Rattle.tss_base.specs.declared.operand.Task.{Task}
-use Rattle.tss_base.specs.declared.event.How.{How}
 use Rattle.tss_base.specs.declared.event.How.TheVariants.{Beside, Over}
 use Rattle.tss_base.specs.declared.event.Follow.{Follow}
 use Rattle.tss_base.specs.Names.{Named}
 use Rattle.tss_maps.proofs.Keys.{name_order}
 use Rattle.tss_maps.proofs.Changes.{from_inserted, from_removed}
 use Rattle.tss_protocol.specs.State.{State, Version}
-use Rattle.tss_protocol.specs.Versions.{drop_version, version_changed, change_version, change_named, may_die, followed_by, unlinked}
-use Rattle.tss_phases.specs.Settling.{GivesWay, TakesOver, SettleTells}
+use Rattle.tss_protocol.specs.Versions.{drop_version, version_changed, change_version, change_named, followed_by, unlinked}
+use Rattle.tss_phases.specs.Settling.{GivesWay, SettleTells}
 use Rattle.tss_phases.proofs.SettlingLemmas.{settle_tells_by}
 use Rattle.tss_phases.proofs.Tests.{both, not_both}
-use Rattle.tss_laws.specs.Members.{operand_among, IsOn}
+use Rattle.tss_laws.specs.Members.{IsOn}
 use Rattle.tss_laws.specs.Chains.{HasChains}
 use Rattle.tss_laws.proofs.SettleCases.{at_changed}
 
@@ -87,45 +86,38 @@ module _ (vs : Named Version) (v : OpName) (x : Version) (s : OpName) where
     successor : (y.successor ≡ version.successor)
         ⊎ ((x.predecessor ≡ Some q) × (y.successor ≡ followed_by s version.successor))
 
+  abbrev bridge : Version → Version
+  bridge q = record q { successor = followed_by s q.successor }
+
+  abbrev moved : Version → Version
+  moved y = record y { predecessor = x.predecessor }
+
+  abbrev bridged : Named Version
+  bridged = change_named (drop_version vs v) x.predecessor bridge
+
+  same_successor : (a y : Version) (q : OpName) → IsChanged moved s q a y → y.successor ≡ a.successor
+  same_successor a y q (inl i) = ap (λ (y : Version). y.successor) i
+  same_successor a y q (inr p) = ap (λ (y : Version). y.successor) p.1
+
+  linked_by : (q : OpName) (a b y : Version) → get vs q ≡ Some b → y.successor ≡ a.successor
+      → IsNamedChange bridge x.predecessor q b a → WasLinked q y
+  linked_by q a b y there same (inl i) =
+      record { version = b; there = there; successor = inl (same ∙ ap (λ (y : Version). y.successor) i) }
+  linked_by q a b y there same (inr p) =
+      record { version = b; there = there; successor = inr (p.0, same ∙ ap (λ (y : Version). y.successor) p.1) }
+
   was_linked : (q : OpName) (y : Version) → get (unlinked vs v x s) q ≡ Some y → WasLinked q y
   was_linked q y e =
-      let bridge : Version → Version = λ q. record q { successor = followed_by s q.successor } in
-      let h = from_changed (change_named (drop_version vs v) x.predecessor bridge) s
-      (λ y. record y { predecessor = x.predecessor }) q y e in
+      let h = from_changed bridged s moved q y e in
       let k = from_named (drop_version vs v) x.predecessor bridge q h.0 h.1 in
-      let same : y.successor ≡ h.0.successor = elim h.2 [
-        | inl i ↦ ap (λ (y : Version). y.successor) i
-        | inr p ↦ ap (λ (y : Version). y.successor) p.1
-      ] in record {
-        version = k.0;
-        there = (from_removed name_order vs v q k.0 k.1).1;
-        successor = elim k.2 [
-          | inl i ↦ inl (same ∙ ap (λ (y : Version). y.successor) i)
-          | inr p ↦ inr (p.0, same ∙ ap (λ (y : Version). y.successor) p.1)
-        ];
-      }
+      linked_by q h.0 k.0 y (from_removed name_order vs v q k.0 k.1).1 (same_successor h.0 y q h.2) k.2
 
   moved_behind : (y : Version) → get (unlinked vs v x s) s ≡ Some y → (q : OpName) → y.predecessor ≡ Some q
       → StandsBeside vs x → (z : Version) (f : Follow) → get vs q ≡ Some z → z.successor ≡ Some f → f.how ≢ Over
-  moved_behind y e q back beside = by h.2
-    where
-      bridge : Version → Version
-      bridge q = record q { successor = followed_by s q.successor }
-
-      ws : Named Version
-      ws = change_named (drop_version vs v) x.predecessor bridge
-
-      h : (z : Version) × (get ws s ≡ Some z) × IsChanged (λ y. record y { predecessor = x.predecessor }) s s z y
-      h = from_changed ws s (λ y. record y { predecessor = x.predecessor }) s y e
-
-      changed : y ≡ record (h.0) { predecessor = x.predecessor }
-      changed =
-          same_Some y (record (h.0) { predecessor = x.predecessor })
-          (sym e ∙ at_changed (λ y. record y { predecessor = x.predecessor }) ws s h.0 h.1)
-
-      by : IsChanged (λ y. record y { predecessor = x.predecessor }) s s h.0 y → (z : Version) (f : Follow)
-          → get vs q ≡ Some z → z.successor ≡ Some f → f.how ≢ Over
-      by c z f = beside q z f (sym (ap (λ (y : Version). y.predecessor) changed) ∙ back)
+  moved_behind y e q back beside z f =
+      let h = from_changed bridged s moved s y e in
+      let changed = same_Some y (moved (h.0)) (sym e ∙ at_changed moved bridged s h.0 h.1) in
+      beside q z f (sym (ap (λ (y : Version). y.predecessor) changed) ∙ back)
 
 -- ---- a settle that goes on
 

@@ -1,12 +1,9 @@
 -- Readers after a use: its operand comes to the version as the newest reader.
-use Rattle.std.proofs.Common.{◌≡◌, ◌≢◌, ◌⊎◌, inl, inr, ℕ, suc, ◌<◌, Bool, true, false, cond, List, [], ◌∷◌, Option, Some, None, refl, sym, ap, ◌∙◌, subst, arith}
+use Rattle.std.proofs.Common.{◌≡◌, ◌≢◌, ◌⊎◌, inl, inr, ℕ, suc, ◌<◌, Bool, true, false, cond, List, ◌∷◌, Option, Some, None, refl, sym, ap, ◌∙◌, subst, arith}
 use Rattle.std.specs.Prelude.{is_some}
-use Rattle.std.specs.FinMap.{get, insert, contains_key}
+use Rattle.std.specs.FinMap.{get, contains_key}
 use Rattle.std.proofs.lemmas.Option.{none-some, same_Some}
-use Rattle.tss_base.specs.declared.range.Range.{Range}
 use Rattle.tss_base.specs.declared.operand.OpName.{OpName}
-use Rattle.tss_base.specs.declared.operand.Mode.TheVariants.{Input}
-use Rattle.tss_base.specs.declared.operand.Operand.{Operand}
 use Rattle.tss_base.specs.declared.operand.Task.{Task}
 use Rattle.tss_base.specs.declared.machine.Machine.{Machine}
 use Rattle.tss_base.specs.declared.event.Event.TheVariants as event
@@ -15,8 +12,7 @@ use Rattle.tss_base.specs.declared.event.LinkState.TheVariants as link
 use Rattle.tss_base.specs.Names.{Named}
 use Rattle.tss_maps.proofs.Keys.{name_order, decide_key}
 use Rattle.tss_maps.proofs.Changes.{from_inserted, still_inserted, at_inserted, beside_inserted}
-use Rattle.tss_protocol.specs.Names.{same_name}
-use Rattle.tss_protocol.specs.Mail.{StorageName, Message, posted_all}
+use Rattle.tss_protocol.specs.Mail.{StorageName, posted_all}
 use Rattle.tss_protocol.specs.State.{State, OperandState, Version}
 use Rattle.tss_protocol.specs.Stations.{operand_at}
 use Rattle.tss_protocol.specs.Versions.{Versioned, put_version, enlisted, used_alone, used_behind, used_at, after_use}
@@ -30,27 +26,18 @@ use Rattle.tss_phases.proofs.PhaseLemmas.{phase_using}
 use Rattle.tss_phases.proofs.OrderlyLemmas.{using_stands}
 use Rattle.tss_phases.proofs.UseEvent.{use_tells, use_tells_reader, phase_of-use, phase_of-use-other}
 use Rattle.tss_locality.proofs.LeftFields.{Leaves-after_event}
-use Rattle.tss_laws.specs.Members.{operand_among, IsOn, IsWriterOn, IsMember}
+use Rattle.tss_laws.specs.Members.{IsWriterOn}
 use Rattle.tss_laws.specs.Chains.{IsUseInOrder, HasChains}
 use Rattle.tss_laws.specs.Openings.{HasOpenings}
-use Rattle.tss_laws.specs.Readers.{Arrivals, set_arrivals, arrivals_used, arrivals_after_event, Has, has_arrived, IsArrival, Holds, IsLinking, HasArrivals, HasReaders}
+use Rattle.tss_laws.specs.Readers.{Arrivals, set_arrivals, arrivals_used, arrivals_after_event, Has, has_arrived, IsArrival, IsLinking, HasArrivals, HasReaders}
 use Rattle.tss_laws.specs.Holders.{link_fits, HasHolders}
 use Rattle.tss_laws.proofs.ReadersLists.{has_newest}
-use Rattle.tss_laws.proofs.ReadersKept.{SameReader, alike_same, same_version, arrivals_kept}
+use Rattle.tss_laws.proofs.ReadersKept.{alike_same, same_version, arrivals_kept}
 use Rattle.tss_laws.proofs.ReadersLinks.{links_kept, ready_with-no_link}
 use Rattle.tss_laws.proofs.ReadersSettled.{fails}
 use Rattle.tss_laws.proofs.ReadersTold.{produced_has_storage}
-use Rattle.tss_laws.proofs.ReadersReady.{told_not_waiting}
+use Rattle.tss_laws.proofs.ReadersCome.{Comes, readers_come}
 use Rattle.tss_laws.proofs.ReadersEnlisted.{Enlists, tail_is_newest, enlisted_told, enlisted_head, enlisted_behind}
-
--- ---- the lists of readers
-
--- at the version and at others
-pub at_set : (g : Arrivals) (v : OpName) (xs : List OpName) → set_arrivals g v xs v ≡ xs
-at_set g v xs = ap (λ b. cond b xs (g v)) (own_name v)
-
-pub beside_set : (g : Arrivals) (v w : OpName) (xs : List OpName) → w ≢ v → set_arrivals g v xs w ≡ g w
-beside_set g v w xs apart = ap (λ b. cond b xs (g w)) (other_name w v apart)
 
 -- a link that fits an operand whose use or open is under way is none
 pub sent_link : (p : Phase) (l : LinkState) → p ≡ Sent → link_fits p l ≡ true → l ≡ link.Nothing
@@ -257,94 +244,21 @@ module _ (m : Machine) (all ts : List Task) (g : Arrivals) (S : State) (h : HasR
 
   -- ---- all readers
 
-  module _ (l : Left) where
-    grows : (w a : OpName) → Has a (g w) → Has a (New w)
-    grows w a k = elim (decide_key name_order w v) [
-      | inl same ↦ subst (Has a) (sym (ap New same ∙ at_set g v (o ∷ g v))) (inr (subst (λ w. Has a (g w)) same k))
-      | inr apart ↦ subst (Has a) (sym (beside_set g v w (o ∷ g v) apart)) k
-    ]
-
-    came_by : (w a : OpName) → w ≡ v → Has a (o ∷ g v) → ((w ≡ v) × (o ≡ a)) ⊎ Has a (g w)
-    came_by w a same (inl e) = inl (same, e)
-    came_by w a same (inr k) = inr (subst (λ w. Has a (g w)) (sym same) k)
-
-    came : (w a : OpName) → Has a (New w) → ((w ≡ v) × (o ≡ a)) ⊎ Has a (g w)
-    came w a k = elim (decide_key name_order w v) [
-      | inl same ↦ came_by w a same (subst (Has a) (ap New same ∙ at_set g v (o ∷ g v)) k)
-      | inr apart ↦ inr (subst (Has a) (beside_set g v w (o ∷ g v) apart) k)
-    ]
-
-    was : (w : OpName) (y : Version) → get After.versions w ≡ Some y
-        → ((w ≡ v) × (y ≡ l.version)) ⊎ ((w ≢ v) × (get S.versions w ≡ Some y))
-    was w y e = from_inserted name_order S.versions v l.version w y (sym (ap (λ vs. get vs w) l.versions) ∙ e)
-
-    before : (w : OpName) (y : Version) → get After.versions w ≡ Some y → (z : Version) × (get S.versions w ≡ Some z)
-    before w y e = elim (was w y e) [
-      | inl p ↦ (x, ap (get S.versions) p.0 ∙ at)
-      | inr p ↦ (y, p.1)
-    ]
-
-    abbrev HasComeNow : OpName → Type 0
-    HasComeNow a = (w : OpName) × (y : Version) × (get After.versions w ≡ Some y) × Has a (New w)
-
-    now_there : (a w : OpName) (y : Version) → get S.versions w ≡ Some y → Has a (g w) → HasComeNow a
-    now_there a w y e k =
-        let s = still_inserted name_order S.versions v l.version w y e in
-        (w, s.0, ap (λ vs. get vs w) l.versions ∙ s.1, grows w a k)
-
-    others_kept : (w : OpName) (y : Version) → w ≢ v → get S.versions w ≡ Some y → HasArrivals ts (g w) After w y
-    others_kept w y apart e =
-        arrivals_kept ts (g w) S After w y y (same_version y y refl) (λ a k. record {
-          phase = alike_same (phase_of S a) (phase_of After a) (others a (reader_apart w y a e k));
-          links = l.links a (λ q. apart (h.apart w v a y x e at k q));
-          holds = λ c q. (q.0, stations a ∙ q.1, q.2);
-          station = λ r i. (r, sym (stations a) ∙ i, refl);
-        }) (h.versions w y e)
-
-    each_version : (w : OpName) (y : Version) → get After.versions w ≡ Some y → HasArrivals ts (New w) After w y
-    each_version w y e = elim (was w y e) [
-      | inl p ↦
-          subst (λ xs. HasArrivals ts xs After w y) (sym (ap New p.0 ∙ at_set g v (o ∷ g v)))
-          (subst (λ w. HasArrivals ts (o ∷ g v) After w y) (sym p.0)
-          (subst (HasArrivals ts (o ∷ g v) After v) (sym p.1) l.readers))
-      | inr p ↦
-          subst (λ xs. HasArrivals ts xs After w y) (sym (beside_set g v w (o ∷ g v) p.0)) (others_kept w y p.0 p.1)
-    ]
-
-    not_elsewhere : (w a : OpName) (y : Version) → get After.versions w ≡ Some y → o ≡ a → Has a (g w) → ⊥
-    not_elsewhere w a y e same k =
-        let b = before w y e in
-        fresh w b.0 b.1 (subst (λ a. Has a (g w)) (sym same) k)
-
-    apart_now : (w u a : OpName) (y z : Version) → get After.versions w ≡ Some y → get After.versions u ≡ Some z
-        → Has a (New w) → Has a (New u) → w ≡ u
-    apart_now w u a y z e f k q = elim (came w a k) [
-      | inl p ↦ elim (came u a q) [
-        | inl r ↦ p.0 ∙ sym r.0
-        | inr r ↦ absurd (not_elsewhere u a z f p.1 r)
-      ]
-      | inr p ↦ elim (came u a q) [
-        | inl r ↦ absurd (not_elsewhere w a y e r.1 p)
-        | inr r ↦
-            let b = before w y e in
-            let c = before u z f in
-            h.apart w u a b.0 c.0 b.1 c.1 p r
-      ]
-    ]
-
-    readers_used : HasReaders ts New After
-    readers_used = record {
-      versions = each_version;
-      apart = apart_now;
-      links = λ a b e. elim (l.linked a b e) [
-        | inl k ↦ let f = h.links a b k in now_there a f.0 f.1 f.2 f.3
-        | inr k ↦ now_there a v x at k
-      ];
-      held = λ a b q. let f = h.held a b (q.0, sym (stations a) ∙ q.1, q.2) in now_there a f.0 f.1 f.2 f.3;
-    }
+  comes : Left → Comes ts g S After o v x
+  comes l = record {
+    version = l.version;
+    at = at;
+    versions = l.versions;
+    readers = l.readers;
+    links = l.links;
+    linked = l.linked;
+    unread = fresh;
+    same = others;
+    station = stations;
+  }
 
   readers_after_use : HasReaders ts New After
-  readers_after_use = readers_used (left_by x.tail refl)
+  readers_after_use = readers_come ts g S After o v x h (comes (left_by x.tail refl))
 
 -- a version passes the test where it is registered
 pub registered_by_test : (vs : Named Version) (v : OpName) → contains_key vs v ≡ true → (x : Version) × (get vs v ≡ Some x)

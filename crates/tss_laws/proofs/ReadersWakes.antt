@@ -1,5 +1,5 @@
 -- A reader goes on, and the one that came right after it may be told: what that leaves of all readers.
-use Rattle.std.proofs.Common.{◌≡◌, ◌≢◌, ◌⊎◌, inl, inr, Bool, true, false, List, Option, Some, None, refl, sym, ap, ◌∙◌, subst}
+use Rattle.std.proofs.Common.{◌≡◌, ◌≢◌, ◌⊎◌, inl, inr, Bool, true, false, List, Some, refl, sym, ap, ◌∙◌, subst}
 use Rattle.std.specs.FinMap.{get}
 use Rattle.tss_base.specs.declared.operand.OpName.{OpName}
 use Rattle.tss_base.specs.declared.operand.Operand.{Operand}
@@ -11,10 +11,10 @@ use Rattle.tss_phases.specs.Phase.{Phase, Waiting, Told, phase_of, has_released}
 use Rattle.tss_phases.specs.Openers.{is_waiting}
 use Rattle.tss_phases.proofs.Tests.{not_both}
 use Rattle.tss_laws.specs.Members.{operand_among}
-use Rattle.tss_laws.specs.Readers.{Arrivals, Has, AreOnce, oldest_of, has_arrived, IsArrival, Holds, IsLinking, AreNeighbours, IsNewest, HasArrivals, HasReaders}
-use Rattle.tss_laws.proofs.ReadersLists.{newest_of, IsNext, has_older, has_newer, has_oldest, has_newest, one_older, none_before_oldest, chained_at, chained_by, newest_at, newest_by}
+use Rattle.tss_laws.specs.Readers.{Arrivals, Has, oldest_of, has_arrived, Holds, IsLinking, AreNeighbours, IsNewest, HasArrivals, HasReaders}
+use Rattle.tss_laws.proofs.ReadersLists.{newest_of, IsNext, has_older, has_newer, has_oldest, one_older, none_before_oldest, chained_at, chained_by, newest_at, newest_by}
 use Rattle.tss_laws.proofs.ReadersCounts.{same_released, same_tail}
-use Rattle.tss_laws.proofs.ReadersKept.{waiting_from_test, SameReader, LooksAlike, waited, still_waits, neighbours_kept, newest_kept, arrival_kept}
+use Rattle.tss_laws.proofs.ReadersKept.{waiting_from_test, LooksAlike, waited, still_waits, neighbours_kept, arrival_kept}
 
 -- ---- the readers of one version
 

@@ -1,22 +1,21 @@
 -- A version is written, and its readers are known: all readers are in order. And readers after a release by a reader.
-use Rattle.std.proofs.Common.{◌≡◌, ◌≢◌, ◌⊎◌, inl, inr, ℕ, suc, Bool, true, false, cond, List, [], ◌∷◌, Option, Some, None, refl, sym, ap, ◌∙◌, subst}
+use Rattle.std.proofs.Common.{◌≡◌, ◌≢◌, ◌⊎◌, inl, inr, suc, Bool, true, false, cond, List, [], ◌∷◌, Some, None, refl, sym, ap, ◌∙◌, subst}
 use Rattle.std.specs.Prelude.{if◌then◌else◌}
-use Rattle.std.specs.FinMap.{get, insert}
-use Rattle.std.proofs.lemmas.Option.{none-some, same_Some}
+use Rattle.std.specs.FinMap.{get}
 use Rattle.tss_base.specs.declared.operand.OpName.{OpName}
 use Rattle.tss_base.specs.declared.operand.Task.{Task}
 use Rattle.tss_maps.proofs.Keys.{name_order, decide_key}
 use Rattle.tss_maps.proofs.Changes.{from_inserted, still_inserted}
 use Rattle.tss_protocol.specs.Names.{same_name}
-use Rattle.tss_protocol.specs.State.{State, OperandState, Version}
+use Rattle.tss_protocol.specs.State.{State, Version}
 use Rattle.tss_protocol.specs.Stations.{operand_at}
-use Rattle.tss_protocol.specs.Versions.{put_version, is_last, tail_without, released_once}
+use Rattle.tss_protocol.specs.Versions.{put_version, tail_without, released_once}
 use Rattle.tss_phases.specs.Phase.{Phase, Waiting, Told, Releasing, Leaving, phase_of, has_released}
 use Rattle.tss_phases.specs.Openers.{is_waiting}
 use Rattle.tss_phases.proofs.Received.{own_name, other_name}
 use Rattle.tss_phases.proofs.Tests.{not_both}
-use Rattle.tss_laws.specs.Readers.{Arrivals, Has, AreOnce, oldest_of, head_of, tail_of, has_arrived, Holds, IsLinking, AreNeighbours, IsNewest, HasArrivals, HasReaders}
-use Rattle.tss_laws.proofs.ReadersLists.{newest_of, IsNext, has_older, has_newer, has_oldest, has_newest, chained_at, chained_by, newest_at, newest_by}
+use Rattle.tss_laws.specs.Readers.{Arrivals, Has, tail_of, has_arrived, Holds, IsLinking, AreNeighbours, IsNewest, HasArrivals, HasReaders}
+use Rattle.tss_laws.proofs.ReadersLists.{IsNext, has_older, has_newer, has_oldest, chained_at, chained_by, newest_at, newest_by}
 use Rattle.tss_laws.proofs.ReadersCounts.{one_more_released}
 use Rattle.tss_laws.proofs.ReadersKept.{SameReader, LooksAlike, alike_same, waited, still_waits, neighbours_kept, arrival_kept, same_version, arrivals_kept}
 

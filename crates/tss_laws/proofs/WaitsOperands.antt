@@ -69,7 +69,10 @@ module _ (m : Machine) (all ts : List Task) (g : Arrivals) (S : State) (ground :
       by p at object true e = e
       by p at object false e =
           absurd (true≢false (sym (produced_by_input v y there (record {
-            operand = p; there = at; object = object; is_mode = input_of p.mode e;
+            operand = p;
+            there = at;
+            object = object;
+            is_mode = input_of p.mode e;
           })) ∙ unmade))
 
   -- and its opener hasn't released it
@@ -176,7 +179,7 @@ module _ (m : Machine) (all ts : List Task) (g : Arrivals) (S : State) (ground :
         let z = same_Some over.1 after.version (sym over.4 ∙ after.there) in
         let f = same_Some over.2 after.follow (sym over.5 ∙ ap (λ (y : Version). y.successor) z ∙ after.link) in
         let alone = (control.chains.storages over.0 after.version after.there).alone after.follow after.link
-            (ap (λ (f : Follow). f.how) (sym f) ∙ over.6) in
+        (ap (λ (f : Follow). f.how) (sym f) ∙ over.6) in
         over_by (ap (λ (p : Operand). p.mode) (sym same) ∙ inout.is_mode) over.0 after.version after.follow after.there
         after.link object after.older (subst (λ b. NoWriterBetween ts after.version.object over.0 b) after.back alone)
         after.version.produced refl

@@ -41,7 +41,7 @@ module _ (m : Machine) (ts : List Task) (S : State) (round : IsRounded S ts) (ri
   rising_by_spawn (Err n) e = subst AreRising (sym (append-nil ts)) rise
   rising_by_spawn (Ok t) e =
       let number =
-          (IsNext-spawn_of (spawn_call S.main.registers) S.home S.main.epoch m.limits S.main.spawned t e).number in
+      (IsNext-spawn_of (spawn_call S.main.registers) S.home S.main.epoch m.limits S.main.spawned t e).number in
       rising_more ts t rise (λ k u at. let low = round.numbers k u at in omega (arith, number, low))
 
   rising_by_call : (c : Option Call) → AreRising (round_after_main m S ts c)

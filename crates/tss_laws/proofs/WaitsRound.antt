@@ -73,13 +73,16 @@ module _ (m : Machine) (all ts : List Task) (S : State) (ground : HasGroundwork 
       → (q : OpName) × IsWriterOn ts x q × (q.task ≡ t.number)
   writer_of x k t there wrote =
       let f = from_any (λ o. same_range o.object x && writes o.mode) (operands_of t) wrote in
-      let parts = and_parts (same_range f.1.object x) (writes f.1.mode) f.3 in
-      (operand_name t.number f.0, record {
-        operand = f.1;
-        there = among_tasks ts ground.round.one k t there f.0 f.1 f.2;
-        object = same_range-equal f.1.object x parts.0;
-        writer = parts.1;
-      }, refl)
+      let parts = and_parts (same_range f.1.object x) (writes f.1.mode) f.3 in (
+        operand_name t.number f.0,
+        record {
+          operand = f.1;
+          there = among_tasks ts ground.round.one k t there f.0 f.1 f.2;
+          object = same_range-equal f.1.object x parts.0;
+          writer = parts.1;
+        },
+        refl,
+      )
 
   -- the task of an operand that writes it
   wrote_at : (x : Range) (q : OpName) (w : IsWriterOn ts x q) (f : OperandFound ts q w.operand)
@@ -164,7 +167,7 @@ module _ (m : Machine) (all ts : List Task) (S : State) (ground : HasGroundwork 
           let number = arrival_task f.task q w.operand f.arrives in
           let early = in_earlier q w.operand f (omega (arith, before, own)) in
           let last = last_writer p.object no_users earlier early.0 f.task early.1 earlier_rise
-              (wrote_at p.object q w f) (none_since p.object q o w.operand f own alone) in
+          (wrote_at p.object q w f) (none_since p.object q o w.operand f own alone) in
           ap test number ∙ by p.mode refl (users_of p.object earlier) f.task.number last needs_pass
         where
           by : (a : Mode) → p.mode ≡ a → (u : Users) → (n : ℕ) → u.writer ≡ Some n
@@ -174,7 +177,7 @@ module _ (m : Machine) (all ts : List Task) (S : State) (ground : HasGroundwork 
           by Output e u n is h = absurd (reads e)
           by Inout e u n is h =
               let first = (and_parts (list_all test (option_to_list u.writer)) (list_all test u.readers)
-                  (sym (list_all-append test (option_to_list u.writer) u.readers) ∙ h)).0 in
+              (sym (list_all-append test (option_to_list u.writer) u.readers) ∙ h)).0 in
               (and_parts (test n) true (subst (λ w. list_all test (option_to_list w) ≡ true) is first)).0
 
       -- the readers since, before an inout
@@ -187,7 +190,7 @@ module _ (m : Machine) (all ts : List Task) (S : State) (ground : HasGroundwork 
           let u = users_of p.object earlier in
           let all = subst (λ a. list_all test (needs_by a u) ≡ true) inout needs_pass in
           let readers = (and_parts (list_all test (option_to_list u.writer)) (list_all test u.readers)
-              (sym (list_all-append test (option_to_list u.writer) u.readers) ∙ all)).1 in
+          (sym (list_all-append test (option_to_list u.writer) u.readers) ∙ all)).1 in
           ap test number
           ∙ last_reader p.object test no_users earlier early.0 f.task early.1 earlier_rise (unwritten_at p.object a on f)
           (read_at p.object a on f) (none_since p.object a o on.operand f own alone) readers

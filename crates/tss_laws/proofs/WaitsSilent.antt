@@ -196,7 +196,7 @@ module _ (m : Machine) (all ts : List Task) (g : Arrivals) (S : State) (ground :
       let flying = ground.numbers.flight q.task x there in
       let task = same_Some of.task x.task (sym of.spawned ∙ flying.task) in
       let k = from_mapped (λ (r : OperandState). r.operand) x.operands q.place p
-          (ap (λ rs. slice_get rs q.place) flying.operands ∙ ap (λ t. slice_get (operands_of t) q.place) (sym task) ∙ of.place) in
+      (ap (λ rs. slice_get rs q.place) flying.operands ∙ ap (λ t. slice_get (operands_of t) q.place) (sym task) ∙ of.place) in
       (k.0, ap (record_in q.place) there ∙ k.1)
 
   -- their operands have released their versions
@@ -275,7 +275,7 @@ module _ (m : Machine) (all ts : List Task) (g : Arrivals) (S : State) (ground :
       let last = ((control.chains.linked v y there).followed f next).last in
       let readers = control.readers.versions v y there in
       let same = readers.released ∙ released_all S (g v) released ∙ sym readers.registered
-          ∙ sym (last ∙ total_registered v y there) in
+      ∙ sym (last ∙ total_registered v y there) in
       true≢false (sym (and_from (y.produced && (y.released == f.last)) (is_none y.asked)
       (and_from y.produced (y.released == f.last) produced (eq-eqb y.released f.last same))
       (ap is_none (nobody_asks v y there)))

@@ -166,5 +166,5 @@ module _ (x : Range) where
         subst (λ r. ReadersPass (users_with u t.number false r)) (ap (has_read x) same ∙ read)
         (subst (λ w. ReadersPass (users_with u t.number w (has_read x t))) (ap (has_written x) same ∙ unwritten) rest) in
         let last = (and_parts (list_all test u.readers) (list_all test (t.number ∷ []))
-            (sym (list_all-append test u.readers (t.number ∷ [])) ∙ mine)).1 in
+        (sym (list_all-append test u.readers (t.number ∷ [])) ∙ mine)).1 in
         ap (λ (t : Task). test t.number) (sym same) ∙ (and_parts (test t.number) true last).0
