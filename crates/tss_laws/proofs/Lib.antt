@@ -196,3 +196,5 @@ pub mod EntriesRelease
 pub mod Values
 pub mod ProgressSettled
 pub mod EntriesRegistered
+pub mod BoundObjects
+pub mod BoundCopies
