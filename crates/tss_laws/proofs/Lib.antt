@@ -198,3 +198,5 @@ pub mod ProgressSettled
 pub mod EntriesRegistered
 pub mod BoundObjects
 pub mod BoundCopies
+pub mod BoundEvents
+pub mod BoundRuns
