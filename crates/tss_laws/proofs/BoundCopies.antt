@@ -1,6 +1,6 @@
 -- Retire and copy lower the measure: a version pays for its copies, and each piece is one.
-use Rattle.std.proofs.Common.{◌≡◌, ℕ, zero, suc, ◌+◌, ◌<◌, ◌≤◌, Bool, true, false, List, [], ◌∷◌, Option, Some, None, refl, sym, ap, ◌∙◌, arith}
-use Rattle.std.specs.Prelude.{◌-◌, ◌/◌, ◌&&◌, is_some, min, nat_le}
+use Rattle.std.proofs.Common.{◌≡◌, ℕ, suc, ◌+◌, ◌<◌, ◌≤◌, Bool, true, false, List, Option, Some, None, refl, ap, arith}
+use Rattle.std.specs.Prelude.{◌-◌, ◌/◌, is_some, min}
 use Rattle.std.specs.FinMap.{get}
 use Rattle.std.proofs.lemmas.Bool.{and_parts, leb-false}
 use Rattle.tss_base.specs.declared.operand.OpName.{OpName}
@@ -17,7 +17,7 @@ use Rattle.tss_protocol.specs.Counts.{pieces_of_object}
 use Rattle.tss_protocol.specs.UnitMachine.{IsEnabled, is_enabled, after_event, without, can_retire, retire_version, after_copy}
 use Rattle.tss_laws.specs.Chains.{HasChains}
 use Rattle.tss_laws.specs.Control.{KnowsRound}
-use Rattle.tss_laws.proofs.BoundMeasure.{messages_left, left_posted_all, version_left, versions_left, mail_left, copy_left, copies_left, took_retire, IsLowered}
+use Rattle.tss_laws.proofs.BoundMeasure.{messages_left, left_posted_all, copy_left, copies_left, took_retire, IsLowered}
 use Rattle.tss_laws.proofs.BoundSettle.{left_drop}
 use Rattle.tss_laws.proofs.BoundObjects.{HaveFitObjects}
 
@@ -58,6 +58,7 @@ module _ (m : Machine) (S : State) where
       let p = left_posted_all pieces S.mail (sent_by_copy x (is_last_piece x)) in
       omega (arith, less, p)
 
+  -- a copy moves one piece
   pub lowered_copy : (b : ℕ) → IsEnabled m S (event.Copy b) → IsLowered m S (after_event m S (event.Copy b))
   unfolding is_enabled after_event
   lowered_copy b on = copy_less b (get S.copies b) refl on

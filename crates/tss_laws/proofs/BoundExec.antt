@@ -1,6 +1,6 @@
 -- A worker's stretch lowers the measure: each of its steps completes an instruction, or traps, until its task is over.
-use Rattle.std.proofs.Common.{◌≡◌, ℕ, zero, suc, ◌+◌, ◌<◌, ◌≤◌, Bool, true, false, List, Option, Some, None, refl, sym, ap, subst, ◌∙◌, arith}
-use Rattle.std.specs.Prelude.{cond, ◌-◌, ◌==◌, ◌||◌, not, is_some, nat_le}
+use Rattle.std.proofs.Common.{◌≡◌, ℕ, zero, suc, ◌+◌, ◌<◌, ◌≤◌, Bool, true, false, List, Option, Some, None, refl, sym, ap, subst, arith}
+use Rattle.std.specs.Prelude.{cond, ◌-◌, ◌==◌, not, is_some, nat_le}
 use Rattle.std.specs.FinMap.{get}
 use Rattle.std.proofs.lemmas.Bool.{both_ways, or_parts, leb-false}
 use Rattle.tss_base.specs.declared.operand.Operand.{Operand}
@@ -19,7 +19,7 @@ use Rattle.tss_model.specs.Access.{TaskActor, Purpose, Touch, Granted, Denied, o
 use Rattle.tss_model.specs.Core.{Write, Stepped, Executed, Called, Ended, Trapped, Touched, core_step}
 use Rattle.tss_model.specs.TaskRun.{TaskState, repeated, is_over, task_byte, task_write, task_on, task_step}
 use Rattle.tss_protocol.specs.State.{State, Busy}
-use Rattle.tss_protocol.specs.Workers.{Stores, Placed, placed_in, worker_byte, worker_write, can_exec, has_ended, task_state_of, busy_after, exec_stretch}
+use Rattle.tss_protocol.specs.Workers.{placed_in, worker_byte, worker_write, can_exec, has_ended, task_state_of, busy_after, exec_stretch}
 use Rattle.tss_protocol.specs.UnitMachine.{IsEnabled, is_enabled, after_event, after_exec, stores_of}
 use Rattle.tss_laws.proofs.FlatCore.{IsStep, core_step-step}
 use Rattle.tss_laws.proofs.FlatTaskAlike.{task_step-over, task_step-spent, task_step-core}

@@ -1,5 +1,5 @@
 -- What is left of tasks in flight, where one of them changes, is queued, runs, finishes or leaves.
-use Rattle.std.proofs.Common.{◌≡◌, ℕ, zero, suc, ◌+◌, ◌*◌, ◌≤◌, Bool, true, false, List, [], ◌∷◌, ◌++◌, length, map, Option, Some, None, refl, sym, ap, ◌∙◌, arith}
+use Rattle.std.proofs.Common.{◌≡◌, ℕ, zero, suc, ◌+◌, ◌*◌, ◌≤◌, Bool, true, false, List, [], ◌∷◌, length, map, Option, Some, None, refl, sym, ap, ◌∙◌, arith}
 use Rattle.std.specs.Prelude.{cond, ◌&&◌, is_some, slice_get, slice_set}
 use Rattle.std.specs.List.{list_all}
 use Rattle.std.specs.FinMap.{get, insert, remove}
@@ -7,24 +7,23 @@ use Rattle.tss_base.specs.declared.operand.OpName.{OpName}
 use Rattle.tss_base.specs.declared.operand.Operand.{Operand}
 use Rattle.tss_base.specs.declared.event.Stage.{Stage}
 use Rattle.tss_base.specs.declared.event.Stage.TheVariants as stage
-use Rattle.tss_base.specs.declared.event.LinkState.{LinkState}
-use Rattle.tss_base.specs.declared.event.LinkState.TheVariants as link
 use Rattle.tss_base.specs.Names.{Numbered}
 use Rattle.tss_maps.proofs.Keys.{nat_order}
 use Rattle.tss_maps.proofs.Sums.{sum_inserted, sum_written, sum_removed}
 use Rattle.tss_protocol.specs.Names.{operand_name}
 use Rattle.tss_protocol.specs.Mail.{Source}
 use Rattle.tss_protocol.specs.State.{OperandState, Flying}
-use Rattle.tss_protocol.specs.Stations.{has_finished, is_gone, is_ready, is_complete, remaining_tasks, new_operand, first_stage, entered, release_of, releases_from, awaited, with_operand, finished_in}
-use Rattle.tss_laws.proofs.BoundMeasure.{message_left, messages_left, left_append, record_left, records_left, stage_left, told_left, source_left, flying_left, flight_left}
+use Rattle.tss_protocol.specs.Stations.{has_finished, is_gone, is_ready, is_complete, remaining_tasks, new_operand, first_stage, release_of, releases_from, awaited}
+use Rattle.tss_laws.proofs.BoundMeasure.{messages_left, left_append, record_left, records_left, stage_left, told_left, flying_left, flight_left}
 
 module _ (budget : ℕ) where
-  -- a task that is written anew, or new
+  -- a task that is written anew
   pub left_flying : (flight : Numbered Flying) (n : ℕ) (x y : Flying) → get flight n ≡ Some x
       → flight_left budget (insert flight n y) + flying_left budget n x
       ≡ flight_left budget flight + flying_left budget n y
   left_flying flight n x y e = sum_written nat_order (flying_left budget) flight n x y e
 
+  -- one that may be new
   pub left_entering : (flight : Numbered Flying) (n : ℕ) (y : Flying)
       → flight_left budget (insert flight n y) ≤ flight_left budget flight + flying_left budget n y
   left_entering flight n y =
@@ -43,7 +42,8 @@ module _ (budget : ℕ) where
 
 -- a record that is written over
 pub left_record : (finished : Bool) (rs : List OperandState) (i : ℕ) (r s : OperandState) → slice_get rs i ≡ Some r
-    → records_left finished (slice_set rs i s) + record_left finished r ≡ records_left finished rs + record_left finished s
+    → records_left finished (slice_set rs i s) + record_left finished r
+    ≡ records_left finished rs + record_left finished s
 left_record finished [] i r s e = absurd (cc)
 left_record finished (x ∷ rs) zero r s e =
     let is : x ≡ r = cc in let same = ap (record_left finished) is in omega (arith, same)
@@ -95,7 +95,8 @@ pub left_awaited : (budget n : ℕ) (y : Flying) → y.stage ≡ stage.Waiting
 left_awaited budget n y waits = by (is_complete y)
   where
     by : (b : Bool)
-        → flying_left budget n (cond b (record y { stage = stage.Queued }) y) ≡ budget + 3 + records_left false y.operands
+        → flying_left budget n (cond b (record y { stage = stage.Queued }) y)
+        ≡ budget + 3 + records_left false y.operands
     by true = refl
     by false = ap (λ s. stage_left budget s + records_left (has_finished s) y.operands) waits
 

@@ -1,8 +1,8 @@
 -- Main's event lowers the measure: it completes an instruction, or it ends main. A spawn moves one task's share to the
 -- inbox.
-use Rattle.std.proofs.Common.{◌≡◌, ℕ, zero, suc, ◌+◌, ◌*◌, ◌<◌, ◌≤◌, Bool, true, false, List, [], ◌∷◌, ◌++◌, length, Option, Some, None, refl, sym, ap, subst, ◌∙◌, arith}
-use Rattle.std.specs.Prelude.{cond, ◌-◌, ◌==◌, ◌&&◌, ◌||◌, is_none, is_some, nat_lt, nat_le, Result, Ok, Err}
-use Rattle.std.proofs.lemmas.Bool.{and_parts, or_parts, leb-false}
+use Rattle.std.proofs.Common.{◌≡◌, ℕ, zero, suc, ◌+◌, ◌*◌, ◌<◌, ◌≤◌, Bool, true, false, List, length, Option, Some, None, refl, sym, ap, subst, ◌∙◌, arith}
+use Rattle.std.specs.Prelude.{cond, ◌-◌, ◌==◌, ◌&&◌, is_none, is_some, nat_lt, Result, Ok, Err}
+use Rattle.std.proofs.lemmas.Bool.{and_parts, leb-false}
 use Rattle.std.proofs.lemmas.Option.{none-some}
 use Rattle.tss_base.specs.declared.range.Range.{Range}
 use Rattle.tss_base.specs.declared.operand.Task.{Task}
@@ -13,9 +13,9 @@ use Rattle.tss_base.specs.declared.machine.Machine.{Machine}
 use Rattle.tss_base.specs.declared.event.Event.TheVariants as event
 use Rattle.tss_base.specs.Image.{SegmentState}
 use Rattle.tss_base.specs.Machine.{IsAdmissible}
-use Rattle.tss_model.specs.Memory.{Memory, range_of, bytes_of}
+use Rattle.tss_model.specs.Memory.{range_of, bytes_of}
 use Rattle.tss_model.specs.Registers.{trap_of}
-use Rattle.tss_model.specs.Causes.{load_denied, main_touch, output_full, main_budget_spent}
+use Rattle.tss_model.specs.Causes.{load_denied, main_touch, output_full}
 use Rattle.tss_model.specs.Access.{MainActor, touches}
 use Rattle.tss_model.specs.Core.{Stepped, Executed, Called, Ended, Trapped, Touched}
 use Rattle.tss_model.specs.Spawn.{spawn_of}
@@ -28,8 +28,8 @@ use Rattle.tss_protocol.specs.UnitMachine.{IsEnabled, is_enabled, after_event}
 use Rattle.tss_laws.proofs.PlainLemmas.{none_from_test}
 use Rattle.tss_laws.proofs.FlatCore.{IsStep}
 use Rattle.tss_laws.proofs.FlatMain.{main_core-step, main_stretch-leaves}
-use Rattle.tss_laws.proofs.FlatSteps.{main_step-ended, main_step-spent, main_step-core, next_call-core, next_call-ended, next_call-spent}
-use Rattle.tss_laws.proofs.SpawnLemmas.{IsNext, IsNext-spawn_of}
+use Rattle.tss_laws.proofs.FlatSteps.{main_step-ended, main_step-spent, main_step-core, next_call-core, next_call-spent}
+use Rattle.tss_laws.proofs.SpawnLemmas.{IsNext-spawn_of}
 use Rattle.tss_laws.proofs.BoundMeasure.{ending_left, main_left, inbox_left, tasks_left, front_left, IsLowered}
 
 -- main that goes on may still end

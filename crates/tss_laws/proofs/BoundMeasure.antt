@@ -1,8 +1,8 @@
--- The measure of a state: how many events are still to come at most, as main, the tasks, the operands, the versions, the
--- messages and the copies have them.
-use Rattle.std.proofs.Common.{◌≡◌, ℕ, zero, suc, ◌+◌, ◌*◌, ◌≤◌, Bool, true, false, List, [], ◌∷◌, ◌++◌, Option, Some, None, refl, ap, arith}
+-- The measure of a state: how many events are still to come at most, as main, the tasks, the operands, the versions,
+-- the messages and the copies have them.
+use Rattle.std.proofs.Common.{◌≡◌, ℕ, suc, ◌+◌, ◌*◌, ◌≤◌, Bool, true, false, List, [], ◌∷◌, ◌++◌, Option, Some, None, arith}
 use Rattle.std.specs.Prelude.{cond, ◌-◌, ◌/◌}
-use Rattle.std.specs.FinMap.{get, insert, remove}
+use Rattle.std.specs.FinMap.{get}
 use Rattle.tss_base.specs.declared.operand.OpName.{OpName}
 use Rattle.tss_base.specs.declared.operand.Operand.{Operand}
 use Rattle.tss_base.specs.declared.operand.Task.{Task}
@@ -16,7 +16,7 @@ use Rattle.tss_base.specs.declared.event.LinkState.{LinkState}
 use Rattle.tss_base.specs.declared.event.LinkState.TheVariants as link
 use Rattle.tss_base.specs.Names.{Named, Numbered}
 use Rattle.tss_maps.specs.Sums.{sum_of}
-use Rattle.tss_maps.proofs.Keys.{IsKeyOrder, name_order, nat_order}
+use Rattle.tss_maps.proofs.Keys.{name_order}
 use Rattle.tss_maps.proofs.Sums.{sum_inserted, sum_removed}
 use Rattle.tss_model.specs.MainStep.{MainState}
 use Rattle.tss_protocol.specs.Mail.{Source, OpenContents, ReleaseContents, IdleContents, GoneContents, Message, Decode, Ack, Open, Use, Ready, Link, Release, Bye, Idle, Nack, Retire, Gone, Mail, posted, posted_all, taken}
@@ -113,40 +113,50 @@ module _ (c : ℕ) where
   -- ---- a message that is taken
 
   module _ (m : Mail) (o : OpName) where
+    -- a decode
     pub took_decode : (x : Operand) → get m.decodes o ≡ Some x
         → mail_left c (taken m (event.Decode o)) + (6 + c) ≡ mail_left c m
     took_decode x e =
         let t = sum_removed name_order (each_left Operand (6 + c)) m.decodes o x e in omega (arith, t)
 
+    -- an ack
     pub took_ack : get m.acks o ≡ Some tt → mail_left c (taken m (event.Ack o)) + 1 ≡ mail_left c m
     took_ack e = let t = sum_removed name_order (each_left (Unit {0}) 1) m.acks o tt e in omega (arith, t)
 
+    -- an open
     pub took_open : (x : OpenContents) → get m.opens o ≡ Some x
         → mail_left c (taken m (event.Open o)) + (4 + c) ≡ mail_left c m
     took_open x e =
         let t = sum_removed name_order (each_left OpenContents (4 + c)) m.opens o x e in omega (arith, t)
 
+    -- a use
     pub took_use : (x : OpName) → get m.uses o ≡ Some x → mail_left c (taken m (event.Use o)) + 3 ≡ mail_left c m
     took_use x e = let t = sum_removed name_order (each_left OpName 3) m.uses o x e in omega (arith, t)
 
+    -- a release
     pub took_release : (x : ReleaseContents) → get m.releases o ≡ Some x
         → mail_left c (taken m (event.Release o)) + 2 ≡ mail_left c m
     took_release x e =
         let t = sum_removed name_order (each_left ReleaseContents 2) m.releases o x e in omega (arith, t)
 
+    -- a bye
     pub took_bye : (x : Bool) → get m.byes o ≡ Some x → mail_left c (taken m (event.Bye o)) + 1 ≡ mail_left c m
     took_bye x e = let t = sum_removed name_order (each_left Bool 1) m.byes o x e in omega (arith, t)
 
+    -- an idle
     pub took_idle : (x : IdleContents) → get m.idles o ≡ Some x
         → mail_left c (taken m (event.Idle o)) + 2 ≡ mail_left c m
     took_idle x e = let t = sum_removed name_order (each_left IdleContents 2) m.idles o x e in omega (arith, t)
 
+    -- a nack
     pub took_nack : get m.nacks o ≡ Some tt → mail_left c (taken m (event.Nack o)) + 1 ≡ mail_left c m
     took_nack e = let t = sum_removed name_order (each_left (Unit {0}) 1) m.nacks o tt e in omega (arith, t)
 
+    -- a retire
     pub took_retire : get m.retires o ≡ Some tt → mail_left c (taken m (event.Retire o)) + 1 ≡ mail_left c m
     took_retire e = let t = sum_removed name_order (each_left (Unit {0}) 1) m.retires o tt e in omega (arith, t)
 
+    -- a gone
     pub took_gone : (x : GoneContents) → get m.gones o ≡ Some x
         → mail_left c (taken m (event.Gone o)) + 1 ≡ mail_left c m
     took_gone x e = let t = sum_removed name_order (each_left GoneContents 1) m.gones o x e in omega (arith, t)

@@ -1,5 +1,5 @@
 -- The objects of spawned tasks have bytes, and no more than an object may have.
-use Rattle.std.proofs.Common.{◌≡◌, ℕ, suc, ◌<◌, ◌≤◌, Bool, true, false, List, [], ◌∷◌, length, Option, Some, None, refl, sym, ap, ◌∙◌, subst}
+use Rattle.std.proofs.Common.{◌≡◌, ℕ, suc, ◌<◌, ◌≤◌, Bool, true, false, List, [], ◌∷◌, length, Option, Some, None, refl, subst}
 use Rattle.std.specs.Prelude.{◌==◌, cond, slice_get, Result, Ok, Err}
 use Rattle.std.proofs.lemmas.Option.{none-some, same_Some}
 use Rattle.tss_base.specs.declared.operand.Operand.{Operand}
@@ -20,7 +20,9 @@ use Rattle.tss_laws.proofs.FlatOperands.{spawned-fit}
 -- a task whose objects have bytes, and not too many
 abbrev pub HasFitObjects : Limits → Task → Type 0
 HasFitObjects limits t =
-    (k : ℕ) (o : Operand) → slice_get (operands_of t) k ≡ Some o → (0 < o.object.len) × (o.object.len ≤ limits.object_bytes)
+    (k : ℕ) (o : Operand)
+    → slice_get (operands_of t) k ≡ Some o
+    → (0 < o.object.len) × (o.object.len ≤ limits.object_bytes)
 
 -- each spawned task is one
 abbrev pub HaveFitObjects : Limits → List Task → Type 0

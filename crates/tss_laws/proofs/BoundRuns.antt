@@ -1,5 +1,5 @@
 -- No run has more events than the bound: each lowers the measure, which is the bound at first.
-use Rattle.std.proofs.Common.{◌≡◌, ℕ, zero, suc, ◌+◌, ◌*◌, ◌≤◌, Bool, true, false, cond, List, [], ◌∷◌, length, Option, Some, None, refl, sym, ap, subst, ◌∙◌, arith}
+use Rattle.std.proofs.Common.{◌≡◌, ℕ, ◌+◌, ◌*◌, ◌≤◌, Bool, true, false, cond, List, [], ◌∷◌, length, Some, None, refl, ap, arith}
 use Rattle.std.specs.Prelude.{◌-◌}
 use Rattle.std.proofs.lemmas.Option.{none-some, same_Some}
 use Rattle.tss_base.specs.declared.operand.OpName.{OpName}
@@ -12,15 +12,15 @@ use Rattle.tss_base.specs.Machine.{IsAdmissible}
 use Rattle.tss_maps.proofs.Keys.{name_order, nat_order}
 use Rattle.tss_maps.proofs.Sums.{sum_empty}
 use Rattle.tss_protocol.specs.Mail.{OpenContents, ReleaseContents, IdleContents, GoneContents, no_mail}
-use Rattle.tss_protocol.specs.State.{State, Flying, Busy, Version, CopyState, initial_state}
+use Rattle.tss_protocol.specs.State.{State, initial_state}
 use Rattle.tss_protocol.specs.Counts.{event_bound, pieces_of_object, task_events}
 use Rattle.tss_protocol.specs.Needs.{round_after_event}
-use Rattle.tss_protocol.specs.Run.{after_events, IsRun}
+use Rattle.tss_protocol.specs.Run.{after_events}
 use Rattle.tss_protocol.specs.UnitMachine.{is_enabled, IsEnabled, after_event}
 use Rattle.tss_phases.proofs.OrderlyEvents.{orderly_at_first}
 use Rattle.tss_laws.specs.Tasks.{spawned_after_event}
 use Rattle.tss_laws.specs.Readers.{Arrivals, arrivals_after_event, no_arrivals}
-use Rattle.tss_laws.specs.Control.{HasGroundwork, IsControlled}
+use Rattle.tss_laws.specs.Control.{IsControlled}
 use Rattle.tss_laws.specs.Bound.{EventsLaw}
 use Rattle.tss_laws.proofs.GroundworkRuns.{IsGrounded, IsGrounded-after_event, IsGrounded-initial_state, has_groundwork}
 use Rattle.tss_laws.proofs.GroundworkEmpty.{IsControlled-bare, IsBare-initial_state}

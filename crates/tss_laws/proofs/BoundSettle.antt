@@ -1,6 +1,6 @@
 -- What a settle leaves of the measure: no more than before, for a version that gives way pays for its gone message, and
 -- one that asks can't ask again for as many readers.
-use Rattle.std.proofs.Common.{◌≡◌, ℕ, zero, suc, ◌+◌, ◌≤◌, Bool, true, false, cond, List, [], ◌∷◌, ◌++◌, Option, Some, None, refl, sym, ap, ◌∙◌, arith}
+use Rattle.std.proofs.Common.{◌≡◌, ℕ, zero, suc, ◌+◌, ◌≤◌, Bool, true, false, cond, ◌∷◌, Option, Some, None, refl, arith}
 use Rattle.std.specs.Prelude.{◌==◌, ◌&&◌, not, is_none}
 use Rattle.std.proofs.lemmas.Bool.{and_parts}
 use Rattle.std.proofs.lemmas.Bool.Decides.{nat_tests}
@@ -49,13 +49,15 @@ module _ (c : ℕ) where
   left_drop vs v x e = sum_removed name_order (version_left c) vs v x e
 
   -- a change that leaves alone what a version asks
-  module _ (f : Version → Version) (same : (v : OpName) (x : Version) → version_left c v (f x) ≡ version_left c v x) where
+  module _ (f : Version → Version)
+      (same : (v : OpName) (x : Version) → version_left c v (f x) ≡ version_left c v x) where
     left_changed : (vs : Named Version) (v : OpName) (x : Option Version) → get vs v ≡ x
         → versions_left c (version_changed vs v f x) ≡ versions_left c vs
     left_changed vs v None e = refl
     left_changed vs v (Some x) e =
         let p = left_put vs v x (f x) e in let s = same v x in omega (arith, p, s)
 
+    -- of a version by its name
     pub left_change : (vs : Named Version) (v : OpName)
         → versions_left c (change_version vs v f) ≡ versions_left c vs
     left_change vs v = left_changed vs v (get vs v) refl
@@ -71,7 +73,8 @@ module _ (c : ℕ) where
       let f : Version → Version = λ q. record q { successor = followed_by s q.successor } in
       let a = left_drop vs v x e in
       let b = left_named f (λ w q. refl) ds x.predecessor in
-      let d = left_change (λ y. record y { predecessor = x.predecessor }) (λ w q. refl) (change_named ds x.predecessor f) s in
+      let d = left_change (λ y. record y { predecessor = x.predecessor }) (λ w q. refl)
+      (change_named ds x.predecessor f) s in
       omega (arith, a, b, d)
 
   -- ---- settle
@@ -102,7 +105,8 @@ module _ (c : ℕ) where
   left_asking : (vs : Named Version) (v : OpName) (x : Version) → get vs v ≡ Some x → may_ask x ≡ true
       → outcome_left c (settle_asking vs v x) ≤ versions_left c vs
   left_asking vs v x e asks =
-      let t = and_parts (x.produced && (x.released == x.registered) && is_none x.predecessor && is_none x.asked) _ asks in
+      let t = and_parts
+      (x.produced && (x.released == x.registered) && is_none x.predecessor && is_none x.asked) _ asks in
       let u = and_parts (x.produced && (x.released == x.registered) && is_none x.predecessor) _ t.0 in
       let old = asking_once x.asked x.refused x.registered u.1 t.1 in
       let new = asked_now x.registered in

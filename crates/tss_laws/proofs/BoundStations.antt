@@ -1,11 +1,10 @@
 -- Events of the stations and the workers lower the measure: take, ready, link, start, finish and bye.
-use Rattle.std.proofs.Common.{◌≡◌, ℕ, zero, suc, ◌+◌, ◌*◌, ◌≤◌, Bool, true, false, List, [], ◌∷◌, length, map, Option, Some, None, refl, sym, ap, subst, ◌∙◌, arith}
-use Rattle.std.specs.Prelude.{◌==◌, ◌&&◌, ◌||◌, ◌-◌, is_some, slice_get, slice_set}
+use Rattle.std.proofs.Common.{◌≡◌, ℕ, zero, suc, ◌+◌, ◌*◌, ◌≤◌, Bool, true, false, List, [], ◌∷◌, length, Option, Some, None, refl, sym, ap, subst, ◌∙◌, arith}
+use Rattle.std.specs.Prelude.{◌==◌, is_some, slice_get}
 use Rattle.std.specs.List.{list_any}
 use Rattle.std.specs.FinMap.{get, remove}
 use Rattle.std.proofs.lemmas.Bool.{or_left, both_ways}
 use Rattle.std.proofs.lemmas.Bool.Decides.{nat_tests}
-use Rattle.std.proofs.lemmas.Option.{none-some, same_Some}
 use Rattle.tss_base.specs.declared.operand.OpName.{OpName}
 use Rattle.tss_base.specs.declared.operand.Operand.{Operand}
 use Rattle.tss_base.specs.declared.operand.Task.{Task}
@@ -14,16 +13,15 @@ use Rattle.tss_base.specs.declared.event.Event.TheVariants as event
 use Rattle.tss_base.specs.declared.event.LinkState.{LinkState}
 use Rattle.tss_base.specs.declared.event.LinkState.TheVariants as link
 use Rattle.tss_base.specs.declared.event.Stage.TheVariants as stage
-use Rattle.tss_base.specs.Names.{Numbered}
 use Rattle.tss_maps.proofs.Keys.{nat_order}
 use Rattle.tss_maps.proofs.Sums.{sum_inserted, sum_removed}
 use Rattle.tss_model.specs.Access.{operands_of}
-use Rattle.tss_protocol.specs.Mail.{Source, Message, taken}
+use Rattle.tss_protocol.specs.Mail.{Source, taken}
 use Rattle.tss_protocol.specs.State.{State, OperandState, Flying, Busy}
 use Rattle.tss_protocol.specs.Gateway.{decodes_from, sent_by_take}
-use Rattle.tss_protocol.specs.Counts.{pieces_of_object, operand_events, task_events}
-use Rattle.tss_protocol.specs.Stations.{has_finished, first_stage, entered, new_operand, operand_at, with_operand, awaited, link_after_ready, operand_after_ready, sent_by_ready, task_after_ready, woken_by, woken_in, link_after_link, operand_after_link, sent_by_link, linked_by, linked_in, operand_after_bye, parted_by, parted_in, releases_from, finished_in}
-use Rattle.tss_protocol.specs.Workers.{can_start, busy_at_start, can_finish, stores_after_start, trap_after_finish}
+use Rattle.tss_protocol.specs.Counts.{pieces_of_object, task_events}
+use Rattle.tss_protocol.specs.Stations.{has_finished, first_stage, entered, operand_at, with_operand, awaited, link_after_ready, operand_after_ready, sent_by_ready, task_after_ready, woken_by, woken_in, link_after_link, operand_after_link, sent_by_link, linked_by, linked_in, operand_after_bye, parted_by, parted_in, releases_from, finished_in}
+use Rattle.tss_protocol.specs.Workers.{can_start, busy_at_start, can_finish, trap_after_finish}
 use Rattle.tss_protocol.specs.UnitMachine.{IsEnabled, is_enabled, after_event, without, can_take, after_take, with_woken, ready_message_taken, with_flight, link_message_taken, bye_message_taken, start_task, after_start, after_finish}
 use Rattle.tss_phases.specs.Phase.{look_ups}
 use Rattle.tss_phases.specs.Orderly.{AreOrderly}
@@ -32,9 +30,9 @@ use Rattle.tss_phases.proofs.Records.{task_of_record}
 use Rattle.tss_laws.specs.Tasks.{HasTaskNumbers}
 use Rattle.tss_laws.specs.Stages.{HasStages}
 use Rattle.tss_laws.specs.Readers.{Arrivals}
-use Rattle.tss_laws.specs.Runners.{HasRunners, IsAtStage}
-use Rattle.tss_laws.specs.Control.{HasGroundwork, IsControlled}
-use Rattle.tss_laws.proofs.BoundMeasure.{messages_left, left_posted_all, link_left, told_left, record_left, records_left, stage_left, flying_left, flight_left, busy_left, inbox_left, mail_left, took_bye, IsLowered}
+use Rattle.tss_laws.specs.Runners.{HasRunners}
+use Rattle.tss_laws.specs.Control.{IsControlled}
+use Rattle.tss_laws.proofs.BoundMeasure.{messages_left, left_posted_all, link_left, told_left, records_left, stage_left, flight_left, busy_left, inbox_left, took_bye, IsLowered}
 use Rattle.tss_laws.proofs.BoundFlight.{left_flying, left_entering, left_remaining, left_record, left_entered, unready, left_awaited, left_releases}
 
 -- what is looked up is there
@@ -75,6 +73,7 @@ module _ (m : Machine) (S : State) where
       let p = left_posted_all pieces S.mail (sent_by_take t) in
       omega (arith, share, box, enters, new, sent, p)
 
+  -- the share of the inbox's task pays for its decodes and records
   pub lowered_take : (all : List Task) → HasTaskNumbers m all S → IsEnabled m S event.Take
       → IsLowered m S (after_event m S event.Take)
   unfolding is_enabled after_event
@@ -238,7 +237,8 @@ module _ (m : Machine) (S : State) where
   -- ---- bye
 
   bye_record : (o : OpName) (promised : Bool) (x : Flying) (r : Option OperandState) → get S.flight o.task ≡ Some x
-      → slice_get x.operands o.place ≡ r → flight_left budget (parted_by S.flight o promised x r) ≤ flight_left budget S.flight
+      → slice_get x.operands o.place ≡ r
+      → flight_left budget (parted_by S.flight o promised x r) ≤ flight_left budget S.flight
   bye_record o promised x None e at = omega arith
   bye_record o promised x (Some r) e at =
       let s = operand_after_bye r promised in
@@ -259,6 +259,7 @@ module _ (m : Machine) (S : State) where
       let f = bye_flight o promised (get S.flight o.task) refl in
       omega (arith, t, f)
 
+  -- a bye is spent
   pub lowered_bye : (o : OpName) → IsEnabled m S (event.Bye o) → IsLowered m S (after_event m S (event.Bye o))
   unfolding is_enabled after_event
   lowered_bye o on = bye_less o (get S.mail.byes o) refl on

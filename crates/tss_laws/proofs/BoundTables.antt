@@ -1,9 +1,7 @@
 -- Events of the tables lower the measure: decode, ack, open, use, release, idle, nack, copy and gone.
-use Rattle.std.proofs.Common.{◌≡◌, ℕ, zero, suc, ◌+◌, ◌<◌, ◌≤◌, Bool, true, false, List, [], ◌∷◌, ◌++◌, Option, Some, None, refl, sym, ap, ◌∙◌, arith}
-use Rattle.std.specs.Prelude.{cond, ◌-◌, ◌/◌, ◌&&◌, is_none, is_some, min, nat_le}
-use Rattle.std.specs.FinMap.{get, insert, remove}
-use Rattle.std.proofs.lemmas.Bool.{and_parts, leb-false}
-use Rattle.std.proofs.lemmas.Bool.Decides.{nat_tests}
+use Rattle.std.proofs.Common.{◌≡◌, ℕ, suc, ◌+◌, ◌≤◌, Bool, true, false, List, [], ◌∷◌, ◌++◌, Option, Some, None, refl, sym, ap, ◌∙◌, arith}
+use Rattle.std.specs.Prelude.{cond, is_some}
+use Rattle.std.specs.FinMap.{get}
 use Rattle.std.proofs.lemmas.Option.{same_Some}
 use Rattle.tss_base.specs.declared.operand.OpName.{OpName}
 use Rattle.tss_base.specs.declared.operand.Mode.{Mode}
@@ -16,19 +14,15 @@ use Rattle.tss_base.specs.declared.event.Event.TheVariants as event
 use Rattle.tss_base.specs.declared.event.How.{How}
 use Rattle.tss_base.specs.declared.event.How.TheVariants.{Beside, Over}
 use Rattle.tss_base.specs.declared.event.Follow.{Follow}
-use Rattle.tss_base.specs.Names.{Named, Numbered}
-use Rattle.tss_maps.proofs.Keys.{nat_order, name_order}
-use Rattle.tss_maps.proofs.Sums.{sum_written, sum_removed}
-use Rattle.tss_protocol.specs.Names.{bank_of}
-use Rattle.tss_protocol.specs.Mail.{StorageName, Home, Buffer, OpenContents, ReleaseContents, IdleContents, GoneContents, Message, Bye, taken}
-use Rattle.tss_protocol.specs.State.{State, Entry, Version, CopyState, Outcome}
+use Rattle.tss_base.specs.Names.{Named}
+use Rattle.tss_protocol.specs.Mail.{StorageName, OpenContents, ReleaseContents, IdleContents, GoneContents, Bye, taken}
+use Rattle.tss_protocol.specs.State.{State, Entry, Version}
 use Rattle.tss_protocol.specs.Renaming.{live_message, decode_message, sent_by_decode, idle_by, after_idle, may_retire}
-use Rattle.tss_protocol.specs.Versions.{Versioned, is_count, sending, put_version, settled, ready_with, first_version, new_version, followed, opened_how, opened_by, after_open, enlisted, used_alone, used_behind, used_at, after_use, head_ready, produced_now, released_once, released_by, released_at, after_release, refused_once, nacked_at, after_nack, tail_without, is_last}
-use Rattle.tss_protocol.specs.Buffers.{piece_len, is_last_piece, copies_after_copy, sent_by_copy}
+use Rattle.tss_protocol.specs.Versions.{is_count, put_version, settled, ready_with, first_version, new_version, followed, opened_how, opened_by, after_open, enlisted, used_alone, used_behind, used_at, after_use, head_ready, produced_now, released_once, released_by, released_at, after_release, refused_once, nacked_at, after_nack}
 use Rattle.tss_protocol.specs.Counts.{pieces_of_object}
-use Rattle.tss_protocol.specs.UnitMachine.{IsEnabled, is_enabled, after_event, without, can_decode_message, decode_message_taken, can_open_message, open_message_taken, can_use_message, use_message_taken, release_message_taken, idle_message_taken, nack_message_taken, after_copy, gone_message_taken}
+use Rattle.tss_protocol.specs.UnitMachine.{IsEnabled, is_enabled, after_event, without, can_decode_message, decode_message_taken, can_open_message, open_message_taken, can_use_message, use_message_taken, release_message_taken, idle_message_taken, gone_message_taken}
 use Rattle.tss_laws.specs.Asking.{HasAsking, AsksFor}
-use Rattle.tss_laws.proofs.BoundMeasure.{message_left, messages_left, left_posted_all, left_append, last_asked, asking_left, version_left, versions_left, mail_left, copy_left, copies_left, took_decode, took_ack, took_open, took_use, took_release, took_idle, took_nack, took_gone, IsLowered}
+use Rattle.tss_laws.proofs.BoundMeasure.{message_left, messages_left, left_posted_all, left_append, last_asked, asking_left, version_left, versions_left, took_decode, took_ack, took_open, took_use, took_release, took_idle, took_nack, took_gone, IsLowered}
 use Rattle.tss_laws.proofs.BoundSettle.{outcome_left, left_sending, left_ready_with, left_put, left_new, left_change, left_settled}
 
 -- ---- decode
@@ -176,6 +170,7 @@ module _ (m : Machine) (S : State) where
       let p = left_posted_all pieces (taken S.mail (event.Decode o)) (sent_by_decode o x entry) in
       omega (arith, t, d, p)
 
+  -- a decode pays for its ack, and its open or its use
   pub lowered_decode : (o : OpName) → IsEnabled m S (event.Decode o) → IsLowered m S (after_event m S (event.Decode o))
   unfolding is_enabled after_event
   lowered_decode o on = decode_less o (get S.mail.decodes o) refl on
@@ -184,6 +179,7 @@ module _ (m : Machine) (S : State) where
   ack_there None e = absurd (cc)
   ack_there (Some x) e = refl
 
+  -- an ack is spent
   pub lowered_ack : (o : OpName) → IsEnabled m S (event.Ack o) → IsLowered m S (after_event m S (event.Ack o))
   unfolding is_enabled after_event
   lowered_ack o on =
@@ -199,6 +195,7 @@ module _ (m : Machine) (S : State) where
       let p = left_posted_all pieces (taken S.mail (event.Open o)) d.sent in
       omega (arith, t, a, p)
 
+  -- an open pays for its version
   pub lowered_open : (o : OpName) → IsEnabled m S (event.Open o) → IsLowered m S (after_event m S (event.Open o))
   unfolding is_enabled after_event
   lowered_open o on = open_less o (get S.mail.opens o) refl on
@@ -213,6 +210,7 @@ module _ (m : Machine) (S : State) where
       let p = left_posted_all pieces (taken S.mail (event.Use o)) d.sent in
       omega (arith, t, a, p)
 
+  -- a use pays for the version that may ask once more
   pub lowered_use : (o : OpName) → IsEnabled m S (event.Use o) → IsLowered m S (after_event m S (event.Use o))
   unfolding is_enabled after_event
   lowered_use o on = use_less o (get S.mail.uses o) refl on
@@ -227,6 +225,7 @@ module _ (m : Machine) (S : State) where
       let p = left_posted_all pieces (taken S.mail (event.Release o)) d.sent in
       omega (arith, t, a, p)
 
+  -- a release pays for its bye
   pub lowered_release : (o : OpName) → IsEnabled m S (event.Release o)
       → IsLowered m S (after_event m S (event.Release o))
   unfolding is_enabled after_event
@@ -248,10 +247,12 @@ module _ (m : Machine) (S : State) where
       let p = left_posted_all pieces (taken S.mail (event.Idle v)) d.sent in
       omega (arith, t, a, p)
 
+  -- an idle pays for its answer
   pub lowered_idle : (v : OpName) → IsEnabled m S (event.Idle v) → IsLowered m S (after_event m S (event.Idle v))
   unfolding is_enabled after_event
   lowered_idle v on = idle_less v (get S.mail.idles v) refl on
 
+  -- a version that was refused asks no more for as many readers
   pub lowered_nack : (all : List Task) → HasAsking m all S → (v : OpName) → IsEnabled m S (event.Nack v)
       → IsLowered m S (after_event m S (event.Nack v))
   unfolding is_enabled after_event
@@ -269,6 +270,7 @@ module _ (m : Machine) (S : State) where
   gone_less v None e can = absurd (cc)
   gone_less v (Some g) e can = let t = took_gone pieces S.mail v g e in omega (arith, t)
 
+  -- a gone is spent
   pub lowered_gone : (v : OpName) → IsEnabled m S (event.Gone v) → IsLowered m S (after_event m S (event.Gone v))
   unfolding is_enabled after_event
   lowered_gone v on = gone_less v (get S.mail.gones v) refl on
