@@ -200,3 +200,5 @@ pub mod BoundObjects
 pub mod BoundCopies
 pub mod BoundEvents
 pub mod BoundRuns
+pub mod WaitsLaw
+pub mod WaitsRuns
