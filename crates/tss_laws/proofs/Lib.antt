@@ -202,3 +202,4 @@ pub mod BoundEvents
 pub mod BoundRuns
 pub mod WaitsLaw
 pub mod WaitsRuns
+pub mod HoldersNacked
