@@ -1,38 +1,18 @@
 -- The chains after a decode: one more open, or one more use.
-use Rattle.std.proofs.Common.{◌≡◌, ◌≢◌, ℕ, suc, ◌+◌, ◌≤◌, ◌<◌, ◌⊎◌, Bool, true, false, List, Option, Some, None, refl, sym, ap, ◌∙◌, subst, inl, inr, arith, true≢false}
-use Rattle.std.specs.Prelude.{is_some}
+use Rattle.std.proofs.Common.{◌≡◌, ◌≢◌, ℕ, ◌+◌, ◌≤◌, ◌<◌, ◌⊎◌, List, Some, None, sym, ap, ◌∙◌, subst, inl, inr, arith}
 use Rattle.std.specs.FinMap.{get, insert}
-use Rattle.std.proofs.lemmas.Option.{none-some, same_Some}
+use Rattle.std.proofs.lemmas.Option.{none-some}
 use Rattle.tss_base.specs.declared.range.Range.{Range}
 use Rattle.tss_base.specs.declared.operand.OpName.{OpName}
-use Rattle.tss_base.specs.declared.operand.Mode.{Mode}
-use Rattle.tss_base.specs.declared.operand.Mode.TheVariants.{Input, Output, Inout}
-use Rattle.tss_base.specs.declared.operand.Operand.{Operand}
 use Rattle.tss_base.specs.declared.operand.Task.{Task}
-use Rattle.tss_base.specs.declared.machine.Machine.{Machine}
-use Rattle.tss_base.specs.declared.event.Event.{Event}
-use Rattle.tss_base.specs.declared.event.Event.TheVariants as event
-use Rattle.tss_base.specs.declared.event.How.TheVariants.{Beside, Over}
 use Rattle.tss_base.specs.declared.event.Follow.{Follow}
-use Rattle.tss_base.specs.Names.{Named}
-use Rattle.tss_maps.specs.Sums.{one_if}
-use Rattle.tss_maps.proofs.Keys.{name_order, decide_key}
-use Rattle.tss_maps.proofs.Changes.{at_inserted, beside_inserted, from_inserted}
-use Rattle.tss_maps.proofs.Sums.{sum_added}
-use Rattle.tss_protocol.specs.Names.{same_name}
-use Rattle.tss_protocol.specs.Mail.{Home, Buffer, OpenContents}
+use Rattle.tss_maps.proofs.Keys.{name_order}
+use Rattle.tss_maps.proofs.Changes.{beside_inserted, from_inserted}
+use Rattle.tss_protocol.specs.Mail.{OpenContents}
 use Rattle.tss_protocol.specs.State.{State, Entry, Version}
-use Rattle.tss_protocol.specs.Renaming.{follows_latest}
-use Rattle.tss_protocol.specs.UnitMachine.{IsEnabled, is_enabled, can_decode_message, after_event}
-use Rattle.tss_phases.proofs.Received.{other_name}
-use Rattle.tss_laws.specs.Members.{operand_among, IsVersionOf, IsOpenOf, IsMember, registered_of, opening_reader, uses_of, total, NoWriterBetween}
-use Rattle.tss_laws.specs.Chains.{IsAfter, IsFollowed, IsLinked, IsOver, HasStorage, OpensFirst, OpensAfter, IsOpenInOrder, IsUseInOrder, HasChains, FollowsAs}
-use Rattle.tss_laws.specs.Entries.{HasEntries, IsLive}
-use Rattle.tss_laws.specs.Readers.{Arrivals}
-use Rattle.tss_laws.specs.Control.{HasGroundwork, IsControlled}
-use Rattle.tss_laws.proofs.EntriesNames.{decode_among, no_version, no_open, no_use_of, object_of_entry}
-use Rattle.tss_laws.proofs.EntriesDecode.{sends_first, sends_beside, sends_over, sends_use, entry_awake}
-use Rattle.tss_laws.proofs.DecodeFacts.{members_earlier, no_writer_since}
+use Rattle.tss_laws.specs.Members.{IsVersionOf, IsMember, registered_of, opening_reader, uses_of, total, NoWriterBetween}
+use Rattle.tss_laws.specs.Chains.{IsFollowed, IsLinked, IsOver, HasStorage, OpensAfter, IsOpenInOrder, IsUseInOrder, HasChains, FollowsAs}
+use Rattle.tss_laws.specs.Entries.{IsLive}
 
 -- ---- versions that are left, where totals may change
 

@@ -1,6 +1,6 @@
 -- Every event leaves the chains of a controlled state.
-use Rattle.std.proofs.Common.{◌≡◌, true, List, Some}
-use Rattle.std.specs.Prelude.{is_some, ◌&&◌}
+use Rattle.std.proofs.Common.{◌≡◌, Some}
+use Rattle.std.specs.Prelude.{is_some}
 use Rattle.std.specs.FinMap.{get}
 use Rattle.std.proofs.lemmas.Bool.{and_parts}
 use Rattle.tss_base.specs.declared.operand.OpName.{OpName}
@@ -17,7 +17,7 @@ use Rattle.tss_laws.proofs.ChainsOpen.{HasChains-open}
 use Rattle.tss_laws.proofs.ChainsUse.{HasChains-use}
 use Rattle.tss_laws.proofs.ChainsReleased.{HasChains-release, HasChains-nack}
 use Rattle.tss_laws.proofs.ChainsRetired.{HasChains-retire}
-use Rattle.tss_laws.proofs.GroundworkJoin.{IsGroupKept, AreGroupsKept}
+use Rattle.tss_laws.proofs.GroundworkJoin.{IsGroupKept}
 use Rattle.tss_laws.proofs.GroundworkMain.{keeps_main}
 
 -- a retire that may happen has its message

@@ -1,21 +1,20 @@
 -- The chains after a produced version, to which no use is under way, has given way to the one that follows it.
-use Rattle.std.proofs.Common.{◌≡◌, ◌≢◌, ℕ, ◌+◌, ◌<◌, ◌≤◌, ◌⊎◌, Bool, true, false, List, Option, Some, None, refl, sym, ap, ◌∙◌, subst, inl, inr, ◌↔◌, arith, true≢false}
+use Rattle.std.proofs.Common.{◌≡◌, ◌≢◌, ℕ, ◌+◌, ◌<◌, ◌≤◌, ◌⊎◌, true, List, Option, Some, None, refl, sym, ap, ◌∙◌, subst, inl, inr, arith, true≢false}
 use Rattle.std.specs.FinMap.{get}
 use Rattle.std.proofs.lemmas.Option.{none-some, same_Some}
 use Rattle.tss_base.specs.declared.range.Range.{Range}
 use Rattle.tss_base.specs.declared.operand.OpName.{OpName}
-use Rattle.tss_base.specs.declared.operand.Mode.TheVariants.{Input, Output, Inout}
-use Rattle.tss_base.specs.declared.operand.Operand.{Operand}
+use Rattle.tss_base.specs.declared.operand.Mode.TheVariants.{Input, Inout}
 use Rattle.tss_base.specs.declared.operand.Task.{Task}
 use Rattle.tss_base.specs.declared.event.How.{How}
 use Rattle.tss_base.specs.declared.event.How.TheVariants.{Beside, Over}
 use Rattle.tss_base.specs.declared.event.Follow.{Follow}
 use Rattle.tss_maps.proofs.Keys.{name_order, decide_key}
-use Rattle.tss_protocol.specs.Mail.{StorageName, Home, OpenContents}
+use Rattle.tss_protocol.specs.Mail.{Home, OpenContents}
 use Rattle.tss_protocol.specs.State.{State, Version}
 use Rattle.tss_protocol.specs.Versions.{followed_by}
 use Rattle.tss_laws.specs.Members.{IsOn, NoWriterBetween, IsVersionOf, IsOpenOf, IsMember, registered_of, opening_reader, uses_of, total}
-use Rattle.tss_laws.specs.Chains.{IsAfter, IsFollowed, IsLinked, IsOver, HasStorage, OpensFirst, OpensAfter, IsOpenInOrder, IsUseInOrder, HasChains}
+use Rattle.tss_laws.specs.Chains.{IsAfter, IsFollowed, IsLinked, IsOver, HasStorage, IsOpenInOrder, IsUseInOrder, HasChains}
 use Rattle.tss_laws.proofs.ChainsAlike.{object_of_member}
 use Rattle.tss_laws.proofs.UnlinkedVersions.{bridged, GaveWay}
 

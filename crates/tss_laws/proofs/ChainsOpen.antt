@@ -1,35 +1,33 @@
 -- The chains after an open.
-use Rattle.std.proofs.Common.{◌≡◌, ◌≢◌, ℕ, ◌≤◌, ◌<◌, Bool, true, false, List, Option, Some, None, refl, sym, ap, ◌∙◌, subst, inl, inr, true≢false}
+use Rattle.std.proofs.Common.{◌≡◌, ◌≢◌, ◌≤◌, true, List, Option, Some, None, refl, sym, ap, ◌∙◌, subst, inl, inr, true≢false}
 use Rattle.std.specs.Prelude.{is_some}
-use Rattle.std.specs.FinMap.{get, insert, remove}
+use Rattle.std.specs.FinMap.{get, remove}
 use Rattle.std.proofs.lemmas.Option.{none-some, same_Some}
 use Rattle.tss_base.specs.declared.operand.OpName.{OpName}
 use Rattle.tss_base.specs.declared.operand.Mode.{Mode}
 use Rattle.tss_base.specs.declared.operand.Mode.TheVariants.{Input, Output, Inout}
 use Rattle.tss_base.specs.declared.operand.Task.{Task}
 use Rattle.tss_base.specs.declared.machine.Machine.{Machine}
-use Rattle.tss_base.specs.declared.event.Event.{Event}
 use Rattle.tss_base.specs.declared.event.Event.TheVariants as event
 use Rattle.tss_base.specs.declared.event.How.{How}
 use Rattle.tss_base.specs.declared.event.How.TheVariants.{Beside, Over}
 use Rattle.tss_base.specs.declared.event.Follow.{Follow}
 use Rattle.tss_base.specs.Names.{Named}
 use Rattle.tss_maps.proofs.Keys.{name_order, decide_key}
-use Rattle.tss_maps.proofs.Changes.{at_inserted, beside_inserted, from_inserted, decide_get}
+use Rattle.tss_maps.proofs.Changes.{at_inserted, beside_inserted}
 use Rattle.tss_protocol.specs.Mail.{Home, OpenContents, taken}
 use Rattle.tss_protocol.specs.State.{State, Version}
-use Rattle.tss_protocol.specs.Versions.{Versioned, put_version, new_version, first_version, followed, settled, opened_how, opened_by, after_open, is_followable}
+use Rattle.tss_protocol.specs.Versions.{put_version, new_version, first_version, followed, settled, opened_how, opened_by, after_open, is_followable}
 use Rattle.tss_protocol.specs.UnitMachine.{IsEnabled, is_enabled, can_open_message, after_event, with_versioned, without, open_message_taken}
 use Rattle.tss_laws.specs.Members.{first_reader}
 use Rattle.tss_laws.specs.Chains.{HasChains}
-use Rattle.tss_laws.specs.Entries.{IsSettled, HasRetirement}
+use Rattle.tss_laws.specs.Entries.{IsSettled}
 use Rattle.tss_laws.specs.Readers.{Arrivals}
 use Rattle.tss_laws.specs.Control.{HasGroundwork, IsControlled}
 use Rattle.tss_laws.proofs.SentLemmas.{posted_all-later, after_open-later}
 use Rattle.tss_laws.proofs.SettleCases.{OthersSettled, at_changed, beside_changed}
-use Rattle.tss_laws.proofs.ChainsFrames.{HasChains-same}
 use Rattle.tss_laws.proofs.ChainsSettled.{HasChains-settled}
-use Rattle.tss_laws.proofs.ChainsRegistered.{followed_version, link_to, linked_to, Registers, HasChains-registered}
+use Rattle.tss_laws.proofs.ChainsRegistered.{followed_version, linked_to, Registers, HasChains-registered}
 use Rattle.tss_laws.proofs.ReleaseFacts.{released_few}
 
 -- ---- the first version of an object

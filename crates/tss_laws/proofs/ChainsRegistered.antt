@@ -1,6 +1,5 @@
 -- The chains where an open has been taken and its version is registered, before the version that it follows is settled.
-use Rattle.std.proofs.Common.{◌≡◌, ◌≢◌, ℕ, ◌+◌, ◌≤◌, ◌<◌, ◌⊎◌, Bool, true, false, List, Option, Some, None, refl, sym, ap, ◌∙◌, subst, inl, inr, ◌↔◌, arith}
-use Rattle.std.specs.Prelude.{option_map}
+use Rattle.std.proofs.Common.{◌≡◌, ◌≢◌, ℕ, ◌+◌, ◌≤◌, ◌<◌, ◌⊎◌, false, List, Option, Some, None, refl, sym, ap, ◌∙◌, subst, inl, inr, arith}
 use Rattle.std.specs.FinMap.{get, remove}
 use Rattle.std.proofs.lemmas.Option.{none-some, same_Some}
 use Rattle.tss_base.specs.declared.range.Range.{Range}
@@ -9,7 +8,6 @@ use Rattle.tss_base.specs.declared.operand.Mode.{Mode}
 use Rattle.tss_base.specs.declared.operand.Mode.TheVariants.{Input, Output, Inout}
 use Rattle.tss_base.specs.declared.operand.Operand.{Operand}
 use Rattle.tss_base.specs.declared.operand.Task.{Task}
-use Rattle.tss_base.specs.declared.event.How.{How}
 use Rattle.tss_base.specs.declared.event.How.TheVariants.{Beside, Over}
 use Rattle.tss_base.specs.declared.event.Follow.{Follow}
 use Rattle.tss_maps.proofs.Keys.{name_order, decide_key}
@@ -17,7 +15,7 @@ use Rattle.tss_maps.proofs.Changes.{at_removed, beside_removed, from_removed, de
 use Rattle.tss_protocol.specs.Mail.{Home, Buffer, OpenContents}
 use Rattle.tss_protocol.specs.State.{State, Version}
 use Rattle.tss_laws.specs.Members.{operand_among, IsOn, NoWriterBetween, IsVersionOf, IsOpenOf, IsMember, registered_of, first_reader, opening_reader, uses_of, total}
-use Rattle.tss_laws.specs.Chains.{IsAfter, IsFollowed, IsLinked, IsOver, HasStorage, OpensFirst, OpensAfter, IsOpenInOrder, IsUseInOrder, HasChains}
+use Rattle.tss_laws.specs.Chains.{IsAfter, IsFollowed, IsLinked, IsOver, HasStorage, IsOpenInOrder, IsUseInOrder, HasChains}
 use Rattle.tss_laws.proofs.ChainsAlike.{object_of_member}
 
 -- ---- a version is registered

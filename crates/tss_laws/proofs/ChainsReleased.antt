@@ -1,28 +1,25 @@
 -- The chains after a release, and after a nack.
-use Rattle.std.proofs.Common.{◌≡◌, ◌≢◌, ℕ, suc, ◌≤◌, Bool, true, false, cond, List, [], ◌∷◌, ◌++◌, Option, Some, None, refl, sym, ap, ◌∙◌, subst, inl, inr, true≢false}
-use Rattle.std.specs.Prelude.{not, is_some}
+use Rattle.std.proofs.Common.{◌≡◌, ◌≤◌, Bool, true, false, List, Option, Some, None, refl, sym, ap, ◌∙◌, subst, inl, inr}
 use Rattle.std.specs.FinMap.{get}
 use Rattle.std.proofs.lemmas.Option.{none-some, same_Some}
 use Rattle.tss_base.specs.declared.operand.OpName.{OpName}
 use Rattle.tss_base.specs.declared.operand.Task.{Task}
 use Rattle.tss_base.specs.declared.machine.Machine.{Machine}
-use Rattle.tss_base.specs.declared.event.Event.{Event}
 use Rattle.tss_base.specs.declared.event.Event.TheVariants as event
-use Rattle.tss_base.specs.Names.{Named}
 use Rattle.tss_maps.proofs.Keys.{name_order}
 use Rattle.tss_maps.proofs.Changes.{at_inserted, from_inserted}
 use Rattle.tss_model.specs.Access.{writes}
-use Rattle.tss_protocol.specs.Mail.{ReleaseContents, Message, Bye, taken, posted_all}
+use Rattle.tss_protocol.specs.Mail.{ReleaseContents, taken}
 use Rattle.tss_protocol.specs.State.{State, Version}
-use Rattle.tss_protocol.specs.Versions.{Versioned, put_version, head_ready, is_last, produced_now, released_once, settled, sending, released_by, released_at, after_release, refused_once, nacked_at, after_nack}
+use Rattle.tss_protocol.specs.Versions.{put_version, produced_now, released_once, settled, released_by, released_at, after_release, refused_once, nacked_at, after_nack}
 use Rattle.tss_protocol.specs.UnitMachine.{after_event, with_versioned, without, release_message_taken, nack_message_taken}
-use Rattle.tss_phases.specs.Phase.{phase_of, has_released}
+use Rattle.tss_phases.specs.Phase.{has_released}
 use Rattle.tss_laws.specs.Chains.{HasChains}
-use Rattle.tss_laws.specs.Entries.{IsSettled, HasRetirement}
-use Rattle.tss_laws.specs.Readers.{Arrivals, Has, HasReaders}
+use Rattle.tss_laws.specs.Entries.{HasRetirement}
+use Rattle.tss_laws.specs.Readers.{Arrivals}
 use Rattle.tss_laws.specs.Holders.{IsOwnOrRead}
 use Rattle.tss_laws.specs.Control.{HasGroundwork, IsControlled}
-use Rattle.tss_laws.proofs.SentLemmas.{AllSent, IsLater, posted_all-later, after_release-later, after_nack-later}
+use Rattle.tss_laws.proofs.SentLemmas.{posted_all-later, after_release-later, after_nack-later}
 use Rattle.tss_laws.proofs.SettleCases.{OthersSettled}
 use Rattle.tss_laws.proofs.ChainsAlike.{AreAlike}
 use Rattle.tss_laws.proofs.ChainsFrames.{HasChains-same}

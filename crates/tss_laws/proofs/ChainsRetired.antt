@@ -1,27 +1,22 @@
 -- The chains after a retire: its version was the only one of its object, and nothing was directed to it.
-use Rattle.std.proofs.Common.{◌≡◌, ◌≢◌, ℕ, ◌+◌, ◌≤◌, ◌<◌, ◌⊎◌, Bool, true, false, List, Option, Some, None, refl, sym, ap, ◌∙◌, subst, inl, inr, ◌↔◌, true≢false}
-use Rattle.std.specs.Prelude.{is_some}
+use Rattle.std.proofs.Common.{◌≡◌, ◌≢◌, ◌+◌, Bool, true, false, List, Option, Some, None, refl, sym, ap, ◌∙◌, subst, inl, inr}
 use Rattle.std.specs.FinMap.{get, remove}
-use Rattle.std.proofs.lemmas.Option.{none-some, same_Some}
+use Rattle.std.proofs.lemmas.Option.{same_Some}
 use Rattle.tss_base.specs.declared.range.Range.{Range}
 use Rattle.tss_base.specs.declared.operand.OpName.{OpName}
-use Rattle.tss_base.specs.declared.operand.Mode.TheVariants.{Input, Output, Inout}
-use Rattle.tss_base.specs.declared.operand.Operand.{Operand}
 use Rattle.tss_base.specs.declared.operand.Task.{Task}
 use Rattle.tss_base.specs.declared.machine.Machine.{Machine}
-use Rattle.tss_base.specs.declared.event.Event.{Event}
 use Rattle.tss_base.specs.declared.event.Event.TheVariants as event
-use Rattle.tss_base.specs.declared.event.How.TheVariants.{Beside, Over}
 use Rattle.tss_base.specs.declared.event.Follow.{Follow}
 use Rattle.tss_maps.proofs.Keys.{name_order}
-use Rattle.tss_maps.proofs.Changes.{at_removed, beside_removed, from_removed, decide_get}
-use Rattle.tss_protocol.specs.Mail.{Home, OpenContents, taken}
+use Rattle.tss_maps.proofs.Changes.{beside_removed, from_removed, decide_get}
+use Rattle.tss_protocol.specs.Mail.{OpenContents, taken}
 use Rattle.tss_protocol.specs.State.{State, Entry, Version}
 use Rattle.tss_protocol.specs.Buffers.{sent_by_retire}
 use Rattle.tss_protocol.specs.UnitMachine.{after_event, without, retire_version}
-use Rattle.tss_laws.specs.Members.{operand_among, IsOn, NoWriterBetween, IsVersionOf, IsOpenOf, IsMember, registered_of, opening_reader, uses_of, total}
-use Rattle.tss_laws.specs.Chains.{IsAfter, IsFollowed, IsLinked, IsOver, HasStorage, OpensFirst, OpensAfter, IsOpenInOrder, IsUseInOrder, HasChains}
-use Rattle.tss_laws.specs.Entries.{IsLeaving, IsUsed, IsRetiring, IsLastVersion, HasEntries}
+use Rattle.tss_laws.specs.Members.{IsVersionOf, IsOpenOf, IsMember, registered_of, opening_reader, uses_of, total}
+use Rattle.tss_laws.specs.Chains.{IsAfter, IsFollowed, IsLinked, IsOver, HasStorage, IsOpenInOrder, IsUseInOrder, HasChains}
+use Rattle.tss_laws.specs.Entries.{IsUsed, IsRetiring, IsLastVersion}
 use Rattle.tss_laws.specs.Readers.{Arrivals}
 use Rattle.tss_laws.specs.Control.{HasGroundwork, IsControlled}
 use Rattle.tss_laws.proofs.SentLemmas.{posted_all-later, sent_by_retire-later}

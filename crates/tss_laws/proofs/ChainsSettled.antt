@@ -1,28 +1,26 @@
 -- The chains after a settle, where all other versions were settled.
-use Rattle.std.proofs.Common.{◌≡◌, ◌≢◌, ℕ, ◌+◌, ◌<◌, ◌≤◌, ◌⊎◌, Bool, true, false, List, Option, Some, None, refl, sym, ap, ◌∙◌, subst, inl, inr, arith}
+use Rattle.std.proofs.Common.{◌≡◌, ℕ, ◌+◌, ◌<◌, ◌≤◌, true, List, Some, refl, sym, ap, ◌∙◌, subst, inl, inr, arith}
 use Rattle.std.specs.Prelude.{◌&&◌, ◌==◌, is_none}
 use Rattle.std.specs.FinMap.{get}
-use Rattle.std.proofs.lemmas.Option.{none-some, same_Some}
+use Rattle.std.proofs.lemmas.Option.{same_Some}
 use Rattle.std.proofs.lemmas.Bool.{and_parts}
 use Rattle.std.proofs.lemmas.Bool.Decides.{nat_tests}
 use Rattle.tss_base.specs.declared.operand.OpName.{OpName}
 use Rattle.tss_base.specs.declared.operand.Task.{Task}
-use Rattle.tss_base.specs.declared.event.How.TheVariants.{Beside, Over}
 use Rattle.tss_base.specs.declared.event.Follow.{Follow}
 use Rattle.tss_base.specs.Names.{Named}
 use Rattle.tss_maps.proofs.Keys.{name_order, decide_key}
 use Rattle.tss_maps.proofs.Changes.{at_inserted, beside_inserted, from_inserted}
 use Rattle.tss_maps.proofs.Sums.{counted}
 use Rattle.tss_protocol.specs.Names.{same_name}
-use Rattle.tss_protocol.specs.Mail.{OpenContents}
 use Rattle.tss_protocol.specs.State.{State, Version}
-use Rattle.tss_protocol.specs.Versions.{Versioned, put_version, may_die, unlinked, settle_asking, settled}
+use Rattle.tss_protocol.specs.Versions.{Versioned, put_version, may_die, unlinked, settled}
 use Rattle.tss_phases.proofs.Received.{own_name}
 use Rattle.tss_laws.specs.Members.{registered_of, opening_reader, uses_of, total}
-use Rattle.tss_laws.specs.Chains.{IsFollowed, HasChains}
+use Rattle.tss_laws.specs.Chains.{HasChains}
 use Rattle.tss_laws.proofs.SettleCases.{OthersSettled, HasNext, IsQuiet, Asks, IsTakenOver, IsPassedBy, SettleCase, moved_up, settle_cases}
 use Rattle.tss_laws.proofs.UnlinkedVersions.{GaveWay, gave_way_beside, gave_way_over, took_over}
-use Rattle.tss_laws.proofs.ChainsAlike.{AreAlike, alike_same, AreChainsAlike, KeepsChainMaps, HasChains-alike}
+use Rattle.tss_laws.proofs.ChainsAlike.{AreAlike, alike_same, AreChainsAlike, HasChains-alike}
 use Rattle.tss_laws.proofs.ChainsFrames.{HasChains-same}
 use Rattle.tss_laws.proofs.ChainsGivingWay.{TakesStorage, Departs, HasChains-departed}
 

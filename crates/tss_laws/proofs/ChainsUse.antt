@@ -1,11 +1,10 @@
 -- The chains after a use: its version has one more registered reader, and one less on its way.
-use Rattle.std.proofs.Common.{◌≡◌, ◌≢◌, ℕ, suc, ◌+◌, ◌≤◌, Bool, true, false, cond, List, [], ◌∷◌, Option, Some, None, refl, sym, ap, ◌∙◌, subst, inl, inr, arith, true≢false}
+use Rattle.std.proofs.Common.{◌≡◌, ◌≢◌, ℕ, suc, ◌+◌, Bool, true, false, List, Option, Some, None, refl, sym, ap, ◌∙◌, subst, inl, inr, arith, true≢false}
 use Rattle.std.specs.Prelude.{is_some}
-use Rattle.std.specs.FinMap.{get, insert, remove}
+use Rattle.std.specs.FinMap.{get, remove}
 use Rattle.tss_base.specs.declared.operand.OpName.{OpName}
 use Rattle.tss_base.specs.declared.operand.Task.{Task}
 use Rattle.tss_base.specs.declared.machine.Machine.{Machine}
-use Rattle.tss_base.specs.declared.event.Event.{Event}
 use Rattle.tss_base.specs.declared.event.Event.TheVariants as event
 use Rattle.tss_base.specs.Names.{Named}
 use Rattle.tss_maps.specs.Sums.{one_if}
@@ -13,7 +12,7 @@ use Rattle.tss_maps.proofs.Keys.{name_order, decide_key}
 use Rattle.tss_maps.proofs.Changes.{at_inserted, beside_inserted, from_removed}
 use Rattle.tss_maps.proofs.Sums.{sum_removed}
 use Rattle.tss_protocol.specs.Names.{same_name}
-use Rattle.tss_protocol.specs.Mail.{taken, posted_all}
+use Rattle.tss_protocol.specs.Mail.{taken}
 use Rattle.tss_protocol.specs.State.{State, Version}
 use Rattle.tss_protocol.specs.Versions.{Versioned, put_version, enlisted, used_alone, used_behind, used_at, after_use}
 use Rattle.tss_protocol.specs.UnitMachine.{IsEnabled, is_enabled, can_use_message, after_event, with_versioned, without, use_message_taken}
@@ -22,7 +21,7 @@ use Rattle.tss_laws.specs.Members.{registered_of, opening_reader, uses_of, total
 use Rattle.tss_laws.specs.Chains.{HasChains}
 use Rattle.tss_laws.proofs.SentLemmas.{posted_all-later, after_use-later}
 use Rattle.tss_laws.proofs.ChainsAlike.{AreAlike, HasChains-alike}
-use Rattle.tss_laws.proofs.ChainsSettled.{WritesAlike, alike_written}
+use Rattle.tss_laws.proofs.ChainsSettled.{alike_written}
 
 -- ---- how many are on their way
 

@@ -1,9 +1,8 @@
 -- What is known of a decode under way: older members of its object, and that earlier writers have been decoded.
-use Rattle.std.proofs.Common.{◌≡◌, ◌≢◌, ℕ, zero, suc, ◌≤◌, ◌<◌, Bool, true, false, List, [], ◌∷◌, length, Option, Some, None, refl, sym, ap, ◌∙◌, subst, inl, inr, arith}
+use Rattle.std.proofs.Common.{◌≡◌, ◌≢◌, ℕ, ◌≤◌, ◌<◌, true, List, [], ◌∷◌, length, Some, None, sym, ap, ◌∙◌, subst, inl, inr, arith}
 use Rattle.std.specs.Prelude.{Any, slice_index_or}
 use Rattle.std.specs.FinMap.{get}
-use Rattle.std.proofs.lemmas.Option.{none-some, same_Some}
-use Rattle.tss_base.specs.declared.range.Range.{Range}
+use Rattle.std.proofs.lemmas.Option.{none-some}
 use Rattle.tss_base.specs.declared.operand.OpName.{OpName}
 use Rattle.tss_base.specs.declared.operand.Operand.{Operand}
 use Rattle.tss_base.specs.declared.operand.Task.{Task}
@@ -12,8 +11,7 @@ use Rattle.tss_maps.proofs.Changes.{decide_get}
 use Rattle.tss_protocol.specs.State.{State, Entry}
 use Rattle.tss_phases.specs.Phase.{phase_of, is_decoded}
 use Rattle.tss_phases.specs.Orderly.{AreOrderly}
-use Rattle.tss_laws.specs.Tasks.{IsTaken, IsInGateway, AreGatewayTasks, gateway_room}
-use Rattle.tss_laws.specs.Members.{operand_among, IsWriterOn, NoWriterBetween, IsVersionOf, IsMember}
+use Rattle.tss_laws.specs.Members.{operand_among, IsWriterOn, NoWriterBetween, IsMember}
 use Rattle.tss_laws.specs.Chains.{HasChains}
 use Rattle.tss_laws.specs.Entries.{HasEntries}
 use Rattle.tss_laws.specs.Control.{HasGroundwork}

@@ -1,39 +1,27 @@
 -- Entries where an open has been taken and its version is registered, before the one that it follows is settled.
-use Rattle.std.proofs.Common.{◌≡◌, ◌≢◌, ℕ, ◌≤◌, ◌⊎◌, Bool, true, false, List, [], ◌∷◌, ◌++◌, Option, Some, None, refl, sym, ap, ◌∙◌, subst, inl, inr, true≢false}
-use Rattle.std.specs.Prelude.{is_some}
+use Rattle.std.proofs.Common.{◌≡◌, ◌≢◌, ℕ, List, Some, None, refl, sym, ap, ◌∙◌, inl, inr}
 use Rattle.std.specs.FinMap.{get, remove}
 use Rattle.std.proofs.lemmas.Option.{none-some, same_Some}
 use Rattle.tss_base.specs.declared.range.Range.{Range}
 use Rattle.tss_base.specs.declared.operand.OpName.{OpName}
-use Rattle.tss_base.specs.declared.operand.Mode.{Mode}
-use Rattle.tss_base.specs.declared.operand.Mode.TheVariants.{Input, Output, Inout}
 use Rattle.tss_base.specs.declared.operand.Operand.{Operand}
 use Rattle.tss_base.specs.declared.operand.Task.{Task}
-use Rattle.tss_base.specs.declared.machine.Machine.{Machine}
-use Rattle.tss_base.specs.declared.event.Event.{Event}
-use Rattle.tss_base.specs.declared.event.Event.TheVariants as event
-use Rattle.tss_base.specs.declared.event.How.{How}
-use Rattle.tss_base.specs.declared.event.How.TheVariants.{Beside, Over}
 use Rattle.tss_base.specs.declared.event.Follow.{Follow}
 use Rattle.tss_base.specs.Names.{Named}
 use Rattle.tss_maps.proofs.Keys.{name_order, decide_key}
 use Rattle.tss_maps.proofs.Changes.{at_removed, beside_removed}
-use Rattle.tss_protocol.specs.Mail.{StorageName, OpenContents, GoneContents, Message, Ready, Mail, taken, posted_all}
-use Rattle.tss_protocol.specs.State.{State, Entry, Version, CopyState}
-use Rattle.tss_protocol.specs.Versions.{Versioned, ready_with, settled, followed}
+use Rattle.tss_protocol.specs.Mail.{OpenContents}
+use Rattle.tss_protocol.specs.State.{State, Entry, Version}
 use Rattle.tss_phases.specs.Phase.{Sent, Waiting, look_ups, phase_at, phase_of, is_decoded}
 use Rattle.tss_phases.specs.Orderly.{AreOrderly}
 use Rattle.tss_phases.proofs.AloneLemmas.{silent_but_opening}
 use Rattle.tss_phases.proofs.PhaseLemmas.{phase_silent, phase_opening, station_told}
 use Rattle.tss_phases.proofs.OrderlyLemmas.{fits_at}
-use Rattle.tss_laws.specs.Members.{operand_among, IsVersionOf, IsOpenOf, IsMember, total}
+use Rattle.tss_laws.specs.Members.{IsVersionOf}
 use Rattle.tss_laws.specs.Chains.{HasChains}
-use Rattle.tss_laws.specs.Entries.{IsLeaving, IsGoingHome, IsUsed, IsRetiring, IsLastVersion, HasEntries, HasRetirement}
-use Rattle.tss_laws.specs.Readers.{Arrivals}
-use Rattle.tss_laws.specs.Control.{HasGroundwork, IsControlled}
-use Rattle.tss_laws.proofs.EntriesFrames.{DecodesNoMore, HasNoMore, KeepsLatest, KeepsLeaving, entries_kept}
-use Rattle.tss_laws.proofs.ChainsAlike.{object_of_member}
-use Rattle.tss_laws.proofs.ChainsRegistered.{Registers, linked_to, version_back, open_back, member_back, member_on, total_same, still, old_apart, front_object}
+use Rattle.tss_laws.specs.Entries.{IsLeaving, IsGoingHome, IsUsed, IsRetiring, IsLastVersion, HasEntries}
+use Rattle.tss_laws.proofs.EntriesFrames.{DecodesNoMore, KeepsLeaving, entries_kept}
+use Rattle.tss_laws.proofs.ChainsRegistered.{Registers, version_back, open_back, member_back, member_on, total_same, still, old_apart, front_object}
 
 -- ---- a version is registered
 

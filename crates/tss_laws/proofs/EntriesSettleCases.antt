@@ -1,20 +1,18 @@
 -- What a settle leaves, in each of its cases: the versions, and the one of which it says that it has died.
-use Rattle.std.proofs.Common.{◌≡◌, ◌≢◌, ℕ, ◌⊎◌, inl, inr, Bool, true, false, List, [], ◌∷◌, Option, Some, None, refl, sym, ap, ◌∙◌, subst}
-use Rattle.std.specs.FinMap.{get, insert}
+use Rattle.std.proofs.Common.{◌≡◌, ◌≢◌, inl, inr, true, false, List, [], ◌∷◌, Option, Some, None, refl, sym, ap, ◌∙◌, subst}
+use Rattle.std.specs.FinMap.{get}
 use Rattle.std.proofs.lemmas.Option.{none-some, same_Some}
 use Rattle.tss_base.specs.declared.operand.OpName.{OpName}
 use Rattle.tss_base.specs.declared.operand.Task.{Task}
-use Rattle.tss_base.specs.declared.event.How.TheVariants.{Beside, Over}
 use Rattle.tss_base.specs.declared.event.Follow.{Follow}
 use Rattle.tss_base.specs.Names.{Named}
 use Rattle.tss_maps.proofs.Keys.{name_order, decide_key}
 use Rattle.tss_maps.proofs.Changes.{beside_inserted, from_inserted}
 use Rattle.tss_protocol.specs.Mail.{StorageName, Message, Decode, Ack, Open, Use, Ready, Link, Release, Bye, Idle, Nack, Retire, Gone, GoneContents, Mail, posted, posted_all}
 use Rattle.tss_protocol.specs.State.{State, Version}
-use Rattle.tss_protocol.specs.Versions.{Versioned, settle_asking, may_ask, put_version, ready_with, unchanged, settled, unlinked}
+use Rattle.tss_protocol.specs.Versions.{Versioned, settle_asking, may_ask, put_version, ready_with, settled, unlinked}
 use Rattle.tss_laws.specs.Chains.{HasChains}
-use Rattle.tss_laws.specs.Entries.{IsSettled}
-use Rattle.tss_laws.proofs.SentLemmas.{AllSent, AllSent-append}
+use Rattle.tss_laws.proofs.SentLemmas.{AllSent}
 use Rattle.tss_laws.proofs.SettleCases.{OthersSettled, IsQuiet, Asks, IsTakenOver, IsPassedBy, SettleCase, moved_up, settle_cases}
 use Rattle.tss_laws.proofs.UnlinkedVersions.{GaveWay, gave_way_beside, gave_way_over, took_over}
 use Rattle.tss_laws.proofs.ChainsSettled.{chains_next, chains_own}

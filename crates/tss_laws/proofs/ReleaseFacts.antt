@@ -1,5 +1,5 @@
 -- What is known of a release under way: its operand, and the version that it names.
-use Rattle.std.proofs.Common.{◌≡◌, ◌≢◌, ℕ, suc, ◌≤◌, ◌<◌, ◌⊎◌, Bool, true, false, List, length, Option, Some, None, refl, sym, ap, ◌∙◌, subst, inl, inr, arith, true≢false}
+use Rattle.std.proofs.Common.{◌≡◌, ℕ, suc, ◌≤◌, ◌⊎◌, false, List, length, Some, sym, ap, ◌∙◌, subst, inl, inr, arith, true≢false}
 use Rattle.std.specs.FinMap.{get}
 use Rattle.tss_base.specs.declared.operand.OpName.{OpName}
 use Rattle.tss_base.specs.declared.operand.Operand.{Operand}
@@ -7,7 +7,7 @@ use Rattle.tss_base.specs.declared.operand.Task.{Task}
 use Rattle.tss_model.specs.Access.{writes}
 use Rattle.tss_protocol.specs.Mail.{StorageName, ReleaseContents}
 use Rattle.tss_protocol.specs.State.{State, Version}
-use Rattle.tss_phases.specs.Phase.{Phase, Releasing, look_ups, phase_of, has_released}
+use Rattle.tss_phases.specs.Phase.{Releasing, look_ups, phase_of, has_released}
 use Rattle.tss_phases.specs.Orderly.{AreOrderly}
 use Rattle.tss_phases.proofs.AloneLemmas.{silent_but_releasing}
 use Rattle.tss_phases.proofs.PhaseLemmas.{phase_releasing}

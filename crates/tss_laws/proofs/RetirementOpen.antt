@@ -1,5 +1,5 @@
--- Asking and refusing after an open and after a nack.
-use Rattle.std.proofs.Common.{◌≡◌, ◌≢◌, ℕ, suc, ◌≤◌, ◌⊎◌, Bool, true, false, List, Option, Some, None, refl, sym, ap, ◌∙◌, subst, inl, inr, true≢false}
+-- Asking and refusing after an open.
+use Rattle.std.proofs.Common.{◌≡◌, ◌≢◌, ◌≤◌, ◌⊎◌, true, List, Option, Some, None, refl, sym, ap, ◌∙◌, subst, inl, inr, true≢false}
 use Rattle.std.specs.Prelude.{is_some}
 use Rattle.std.specs.FinMap.{get, remove}
 use Rattle.std.proofs.lemmas.Option.{none-some, same_Some}
@@ -8,102 +8,25 @@ use Rattle.tss_base.specs.declared.operand.Mode.{Mode}
 use Rattle.tss_base.specs.declared.operand.Mode.TheVariants.{Input, Output, Inout}
 use Rattle.tss_base.specs.declared.operand.Task.{Task}
 use Rattle.tss_base.specs.declared.machine.Machine.{Machine}
-use Rattle.tss_base.specs.declared.event.Event.{Event}
 use Rattle.tss_base.specs.declared.event.Event.TheVariants as event
-use Rattle.tss_base.specs.declared.event.How.{How}
-use Rattle.tss_base.specs.declared.event.How.TheVariants.{Beside, Over}
 use Rattle.tss_base.specs.declared.event.Follow.{Follow}
-use Rattle.tss_base.specs.Names.{Named}
 use Rattle.tss_maps.proofs.Keys.{name_order, decide_key}
-use Rattle.tss_maps.proofs.Changes.{at_inserted, from_inserted, at_removed, from_removed}
-use Rattle.tss_protocol.specs.Mail.{StorageName, OpenContents, Mail, taken, posted_all}
+use Rattle.tss_maps.proofs.Changes.{from_inserted}
+use Rattle.tss_protocol.specs.Mail.{OpenContents, taken}
 use Rattle.tss_protocol.specs.State.{State, Version}
-use Rattle.tss_protocol.specs.Versions.{Versioned, put_version, first_version, followed, settled, opened_how, opened_by, after_open, is_followable, refused_once, nacked_at, after_nack}
-use Rattle.tss_protocol.specs.UnitMachine.{IsEnabled, is_enabled, can_open_message, after_event, with_versioned, without, open_message_taken, nack_message_taken}
-use Rattle.tss_laws.specs.Chains.{HasChains}
-use Rattle.tss_laws.specs.Entries.{AsksRightly, HasCause, IsSettled, HasRetirement}
+use Rattle.tss_protocol.specs.Versions.{put_version, first_version, followed, settled, opened_by, after_open, is_followable}
+use Rattle.tss_protocol.specs.UnitMachine.{IsEnabled, is_enabled, can_open_message, after_event, with_versioned, without, open_message_taken}
+use Rattle.tss_laws.specs.Entries.{HasCause, IsSettled, HasRetirement}
 use Rattle.tss_laws.specs.Readers.{Arrivals}
 use Rattle.tss_laws.specs.Control.{HasGroundwork, IsControlled}
-use Rattle.tss_laws.proofs.PlainLemmas.{some_unit}
-use Rattle.tss_laws.proofs.SentLemmas.{posted_all-later, after_open-later, after_nack-later}
-use Rattle.tss_laws.proofs.JointLemmas.{IsJoint, joint_settled, joint_open}
+use Rattle.tss_laws.proofs.SentLemmas.{posted_all-later, after_open-later}
+use Rattle.tss_laws.proofs.JointLemmas.{joint_open}
 use Rattle.tss_laws.proofs.RetirementFrames.{cause_same}
 use Rattle.tss_laws.proofs.RetirementSettled.{RetiresBut, HasRetirement-settled}
-use Rattle.tss_laws.proofs.RetirementReleased.{nacks_left, WritesRightly, quiet_calm, retires_written}
-use Rattle.tss_laws.proofs.ChainsSettled.{HasChains-written}
-use Rattle.tss_laws.proofs.ChainsReleased.{refused_like}
+use Rattle.tss_laws.proofs.RetirementReleased.{nacks_left, quiet_calm}
 use Rattle.tss_laws.proofs.ChainsRegistered.{linked_to, HasChains-registered}
 use Rattle.tss_laws.proofs.ChainsOpen.{following, at_followed, behind_followed, beside_followed, others_followed, registered_state, registers_behind, front_apart, fresh, part_how}
 use Rattle.tss_laws.proofs.ReleaseFacts.{released_few}
-
--- ---- nack
-
-module _ (m : Machine) (all ts : List Task) (g : Arrivals) (S : State) (ground : HasGroundwork m all ts S)
-    (k : IsControlled ts g S) where
-  module _ (v : OpName) (x : Version) (there : get S.versions v ≡ Some x) (nack : get S.mail.nacks v ≡ Some tt) where
-    -- the state with the nack taken and the version refused
-    abbrev refused_state : State
-    refused_state = record S {
-      versions = put_version S.versions v (refused_once x);
-      mail = record (S.mail) { nacks = remove S.mail.nacks v };
-    }
-
-    no_nack : get (remove S.mail.nacks v) v ≡ Some tt → ⊥
-    no_nack n = none-some tt (sym (at_removed name_order S.mail.nacks v) ∙ n)
-
-    writes_refused : WritesRightly S refused_state v x (refused_once x)
-    writes_refused = record {
-      there = there;
-      put = refl;
-      entries = refl;
-      asked = λ count e. absurd (none-some count e);
-      refused = λ count e.
-          cause_same S refused_state refl v x count (k.retirement.refusing v x count there e nack);
-      refusing = λ count e n. absurd (no_nack n);
-      calm = λ e n. no_nack n;
-      nacks = λ w n. (from_removed name_order S.mail.nacks v w tt n).1;
-    }
-
-    retires_refused : (T : State) → T.versions ≡ (settled (put_version S.versions v (refused_once x)) v).part
-        → T.mail.opens ≡ S.mail.opens → T.mail.uses ≡ S.mail.uses → T.entries ≡ S.entries
-        → T.mail.nacks ≡ remove S.mail.nacks v → HasRetirement T
-    retires_refused T part opens uses entries nacks =
-        let U = refused_state in
-        HasRetirement-settled ts U T
-        (HasChains-written S U v x (refused_once x)
-        (record { there = there; put = refl; like = refused_like x; registered = refl; opens = refl; uses = refl })
-        ts k.chains)
-        v (retires_written m all ts S ground k.retirement U v x (refused_once x) writes_refused) part opens uses
-        (λ t e.
-        subst (λ (z : Version). z.released ≤ z.registered)
-        (same_Some (refused_once x) t (sym (at_inserted name_order S.versions v (refused_once x)) ∙ e))
-        (released_few ts g S k.readers v x there))
-        entries nacks
-
-  retires_nack : (v : OpName) → get S.mail.nacks v ≡ Some tt → (x : Option Version) → get S.versions v ≡ x
-      → (T : State) → T.versions ≡ (nacked_at S.versions v x).part → T.mail.opens ≡ S.mail.opens
-      → T.mail.uses ≡ S.mail.uses → T.entries ≡ S.entries → T.mail.nacks ≡ remove S.mail.nacks v → HasRetirement T
-  retires_nack v n None e T part opens uses entries nacks =
-      let a = (ground.asking.nacks v n).0 in absurd (none-some a.1.0 (sym e ∙ a.1.1))
-  retires_nack v n (Some x) e T part opens uses entries nacks =
-      retires_refused v x e n T part opens uses entries nacks
-
-  nacked_nacks : (v : OpName) (x : Option Version)
-      → (posted_all (taken S.mail (event.Nack v)) (nacked_at S.versions v x).sent).nacks ≡ remove S.mail.nacks v
-  nacked_nacks v None = refl
-  nacked_nacks v (Some x) =
-      joint_settled (λ vs m. m.nacks ≡ remove S.mail.nacks v) (nacks_left (remove S.mail.nacks v))
-      (put_version S.versions v (refused_once x)) (taken S.mail (event.Nack v)) v refl
-
-  -- nack
-  pub HasRetirement-nack : (v : OpName) → IsEnabled m S (event.Nack v) → HasRetirement (after_event m S (event.Nack v))
-  unfolding is_enabled after_event
-  HasRetirement-nack v on =
-      let d = after_nack S.versions v in
-      let same = posted_all-later (taken S.mail (event.Nack v)) d.sent (after_nack-later S.versions v) in
-      retires_nack v (some_unit (get S.mail.nacks v) on) (get S.versions v) refl
-      (nack_message_taken (without S (event.Nack v)) v) refl same.opens same.uses refl
-      (nacked_nacks v (get S.versions v))
 
 -- ---- a version that is new
 

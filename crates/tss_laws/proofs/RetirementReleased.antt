@@ -1,39 +1,31 @@
--- Asking and refusing after an open, a release and a nack.
-use Rattle.std.proofs.Common.{◌≡◌, ◌≢◌, ℕ, suc, ◌≤◌, ◌⊎◌, Bool, true, false, List, Option, Some, None, refl, sym, ap, ◌∙◌, subst, inl, inr, arith, true≢false}
-use Rattle.std.specs.Prelude.{is_some}
-use Rattle.std.specs.FinMap.{get, remove}
+-- Asking and refusing after a release.
+use Rattle.std.proofs.Common.{◌≡◌, ◌≢◌, ℕ, suc, ◌≤◌, ◌⊎◌, Bool, true, false, List, Option, Some, None, refl, sym, ap, ◌∙◌, subst, inl, inr, arith}
+use Rattle.std.specs.FinMap.{get}
 use Rattle.std.proofs.lemmas.Option.{none-some, same_Some}
 use Rattle.tss_base.specs.declared.operand.OpName.{OpName}
-use Rattle.tss_base.specs.declared.operand.Mode.{Mode}
-use Rattle.tss_base.specs.declared.operand.Mode.TheVariants.{Input, Output, Inout}
 use Rattle.tss_base.specs.declared.operand.Task.{Task}
 use Rattle.tss_base.specs.declared.machine.Machine.{Machine}
-use Rattle.tss_base.specs.declared.event.Event.{Event}
 use Rattle.tss_base.specs.declared.event.Event.TheVariants as event
-use Rattle.tss_base.specs.declared.event.How.{How}
-use Rattle.tss_base.specs.declared.event.How.TheVariants.{Beside, Over}
-use Rattle.tss_base.specs.declared.event.Follow.{Follow}
 use Rattle.tss_base.specs.Names.{Named}
-use Rattle.tss_maps.proofs.Keys.{name_order, decide_key}
-use Rattle.tss_maps.proofs.Changes.{at_inserted, beside_inserted, from_inserted, at_removed, from_removed}
+use Rattle.tss_maps.proofs.Keys.{name_order}
+use Rattle.tss_maps.proofs.Changes.{at_inserted, from_inserted}
 use Rattle.tss_model.specs.Access.{writes}
-use Rattle.tss_protocol.specs.Mail.{OpenContents, ReleaseContents, Mail, taken, posted_all}
+use Rattle.tss_protocol.specs.Mail.{ReleaseContents, taken}
 use Rattle.tss_protocol.specs.State.{State, Version}
-use Rattle.tss_protocol.specs.Versions.{Versioned, put_version, first_version, followed, settled, opened_how, opened_by, after_open, is_followable, produced_now, released_once, released_by, released_at, after_release, refused_once, nacked_at, after_nack}
-use Rattle.tss_protocol.specs.UnitMachine.{IsEnabled, is_enabled, can_open_message, after_event, with_versioned, without, open_message_taken, release_message_taken, nack_message_taken}
+use Rattle.tss_protocol.specs.Versions.{put_version, settled, produced_now, released_once, released_by, released_at, after_release}
+use Rattle.tss_protocol.specs.UnitMachine.{after_event, with_versioned, without, release_message_taken}
 use Rattle.tss_phases.specs.Phase.{has_released}
-use Rattle.tss_laws.specs.Chains.{HasChains}
-use Rattle.tss_laws.specs.Entries.{AsksRightly, HasCause, IsSettled, HasRetirement}
+use Rattle.tss_laws.specs.Entries.{AsksRightly, HasCause, HasRetirement}
 use Rattle.tss_laws.specs.Readers.{Arrivals}
 use Rattle.tss_laws.specs.Holders.{IsOwnOrRead}
 use Rattle.tss_laws.specs.Control.{HasGroundwork, IsControlled}
-use Rattle.tss_laws.proofs.SentLemmas.{posted_all-later, after_open-later, after_release-later, after_nack-later}
-use Rattle.tss_laws.proofs.JointLemmas.{IsJoint, joint_settled, joint_open, joint_release}
+use Rattle.tss_laws.proofs.SentLemmas.{posted_all-later, after_release-later}
+use Rattle.tss_laws.proofs.JointLemmas.{IsJoint, joint_release}
 use Rattle.tss_laws.proofs.RetirementFrames.{HasRetirement-same, cause_same}
 use Rattle.tss_laws.proofs.RetirementSettled.{RetiresBut, HasRetirement-settled}
 use Rattle.tss_laws.proofs.ChainsAlike.{AreAlike}
 use Rattle.tss_laws.proofs.ChainsSettled.{with_versions, HasChains-written}
-use Rattle.tss_laws.proofs.ChainsReleased.{others_written, produced_like, released_like, refused_like}
+use Rattle.tss_laws.proofs.ChainsReleased.{produced_like, released_like}
 use Rattle.tss_laws.proofs.ReleaseFacts.{Releases, releases_facts, released_few, released_fewer}
 
 -- ---- no nack is sent

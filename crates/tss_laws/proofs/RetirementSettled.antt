@@ -7,20 +7,18 @@ use Rattle.std.proofs.lemmas.Bool.{and_parts}
 use Rattle.std.proofs.lemmas.Bool.Decides.{nat_tests}
 use Rattle.tss_base.specs.declared.operand.OpName.{OpName}
 use Rattle.tss_base.specs.declared.operand.Task.{Task}
-use Rattle.tss_base.specs.declared.event.How.TheVariants.{Beside, Over}
 use Rattle.tss_base.specs.declared.event.Follow.{Follow}
-use Rattle.tss_base.specs.Names.{Named}
 use Rattle.tss_maps.proofs.Keys.{name_order, decide_key}
-use Rattle.tss_maps.proofs.Changes.{at_inserted, from_inserted}
+use Rattle.tss_maps.proofs.Changes.{from_inserted}
 use Rattle.tss_protocol.specs.State.{State, Version}
-use Rattle.tss_protocol.specs.Versions.{Versioned, put_version, may_die, may_ask, is_count, followed_by, unlinked, settled}
+use Rattle.tss_protocol.specs.Versions.{Versioned, may_die, may_ask, is_count, followed_by, settled}
 use Rattle.tss_laws.specs.Chains.{HasChains}
 use Rattle.tss_laws.specs.Entries.{AsksRightly, HasCause, IsSettled, HasRetirement}
 use Rattle.tss_laws.proofs.PlainLemmas.{none_from_test}
 use Rattle.tss_laws.proofs.SettleCases.{OthersSettled, IsQuiet, Asks, IsTakenOver, IsPassedBy, SettleCase, moved_up, settle_cases}
-use Rattle.tss_laws.proofs.UnlinkedVersions.{bridged, took_over, GaveWay, gave_way_beside, gave_way_over}
+use Rattle.tss_laws.proofs.UnlinkedVersions.{bridged, took_over}
 use Rattle.tss_laws.proofs.RetirementFrames.{cause_same}
-use Rattle.tss_laws.proofs.ChainsGivingWay.{TakesStorage, Departs, IsNextOne, IsOneBefore, IsOther, Came, came, next_back, same_object}
+use Rattle.tss_laws.proofs.ChainsGivingWay.{Departs, IsNextOne, IsOneBefore, IsOther, Came, came, next_back, same_object}
 use Rattle.tss_laws.proofs.ChainsSettled.{chains_next, next_over, departs_over, passed_state, departs_beside}
 
 -- ---- all but that one version is settled
