@@ -49,7 +49,8 @@ pub record UsedThen (vs : Named Version) (v : OpName) (x : Version) (d : Version
   pub quiet : AllSent IsQuiet d.sent
   pub aside : AllSent IsAside d.sent
 
-ready_quiet : (o v : OpName) (s : Option StorageName) → AllSent IsQuiet (ready_with o v s)
+-- a ready is quiet
+pub ready_quiet : (o v : OpName) (s : Option StorageName) → AllSent IsQuiet (ready_with o v s)
 ready_quiet o v None = tt
 ready_quiet o v (Some s) = (tt, tt)
 

@@ -193,6 +193,7 @@ pub mod ReadersEvents
 pub mod EntriesUse
 pub mod WaitsOperands
 pub mod EntriesRelease
+pub mod EntriesOpen
 pub mod Values
 pub mod ProgressSettled
 pub mod EntriesRegistered
