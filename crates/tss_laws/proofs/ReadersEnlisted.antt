@@ -53,7 +53,8 @@ all_wait S (x ∷ y ∷ ys) c a e w b (inr h) = all_wait S (y ∷ ys) c.1 a e w 
 -- ---- one more reader
 
 -- what is the same wherever one more reader comes
-pub record Enlists (ts : List Task) (xs : List OpName) (S T : State) (v : OpName) (x z : Version) (o : OpName) : Type 0 where
+pub record Enlists (ts : List Task) (xs : List OpName) (S T : State) (v : OpName) (x z : Version) (o : OpName)
+    : Type 0 where
   pub old : HasArrivals ts xs S v x
   pub same : (a : OpName) → Has a xs → phase_of T a ≡ phase_of S a
   pub station : (a : OpName) → operand_at T.flight a ≡ operand_at S.flight a
@@ -123,7 +124,10 @@ module _ (ts : List Task) (xs : List OpName) (S T : State) (v : OpName) (x z : V
 -- ---- the first reader of a produced version, or one that comes when all others have released it
 
 not_early : (p : Phase) → has_released p ≡ true → (p ≢ Waiting) × (p ≢ Told)
-not_early p e = (λ f. not_both (has_released p) e (ap has_released f), λ f. not_both (has_released p) e (ap has_released f))
+not_early p e =
+    let clash : (q : Phase) → has_released q ≡ false → p ≢ q = λ q late f.
+      not_both (has_released p) e (ap has_released f ∙ late) in
+    (clash Waiting refl, clash Told refl)
 
 told_first : (p : Phase) → p ≡ Told → p ≡ Waiting → ⊥
 told_first p e f = cc
@@ -132,7 +136,8 @@ told_first p e f = cc
 pub no_tail : (S : State) (xs : List OpName) → tail_of S xs ≡ None → (a : OpName) → newest_of xs ≡ Some a
     → has_released (phase_of S a) ≡ true
 no_tail S [] e a n = absurd (none-some a n)
-no_tail S (x ∷ xs) e a n = ap (λ a. has_released (phase_of S a)) (sym (same_Some x a n)) ∙ by (has_released (phase_of S x)) e
+no_tail S (x ∷ xs) e a n =
+    ap (λ a. has_released (phase_of S a)) (sym (same_Some x a n)) ∙ by (has_released (phase_of S x)) e
   where
     by : (b : Bool) → cond b None (Some x) ≡ None → b ≡ true
     by true e = refl
@@ -203,7 +208,8 @@ module _ (ts : List Task) (xs : List OpName) (S T : State) (v : OpName) (x z : V
           some_oldest (y ∷ w ∷ ws) a h none = some_oldest (w ∷ ws) w (inl refl) none
       by (Some f) oldest done =
           not_both (has_released (phase_of S a)) done
-          (ap has_released (all_wait S xs k.old.chained f oldest ((k.old.first f oldest).1 produced) a (has_newest a xs e)))
+          (ap has_released
+          (all_wait S xs k.old.chained f oldest ((k.old.first f oldest).1 produced) a (has_newest a xs e)))
 
   -- it is the first of an open version, and waits for that
   pub enlisted_head : x.tail ≡ None → x.produced ≡ false → phase_of T o ≡ Waiting → z.head ≡ Some o

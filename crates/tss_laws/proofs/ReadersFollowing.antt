@@ -1,4 +1,5 @@
--- A version is opened that follows another: what that leaves of all versions, and whom a settle of the followed one tells.
+-- A version is opened that follows another: what that leaves of all versions, and whom a settle of the followed one
+-- tells.
 use Rattle.std.proofs.Common.{◌≡◌, ◌≢◌, ◌⊎◌, inl, inr, ℕ, ◌<◌, ◌≤◌, true, List, Option, Some, None, refl, sym, ap, ◌∙◌, subst, arith}
 use Rattle.std.specs.FinMap.{get}
 use Rattle.std.proofs.lemmas.Option.{none-some, same_Some}

@@ -89,7 +89,8 @@ module _ (m : Machine) (ts : List Task) (g : Arrivals) (S : State) (h : HasReade
           links = ap (λ ls. get ls a) (links-finish m S w);
           holds = λ c k. holds_after S Finished b.task.number (finished_task m S w b x busy flying)
               (flight-finish m S w b x busy flying) Any ts g orderly holders
-              (λ q r fit same there early. absurd (late_ready (phase_of S q) (ready q r same there) early)) a c p tt at k;
+              (λ q r fit same there early.
+                absurd (late_ready (phase_of S q) (ready q r same there) early)) a c p tt at k;
           station = finish_station a;
         })
         (λ a c k. let s = finish_station a k.0 k.1 in (s.0, s.1, sym s.2 ∙ k.2))
@@ -118,7 +119,8 @@ module _ (m : Machine) (ts : List Task) (g : Arrivals) (S : State) (h : HasReade
 
     bye_alike : (a : OpName) → LooksAlike (phase_of S a) (phase_of Parted a)
     bye_alike a = elim (decide_key name_order a o) [
-      | inl same ↦ alike_by (phase_of S a) (phase_of Parted a) Leaving (phase_parted (promised && not (has_passed r.link)))
+      | inl same ↦ alike_by (phase_of S a) (phase_of Parted a) Leaving
+          (phase_parted (promised && not (has_passed r.link)))
           (ap (phase_of S) same ∙ leaving)
           (ap (phase_of Parted) same ∙ phase_of-bye m S o promised r there kept (orderly o).alone taken)
           (parted_alike (promised && not (has_passed r.link)))

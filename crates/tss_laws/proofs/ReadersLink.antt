@@ -110,7 +110,8 @@ module _ (m : Machine) (ts : List Task) (g : Arrivals) (S : State) (h : HasReade
   unfolding after_event
   links_now =
       ap (λ x. (link_message_taken (without S (event.Link o)) o x).mail.links) there
-      ∙ links_kept (without S (event.Link o)).mail _ (after_link-all IsNoLink (λ o source. tt) (λ o r. tt) S.flight o next)
+      ∙ links_kept (without S (event.Link o)).mail _
+      (after_link-all IsNoLink (λ o source. tt) (λ o r. tt) S.flight o next)
 
   no_link_now : (c : OpName) → IsLinking After o c → ⊥
   no_link_now c e =

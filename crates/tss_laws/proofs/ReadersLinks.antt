@@ -102,7 +102,8 @@ module _ (vs : Named Version) (o : OpName) where
   head_ready-no_link v x None = tt
   head_ready-no_link v x (Some h) = ready_with-no_link h v x.storage
 
-  released_by-no_link : (v : OpName) (x : Version) (producer : Bool) → AllSent IsNoLink (released_by vs o v x producer).sent
+  released_by-no_link : (v : OpName) (x : Version) (producer : Bool)
+      → AllSent IsNoLink (released_by vs o v x producer).sent
   released_by-no_link v x true =
       AllSent-append IsNoLink (head_ready v x x.head ++ Bye o false ∷ []) _
       (AllSent-append IsNoLink (head_ready v x x.head) _ (head_ready-no_link v x x.head) (tt, tt))
@@ -158,7 +159,8 @@ module _ (m : Machine) (S : State) where
 
   decode_links : (o : OpName) (p : Option Operand) → Kept (decode_message_taken m (without S (event.Decode o)) o p)
   decode_links o None = refl
-  decode_links o (Some p) = posted-no_link (without S (event.Decode o)).mail _ (decode-no_link o p (get S.entries p.object.base))
+  decode_links o (Some p) =
+      posted-no_link (without S (event.Decode o)).mail _ (decode-no_link o p (get S.entries p.object.base))
 
   -- decode
   pub links-decode : (o : OpName) → Kept (after_event m S (event.Decode o))

@@ -86,7 +86,9 @@ module _ (m : Machine) (all ts : List Task) (g : Arrivals) (S : State) (h : HasR
       → tells (after_open S.versions o c).sent q ≡ true → ⊥
   tells_none q y apart on e = elim (open_tells S.versions o c q e) [
     | inl p ↦ apart p.0
-    | inr p ↦ taker_writes ts q y (opened_tells ts S chains o c p.0 there p.1 (suc (len (followed S.versions o c p.0))) q p.2) on
+    | inr p ↦
+        let n = suc (len (followed S.versions o c p.0)) in
+        taker_writes ts q y (opened_tells ts S chains o c p.0 there p.1 n q p.2) on
   ]
 
   same : (w : OpName) (y : Version) (a : OpName) → get S.versions w ≡ Some y → Has a (g w)
@@ -126,8 +128,8 @@ module _ (m : Machine) (all ts : List Task) (g : Arrivals) (S : State) (h : HasR
     writer_new : (mode : Mode) → c.operand.mode ≡ mode → (mode ≡ Input → ⊥) → (z : Version)
         → z.object ≡ c.operand.object → IsOn ts z.object Input o → ⊥
     writer_new mode e other z object on =
-        other (one_mode c.operand on.operand (same_Some c.operand on.operand (sym order.operand ∙ on.there)) mode Input e
-        on.is_mode)
+        let same = same_Some c.operand on.operand (sym order.operand ∙ on.there) in
+        other (one_mode c.operand on.operand same mode Input e on.is_mode)
 
     first_own : (mode : Mode) → c.operand.mode ≡ mode
         → HasArrivals ts (first_arrivals o mode None) (record After { versions = us }) o
@@ -141,7 +143,9 @@ module _ (m : Machine) (all ts : List Task) (g : Arrivals) (S : State) (h : HasR
           head = refl;
           tail = refl;
           told = is_told;
-          no_link = λ d l. let k = h.links o d (sym (ap (λ ls. get ls o) (links-open m S o)) ∙ l) in unread k.0 k.1 k.2 k.3;
+          no_link = λ d l.
+              let k = h.links o d (sym (ap (λ ls. get ls o) (links-open m S o)) ∙ l) in
+              unread k.0 k.1 k.2 k.3;
           nothing = λ r at. sent_link (phase_of S o) r.link was_sent
               (holders.links o c.operand r order.operand (sym ((stations_of us).station o) ∙ at)).fits;
         })
@@ -160,7 +164,10 @@ module _ (m : Machine) (all ts : List Task) (g : Arrivals) (S : State) (h : HasR
     alone_in Output a k = absurd k
     alone_in Inout a k = absurd k
 
-    opens_first : Opens ts g S (record After { versions = us }) o (first_arrivals o c.operand.mode None)
+    abbrev first_readers : List OpName
+    first_readers = first_arrivals o c.operand.mode None
+
+    opens_first : Opens ts g S (record After { versions = us }) o first_readers
     opens_first = record {
       stations = stations_of us;
       fresh = absent;
@@ -176,9 +183,9 @@ module _ (m : Machine) (all ts : List Task) (g : Arrivals) (S : State) (h : HasR
     readers_first : HasReaders ts (set_arrivals g o (first_arrivals o c.operand.mode c.follows)) After
     readers_first =
         subst (λ f. HasReaders ts (set_arrivals g o (first_arrivals o c.operand.mode f)) After) (sym none)
-        (subst (λ vs. HasReaders ts (set_arrivals g o (first_arrivals o c.operand.mode None)) (record After { versions = vs }))
+        (subst (λ vs. HasReaders ts (set_arrivals g o first_readers) (record After { versions = vs }))
         (sym first_versions)
-        (readers_opened ts g S (record After { versions = us }) o (first_arrivals o c.operand.mode None) h opens_first))
+        (readers_opened ts g S (record After { versions = us }) o first_readers h opens_first))
 
   -- ---- a version that follows another
 

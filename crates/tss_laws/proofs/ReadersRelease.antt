@@ -45,13 +45,15 @@ use Rattle.tss_laws.proofs.ReadersWritten.{SameStations, reader_by, newest_stays
 
 module _ (ts : List Task) (xs : List OpName) (S T : State) (v : OpName) (x : Version) (h : HasArrivals ts xs S v x)
     (k : SameStations S T) (told : (a : OpName) → x.produced ≡ false → oldest_of xs ≡ Some a → phase_of T a ≡ Told)
-    (others : (a : OpName) → Has a xs → ((x.produced ≡ false) × (oldest_of xs ≡ Some a)) ⊎ (phase_of T a ≡ phase_of S a)) where
+    (others : (a : OpName) → Has a xs
+    → ((x.produced ≡ false) × (oldest_of xs ≡ Some a)) ⊎ (phase_of T a ≡ phase_of S a)) where
   first_waited : (a : OpName) → x.produced ≡ false → oldest_of xs ≡ Some a → phase_of S a ≡ Waiting
   first_waited a p e = (h.first a e).1 p
 
   -- the same is seen but of the first
   first_seen : (a : OpName) → Has a xs
-      → (has_released (phase_of T a) ≡ has_released (phase_of S a)) × (has_arrived (phase_of T a) ≡ has_arrived (phase_of S a))
+      → (has_released (phase_of T a) ≡ has_released (phase_of S a))
+      × (has_arrived (phase_of T a) ≡ has_arrived (phase_of S a))
   first_seen a q = elim (others a q) [
     | inl p ↦ waiting_told (phase_of S a) (phase_of T a) (first_waited a p.0 p.1) (told a p.0 p.1)
     | inr same ↦ (ap has_released same, ap has_arrived same)
@@ -165,9 +167,11 @@ module _ (m : Machine) (ts : List Task) (g : Arrivals) (S : State) (h : HasReade
   settle_tells_writer : (b : Bool) (q : OpName)
       → SettleTells (suc (len (Released b))) (Released b) v q → IsTaker ts q
   settle_tells_writer true q t =
-      settle_tells_taker ts S chains v x (version_released o x true) f.there refl refl stored (suc (len (Released true))) q t
+      settle_tells_taker ts S chains v x (version_released o x true) f.there refl refl stored
+      (suc (len (Released true))) q t
   settle_tells_writer false q t =
-      settle_tells_taker ts S chains v x (version_released o x false) f.there refl refl stored (suc (len (Released false))) q t
+      settle_tells_taker ts S chains v x (version_released o x false) f.there refl refl stored
+      (suc (len (Released false))) q t
 
   -- of the readers it tells the head alone, and that only where the producer releases
   tells_head : (b : Bool) (q : OpName) (y : Range) → IsOn ts y Input q
@@ -182,8 +186,10 @@ module _ (m : Machine) (ts : List Task) (g : Arrivals) (S : State) (h : HasReade
       readers_settled ts g After (Released b) v (versions_now b e) (few b) k
     where
       few : (b : Bool) → HasFewReaders (Released b)
-      few true = few_written S.versions v x (version_released o x true) f.there refl refl refl (few_readers ts S chains)
-      few false = few_written S.versions v x (version_released o x false) f.there refl refl refl (few_readers ts S chains)
+      few true =
+          few_written S.versions v x (version_released o x true) f.there refl refl refl (few_readers ts S chains)
+      few false =
+          few_written S.versions v x (version_released o x false) f.there refl refl refl (few_readers ts S chains)
 
   -- ---- by a reader
 
@@ -202,8 +208,8 @@ module _ (m : Machine) (ts : List Task) (g : Arrivals) (S : State) (h : HasReade
     readers_released =
         all_settled false reader
         (readers_written ts g S (Middle false) v x (version_released o x false) h (same_stations false) f.there refl
-        (arrivals_released ts (g v) S (Middle false) v x o (h.versions v x f.there) (same_stations false) member f.phase now
-        (λ a apart q. silent v x a f.there q apart))
+        (arrivals_released ts (g v) S (Middle false) v x o (h.versions v x f.there) (same_stations false) member f.phase
+        now (λ a apart q. silent v x a f.there q apart))
         (λ w y apart e. arrivals_beside ts (g w) S (Middle false) w y (same_stations false)
         (λ a q. silent w y a e q
         (λ is. apart (h.apart w v o y x e f.there (subst (λ a. Has a (g w)) is q) member)))

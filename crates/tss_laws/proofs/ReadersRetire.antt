@@ -27,6 +27,7 @@ use Rattle.tss_laws.proofs.EntriesNames.{one_object}
 use Rattle.tss_laws.proofs.ReadersKept.{alike_same, same_version}
 use Rattle.tss_laws.proofs.ReadersStates.{StaysOrGone, readers_kept, readers_fewer}
 use Rattle.tss_laws.proofs.ReadersLinks.{links-retire}
+use Rattle.tss_laws.proofs.ReadersSettled.{some_unit}
 
 -- ---- the entry of a version that may retire
 
@@ -40,8 +41,8 @@ pub record IsRetired (S : State) (v : OpName) (x : Version) : Type 0 where
   pub last : IsLastVersion S entry.object entry x
 
 module _ (m : Machine) (all ts : List Task) (S : State) (ground : HasGroundwork m all ts S) (orderly : AreOrderly S)
-    (chains : HasChains ts S) (h : HasEntries ts S) (v : OpName) (x : Version) (retires : get S.mail.retires v ≡ Some tt)
-    (there : get S.versions v ≡ Some x) where
+    (chains : HasChains ts S) (h : HasEntries ts S) (v : OpName) (x : Version)
+    (retires : get S.mail.retires v ≡ Some tt) (there : get S.versions v ≡ Some x) where
   retired_of : (e : Entry) → get S.entries x.object.base ≡ Some e → e.object ≡ x.object → (b : Bool)
       → e.retiring ≡ b → IsRetired S v x
   retired_of e at object false live =
@@ -124,10 +125,6 @@ module _ (m : Machine) (all ts : List Task) (S : State) (ground : HasGroundwork 
         (readers_fewer ts g (record Retired { versions = S.versions }) (drop_version S.versions v)
         (λ w z e. let p = from_removed name_order S.versions v w z e in (z, p.1, same_version z z refl))
         stays_or_gone before_drop)
-
-some_unit : (o : Option (Unit {0})) → is_some o ≡ true → o ≡ Some tt
-some_unit None e = absurd (cc)
-some_unit (Some tt) e = refl
 
 -- retire
 pub HasReaders-retire : (m : Machine) (all ts : List Task) (g : Arrivals) (S : State) → HasGroundwork m all ts S

@@ -12,6 +12,7 @@ use Rattle.tss_base.specs.declared.event.Follow.{Follow}
 use Rattle.tss_base.specs.Names.{Named}
 use Rattle.tss_maps.proofs.Keys.{name_order, decide_key}
 use Rattle.tss_maps.proofs.Changes.{from_inserted, from_removed, at_inserted, beside_inserted, beside_removed}
+use Rattle.tss_protocol.specs.Mail.{StorageName}
 use Rattle.tss_protocol.specs.State.{Version}
 use Rattle.tss_protocol.specs.Versions.{Settling, put_version, drop_version, version_changed, change_version, change_named, may_die, may_ask, followed_by, unlinked, settle_asking, settle_how, settle_by, settle_at, settle, unchanged}
 use Rattle.tss_phases.proofs.Tests.{both}
@@ -127,16 +128,39 @@ same_last : (s : OpName) (f : Option Follow) → last_of (followed_by s f) ≡ l
 same_last s None = refl
 same_last s (Some f) = refl
 
+keeps_bridged : (s : OpName) (q : Version) → KeepsCounts q (record q { successor = followed_by s q.successor })
+keeps_bridged s q = record {
+  same = record { object = refl; produced = refl; registered = refl; released = refl; head = refl; tail = refl };
+  last = same_last s q.successor;
+}
+
+keeps_moved : (p : Option OpName) (y : Version) → KeepsCounts y (record y { predecessor = p })
+keeps_moved p y = record {
+  same = record { object = refl; produced = refl; registered = refl; released = refl; head = refl; tail = refl };
+  last = refl;
+}
+
+keeps_stored : (s : Option StorageName) (y : Version) → KeepsCounts y (record y { storage = s })
+keeps_stored s y = record {
+  same = record { object = refl; produced = refl; registered = refl; released = refl; head = refl; tail = refl };
+  last = refl;
+}
+
+keeps_asked : (n : Option ℕ) (y : Version) → KeepsCounts y (record y { asked = n })
+keeps_asked n y = record {
+  same = record { object = refl; produced = refl; registered = refl; released = refl; head = refl; tail = refl };
+  last = refl;
+}
+
 thins_unlinked : (vs : Named Version) (v : OpName) (x : Version) (s : OpName) → get vs v ≡ Some x → IsDone x
     → Thins vs (unlinked vs v x s)
 thins_unlinked vs v x s at d =
-    let q = change_named (drop_version vs v) x.predecessor (λ q. record q { successor = followed_by s q.successor }) in
+    let bridge : Version → Version = λ q. record q { successor = followed_by s q.successor } in
+    let q = change_named (drop_version vs v) x.predecessor bridge in
     thins_after vs (drop_version vs v) (unlinked vs v x s) (thins_drop vs v x at d)
     (thins_after (drop_version vs v) q (unlinked vs v x s)
-    (thins_named (λ q. record q { successor = followed_by s q.successor })
-    (λ q. record { same = record { object = refl; produced = refl; registered = refl; released = refl; head = refl; tail = refl }; last = same_last s q.successor }) (drop_version vs v) x.predecessor)
-    (thins_change (λ y. record y { predecessor = x.predecessor })
-    (λ y. record { same = record { object = refl; produced = refl; registered = refl; released = refl; head = refl; tail = refl }; last = refl }) q s))
+    (thins_named bridge (keeps_bridged s) (drop_version vs v) x.predecessor)
+    (thins_change (λ y. record y { predecessor = x.predecessor }) (keeps_moved x.predecessor) q s))
 
 -- ---- settle
 
@@ -159,8 +183,7 @@ module _ (vs : Named Version) (v : OpName) (next : Settling)
   thins_how x f Over at d =
       let us = unlinked vs v x f.version in
       thins_after vs us (settle_how vs v x f next Over).part (thins_unlinked vs v x f.version at d)
-      (thins_change (λ y. record y { storage = x.storage })
-      (λ y. record { same = record { object = refl; produced = refl; registered = refl; released = refl; head = refl; tail = refl }; last = refl }) us f.version)
+      (thins_change (λ y. record y { storage = x.storage }) (keeps_stored x.storage) us f.version)
 
   thins_dying : (x : Version) (f : Follow) → get vs v ≡ Some x → x.successor ≡ Some f → (b : Bool)
       → may_die x f.last ≡ b → Thins vs (if b then settle_how vs v x f next f.how else unchanged vs).part
@@ -170,7 +193,7 @@ module _ (vs : Named Version) (v : OpName) (next : Settling)
   thins_asking : (x : Version) → get vs v ≡ Some x → (b : Bool)
       → Thins vs (if b then settle_asking vs v x else unchanged vs).part
   thins_asking x at true =
-      thins_put vs v x (record x { asked = Some x.registered }) at (record { same = record { object = refl; produced = refl; registered = refl; released = refl; head = refl; tail = refl }; last = refl })
+      thins_put vs v x (record x { asked = Some x.registered }) at (keeps_asked (Some x.registered) x)
   thins_asking x at false = thins_same vs
 
   thins_by : (x : Version) → get vs v ≡ Some x → (f : Option Follow) → x.successor ≡ f

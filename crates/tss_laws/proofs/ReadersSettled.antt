@@ -197,7 +197,8 @@ module _ (m : Machine) (ts : List Task) (g : Arrivals) (S : State) (h : HasReade
       (few_written S.versions v x (refused_once x) there refl refl refl (few_readers ts S chains))
       (readers_kept ts g S (record Nacked { versions = Refused }) nack_keeps h)
 
-some_unit : (o : Option (Unit {0})) → is_some o ≡ true → o ≡ Some tt
+-- a set has what it is asked for, where the test passes
+pub some_unit : (o : Option (Unit {0})) → is_some o ≡ true → o ≡ Some tt
 some_unit None e = absurd (cc)
 some_unit (Some tt) e = refl
 

@@ -261,7 +261,8 @@ module _ (m : Machine) (all ts : List Task) (g : Arrivals) (S : State) (h : HasR
   readers_after_use = readers_come ts g S After o v x h (comes (left_by x.tail refl))
 
 -- a version passes the test where it is registered
-pub registered_by_test : (vs : Named Version) (v : OpName) → contains_key vs v ≡ true → (x : Version) × (get vs v ≡ Some x)
+pub registered_by_test : (vs : Named Version) (v : OpName) → contains_key vs v ≡ true
+    → (x : Version) × (get vs v ≡ Some x)
 registered_by_test vs v e = something is_some (get vs v) refl e
 
 -- use

@@ -95,7 +95,8 @@ tail_by o a false apart = ap (λ t. if t then None else Some a) (other_name a o 
 module _ (S T : State) (o : OpName) (before : has_released (phase_of S o) ≡ false)
     (now : has_released (phase_of T o) ≡ true) where
   tail_own : (a : OpName) → a ≡ o
-      → tail_without o (cond (has_released (phase_of S a)) None (Some a)) ≡ cond (has_released (phase_of T a)) None (Some a)
+      → tail_without o (cond (has_released (phase_of S a)) None (Some a))
+      ≡ cond (has_released (phase_of T a)) None (Some a)
   tail_own a same =
       ap (λ b. tail_without o (cond b None (Some a))) (ap (λ a. has_released (phase_of S a)) same ∙ before)
       ∙ ap (λ t. if t then None else Some a) (ap (same_name a) (sym same) ∙ own_name a)
@@ -158,7 +159,8 @@ module _ (ts : List Task) (xs : List OpName) (S T : State) (v : OpName) (x : Ver
         | inl is ↦ subst (λ a. AreNeighbours T a b) (sym is)
             (next_of_own b waits (subst (λ a. AreNeighbours S a b) is old))
         | inr apart ↦ neighbours_kept S T a
-            (reader_by S T k a (alike_same (phase_of S a) (phase_of T a) (same a apart (has_older a b xs n)))) b waits old
+            (reader_by S T k a (alike_same (phase_of S a) (phase_of T a) (same a apart (has_older a b xs n)))) b
+            waits old
       ]
 
   -- its readers are in order where one of them has released it

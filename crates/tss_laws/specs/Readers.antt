@@ -169,5 +169,7 @@ pub record HasReaders (ts : List Task) (g : Arrivals) (S : State) : Type 0 where
   pub versions : (v : OpName) (y : Version) → get S.versions v ≡ Some y → HasArrivals ts (g v) S v y
   pub apart : (v w a : OpName) (y z : Version) → get S.versions v ≡ Some y → get S.versions w ≡ Some z
       → Has a (g v) → Has a (g w) → v ≡ w
-  pub links : (a b : OpName) → IsLinking S a b → (v : OpName) × (y : Version) × (get S.versions v ≡ Some y) × Has a (g v)
-  pub held : (a b : OpName) → Holds S a b → (v : OpName) × (y : Version) × (get S.versions v ≡ Some y) × Has a (g v)
+  pub links : (a b : OpName) → IsLinking S a b
+      → (v : OpName) × (y : Version) × (get S.versions v ≡ Some y) × Has a (g v)
+  pub held : (a b : OpName) → Holds S a b
+      → (v : OpName) × (y : Version) × (get S.versions v ≡ Some y) × Has a (g v)
