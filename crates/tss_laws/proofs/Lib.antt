@@ -194,6 +194,7 @@ pub mod EntriesUse
 pub mod WaitsOperands
 pub mod EntriesRelease
 pub mod EntriesOpen
+pub mod EntriesEvents
 pub mod Values
 pub mod ProgressSettled
 pub mod EntriesRegistered
