@@ -9,12 +9,13 @@ use Rattle.tss_base.specs.declared.operand.Mode.TheVariants.{Input, Output, Inou
 use Rattle.tss_base.specs.declared.operand.Operand.{Operand}
 use Rattle.tss_base.specs.declared.operand.Task.{Task}
 use Rattle.tss_base.specs.declared.ending.Trap.{Trap}
+use Rattle.tss_base.specs.declared.event.Stage.TheVariants as stage
 use Rattle.tss_base.specs.declared.machine.Machine.{Machine}
 use Rattle.tss_base.specs.Image.{ImageState}
 use Rattle.tss_model.specs.Memory.{bytes_of}
 use Rattle.tss_model.specs.Access.{writes}
 use Rattle.tss_model.specs.InOrder.{Started, started_at, end_of_started}
-use Rattle.tss_protocol.specs.Mail.{StorageName, OpenContents, GoneContents}
+use Rattle.tss_protocol.specs.Mail.{StorageName, Buffer, OpenContents, GoneContents}
 use Rattle.tss_protocol.specs.State.{State, Flying, Busy, Version, CopyState, HeldTrap}
 use Rattle.tss_protocol.specs.Stations.{storages_of}
 use Rattle.tss_protocol.specs.Buffers.{buffer_bytes}
@@ -115,9 +116,23 @@ pub record HasHome (m : Machine) (i : ImageState) (ts : List Task) (S : State) :
   pub opening : (o : OpName) (c : OpenContents) (s : Started) → get S.mail.opens o ≡ Some c → c.follows ≡ None
       → (c.operand.mode ≡ Output → ⊥) → Starts m i o.task s → bytes_of S.home c.operand.object ≡ bytes_before s c.operand
 
--- buffers that are set have room for any object
-abbrev pub HasRoom : Machine → State → Type 0
-HasRoom m S = (b : OpName) (bytes : List ℕ) → get S.contents b ≡ Some bytes → m.limits.object_bytes ≤ length bytes
+-- a buffer has room for any object
+abbrev pub IsRoomy : Machine → State → OpName → Type 0
+IsRoomy m S b = m.limits.object_bytes ≤ length (buffer_bytes S.contents b)
+
+-- a task that was taken has begun: it is in flight no more, or runs or has finished there
+abbrev pub HasBegun : State → ℕ → Type 0
+HasBegun S n = (x : Flying) → get S.flight n ≡ Some x → (x.stage ≡ stage.Running) ⊎ (x.stage ≡ stage.Finished)
+
+-- the buffer of a version is set: it is an inout's, or its task has begun
+abbrev pub IsSet : List Task → State → OpName → Type 0
+IsSet ts S v = ((p : Operand) × (operand_among ts v ≡ Some p) × (p.mode ≡ Inout)) ⊎ HasBegun S v.task
+
+-- buffers that are set have room: those of versions, and those that are copied home
+pub record HasRoom (m : Machine) (ts : List Task) (S : State) : Type 0 where
+  pub versions : (v : OpName) (y : Version) (b : OpName) → get S.versions v ≡ Some y → y.storage ≡ Some (Buffer b)
+      → IsSet ts S v → IsRoomy m S b
+  pub copies : (bank : ℕ) (c : CopyState) → get S.copies bank ≡ Some c → IsRoomy m S c.buffer
 
 -- ---- main, and the held trap
 
@@ -140,5 +155,5 @@ pub record HasValues (m : Machine) (i : ImageState) (all ts : List Task) (S : St
   pub workers : HasWorkers m i S
   pub returns : HasReturns m i ts S
   pub home : HasHome m i ts S
-  pub room : HasRoom m S
+  pub room : HasRoom m ts S
   pub main : HasMain m i all S
