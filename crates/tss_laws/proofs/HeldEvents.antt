@@ -70,7 +70,7 @@ posted-nothing m (Nack v) h = (refl, refl)
 posted-nothing m (Retire v) h = (refl, refl)
 posted-nothing m (Gone v g) h = absurd h
 
-posted_all-nothing : (m : Mail) (xs : List Message) → AllSent HoldsNothing xs
+pub posted_all-nothing : (m : Mail) (xs : List Message) → AllSent HoldsNothing xs
     → ((posted_all m xs).opens ≡ m.opens) × ((posted_all m xs).gones ≡ m.gones)
 posted_all-nothing m [] h = (refl, refl)
 posted_all-nothing m (x ∷ xs) h =
@@ -78,7 +78,8 @@ posted_all-nothing m (x ∷ xs) h =
     let rest = posted_all-nothing (posted m x) xs h.1 in
     (rest.0 ∙ one.0, rest.1 ∙ one.1)
 
-decodes_nothing : (n place : ℕ) (os : List Operand) → AllSent HoldsNothing (decodes_from n place os)
+-- those of take
+pub decodes_nothing : (n place : ℕ) (os : List Operand) → AllSent HoldsNothing (decodes_from n place os)
 decodes_nothing n place [] = tt
 decodes_nothing n place (o ∷ os) = (tt, decodes_nothing n (suc place) os)
 

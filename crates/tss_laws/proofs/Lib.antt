@@ -205,3 +205,4 @@ pub mod BoundRuns
 pub mod WaitsLaw
 pub mod WaitsRuns
 pub mod HoldersNacked
+pub mod ProgressBuffers
