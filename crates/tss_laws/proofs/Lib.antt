@@ -206,3 +206,4 @@ pub mod WaitsLaw
 pub mod WaitsRuns
 pub mod HoldersNacked
 pub mod ProgressBuffers
+pub mod ProgressRuns
