@@ -1,8 +1,8 @@
 -- A copy keeps the entries: what it has copied home is gone then, as the last of its object.
-use Rattle.std.proofs.Common.{◌≡◌, ◌≢◌, ℕ, ◌+◌, inl, inr, Bool, true, false, List, [], ◌∷◌, Option, Some, None, refl, sym, ap, ◌∙◌, subst}
+use Rattle.std.proofs.Common.{◌≡◌, ◌≢◌, ℕ, ◌+◌, inl, inr, Bool, true, false, List, Some, refl, sym, ap, ◌∙◌}
 use Rattle.std.specs.Prelude.{is_some}
-use Rattle.std.specs.FinMap.{get, insert, remove}
-use Rattle.std.proofs.lemmas.Option.{none-some, same_Some}
+use Rattle.std.specs.FinMap.{get, insert}
+use Rattle.std.proofs.lemmas.Option.{same_Some}
 use Rattle.tss_base.specs.declared.range.Range.{Range}
 use Rattle.tss_base.specs.declared.operand.OpName.{OpName}
 use Rattle.tss_base.specs.declared.operand.Task.{Task}
@@ -11,7 +11,7 @@ use Rattle.tss_base.specs.declared.event.Event.TheVariants as event
 use Rattle.tss_maps.proofs.Keys.{nat_order, name_order, decide_key}
 use Rattle.tss_maps.proofs.Changes.{at_inserted, beside_inserted, from_inserted, beside_removed, from_removed}
 use Rattle.tss_protocol.specs.Mail.{GoneContents, Mail, posted_all}
-use Rattle.tss_protocol.specs.State.{State, Entry, Version, CopyState}
+use Rattle.tss_protocol.specs.State.{State, CopyState}
 use Rattle.tss_protocol.specs.Versions.{retired}
 use Rattle.tss_protocol.specs.Buffers.{piece_len, is_last_piece, copies_after_copy, sent_by_copy}
 use Rattle.tss_protocol.specs.UnitMachine.{IsEnabled, is_enabled, after_event, after_copy}

@@ -1,9 +1,7 @@
 -- Every decode keeps the entries, and the causes of refusals.
-use Rattle.std.proofs.Common.{◌≡◌, ◌≢◌, ℕ, suc, ◌<◌, inl, inr, Bool, true, false, List, [], ◌∷◌, Option, Some, None, refl, sym, ap, ◌∙◌, subst, arith, true≢false}
+use Rattle.std.proofs.Common.{◌≡◌, ◌≢◌, Bool, true, false, List, Option, Some, None, refl, sym, ap, ◌∙◌, true≢false}
 use Rattle.std.specs.Prelude.{is_none}
 use Rattle.std.specs.FinMap.{get, insert}
-use Rattle.std.proofs.lemmas.Option.{none-some, same_Some}
-use Rattle.tss_base.specs.declared.range.Range.{Range}
 use Rattle.tss_base.specs.declared.operand.OpName.{OpName}
 use Rattle.tss_base.specs.declared.operand.Mode.{Mode}
 use Rattle.tss_base.specs.declared.operand.Mode.TheVariants.{Input, Output, Inout}
@@ -12,25 +10,22 @@ use Rattle.tss_base.specs.declared.operand.Task.{Task}
 use Rattle.tss_base.specs.declared.machine.Machine.{Machine}
 use Rattle.tss_base.specs.declared.event.Event.TheVariants as event
 use Rattle.tss_base.specs.declared.event.How.TheVariants.{Beside, Over}
-use Rattle.tss_base.specs.Names.{Numbered}
-use Rattle.tss_maps.proofs.Keys.{nat_order, decide_key}
-use Rattle.tss_maps.proofs.Changes.{at_inserted, beside_inserted}
 use Rattle.tss_protocol.specs.Names.{bank_of}
 use Rattle.tss_protocol.specs.Mail.{Home, Buffer, OpenContents, Message, Ack, Open, Use, Mail, posted, taken}
-use Rattle.tss_protocol.specs.State.{State, Entry, Version}
-use Rattle.tss_protocol.specs.Renaming.{Wait, Retiring, live_wait, decode_wait, wait_or, operand_wait, Fill, fill_of, first_readers, live_entry, entry_after_decode, follows_latest, live_message, decode_message, opens_first}
+use Rattle.tss_protocol.specs.State.{State, Entry}
+use Rattle.tss_protocol.specs.Renaming.{Wait, Retiring, live_wait, decode_wait, wait_or, fill_of, first_readers, live_entry, entry_after_decode, follows_latest, live_message, decode_message}
 use Rattle.tss_protocol.specs.UnitMachine.{IsEnabled, is_enabled, after_event, without, can_decode_message, decode_message_taken, tables_of}
 use Rattle.tss_phases.specs.Phase.{phase_of, is_decoded}
 use Rattle.tss_phases.specs.Orderly.{AreOrderly}
 use Rattle.tss_phases.proofs.DecodeEvent.{phase_of-decode-other}
-use Rattle.tss_phases.proofs.Tests.{something, not_both}
+use Rattle.tss_phases.proofs.Tests.{something}
 use Rattle.tss_locality.proofs.LeftFields.{Leaves-after_event}
 use Rattle.tss_laws.specs.Chains.{HasChains}
-use Rattle.tss_laws.specs.Entries.{HasCause, HasEntries, HasRetirement}
+use Rattle.tss_laws.specs.Entries.{HasEntries}
 use Rattle.tss_laws.specs.Members.{first_reader}
 use Rattle.tss_laws.specs.Control.{HasGroundwork}
 use Rattle.tss_laws.proofs.EntriesLeaving.{SameLeaving}
-use Rattle.tss_laws.proofs.EntriesNames.{object_of_entry, no_version}
+use Rattle.tss_laws.proofs.EntriesNames.{object_of_entry}
 use Rattle.tss_laws.proofs.EntriesDecodeOpen.{DecodesOpen, entries_opened}
 use Rattle.tss_laws.proofs.EntriesDecodeUse.{DecodesUse, entries_used}
 

@@ -1,5 +1,5 @@
 -- Entries after a decode that sends a use: one more reader is directed to the latest version of its object.
-use Rattle.std.proofs.Common.{◌≡◌, ◌≢◌, ℕ, suc, ◌+◌, ◌<◌, ◌≤◌, ◌⊎◌, inl, inr, Bool, true, false, List, Option, Some, None, refl, sym, ap, ◌∙◌, subst, arith}
+use Rattle.std.proofs.Common.{◌≡◌, ◌≢◌, ℕ, suc, ◌+◌, ◌≤◌, ◌⊎◌, inl, inr, true, false, List, Some, sym, ap, ◌∙◌, subst, arith}
 use Rattle.std.specs.FinMap.{get, insert}
 use Rattle.std.proofs.lemmas.Option.{none-some, same_Some}
 use Rattle.tss_base.specs.declared.range.Range.{Range}
@@ -8,19 +8,19 @@ use Rattle.tss_base.specs.declared.operand.Mode.TheVariants.{Input}
 use Rattle.tss_base.specs.declared.operand.Operand.{Operand}
 use Rattle.tss_base.specs.declared.operand.Task.{Task}
 use Rattle.tss_base.specs.declared.machine.Machine.{Machine}
-use Rattle.tss_maps.specs.Sums.{one_if, count_of}
-use Rattle.tss_maps.proofs.Keys.{nat_order, name_order, decide_key}
+use Rattle.tss_maps.specs.Sums.{one_if}
+use Rattle.tss_maps.proofs.Keys.{nat_order, name_order}
 use Rattle.tss_maps.proofs.Changes.{at_inserted, beside_inserted, from_inserted}
 use Rattle.tss_maps.proofs.Sums.{sum_added}
 use Rattle.tss_model.specs.Access.{writes}
 use Rattle.tss_protocol.specs.Names.{same_name}
-use Rattle.tss_protocol.specs.State.{State, Entry, Version}
+use Rattle.tss_protocol.specs.State.{State, Entry}
 use Rattle.tss_phases.specs.Phase.{phase_of, is_decoded}
 use Rattle.tss_phases.specs.Orderly.{AreOrderly}
 use Rattle.tss_phases.proofs.Received.{own_name, other_name}
 use Rattle.tss_phases.proofs.Tests.{not_both}
-use Rattle.tss_laws.specs.Members.{operand_among, IsWriterOn, IsVersionOf, IsOpenOf, IsMember, registered_of, opening_reader, uses_of, total}
-use Rattle.tss_laws.specs.Entries.{IsGoingHome, IsLeaving, IsUsed, IsAbsent, IsLive, IsLastVersion, IsRetiring, HasEntries}
+use Rattle.tss_laws.specs.Members.{operand_among, IsWriterOn, IsOpenOf, IsMember, registered_of, opening_reader, uses_of, total}
+use Rattle.tss_laws.specs.Entries.{IsUsed, IsAbsent, IsLive, IsRetiring, HasEntries}
 use Rattle.tss_laws.specs.Control.{HasGroundwork}
 use Rattle.tss_laws.proofs.EntriesLeaving.{SameLeaving, leaving_turned, version_back, going_back, leaving_back, last_version_still}
 use Rattle.tss_laws.proofs.EntriesNames.{object_of_entry, decode_among, no_use}

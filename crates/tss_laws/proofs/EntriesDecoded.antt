@@ -1,8 +1,8 @@
 -- An event but decode decodes nothing: an operand that is decoded after it was decoded before.
-use Rattle.std.proofs.Common.{◌≡◌, ◌≢◌, ℕ, Bool, true, false, List, Option, Some, None, refl, sym, ap, ◌∙◌, inl, inr, true≢false}
+use Rattle.std.proofs.Common.{◌≡◌, true, false, List, Some, refl, sym, ap, ◌∙◌, inl, inr, true≢false}
 use Rattle.std.specs.Prelude.{slice_get, nat_lt, ◌||◌}
 use Rattle.std.specs.FinMap.{get}
-use Rattle.std.proofs.lemmas.Option.{none-some, same_Some}
+use Rattle.std.proofs.lemmas.Option.{same_Some}
 use Rattle.tss_base.specs.declared.operand.OpName.{OpName}
 use Rattle.tss_base.specs.declared.operand.Operand.{Operand}
 use Rattle.tss_base.specs.declared.operand.Task.{Task}
@@ -17,7 +17,7 @@ use Rattle.tss_phases.specs.Phase.{inbox_has, phase_of, is_decoded}
 use Rattle.tss_phases.specs.Orderly.{AreOrderly}
 use Rattle.tss_phases.proofs.QuietEvents.{phase_of-ack}
 use Rattle.tss_phases.proofs.TakeEvent.{phase_of-take, phase_of-take-other}
-use Rattle.tss_phases.proofs.Tests.{something, not_both}
+use Rattle.tss_phases.proofs.Tests.{something}
 use Rattle.tss_laws.specs.Tasks.{task_at, IsOperandOf, HasTaskNumbers}
 use Rattle.tss_laws.proofs.FrontLemmas.{is_of_front, KeepsFront-after_event}
 use Rattle.tss_laws.proofs.EntriesQuiet.{decoded_before}

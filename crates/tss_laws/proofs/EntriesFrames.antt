@@ -1,5 +1,5 @@
 -- Entries after an event that leaves them, by what it leaves of versions, messages and copies.
-use Rattle.std.proofs.Common.{◌≡◌, ℕ, ◌+◌, ◌⊎◌, inl, inr, Bool, true, false, List, Option, Some, None, refl, sym, ap, ◌∙◌, subst, true≢false}
+use Rattle.std.proofs.Common.{◌≡◌, ℕ, inl, inr, true, List, Some, sym, ap, ◌∙◌}
 use Rattle.std.specs.FinMap.{get}
 use Rattle.tss_base.specs.declared.range.Range.{Range}
 use Rattle.tss_base.specs.declared.operand.OpName.{OpName}
@@ -7,7 +7,7 @@ use Rattle.tss_base.specs.declared.operand.Operand.{Operand}
 use Rattle.tss_base.specs.declared.operand.Task.{Task}
 use Rattle.tss_protocol.specs.State.{State, Entry, Version}
 use Rattle.tss_phases.specs.Phase.{phase_of, is_decoded}
-use Rattle.tss_laws.specs.Members.{operand_among, IsWriterOn, IsVersionOf, IsOpenOf, IsMember, total}
+use Rattle.tss_laws.specs.Members.{operand_among, IsVersionOf, IsOpenOf, IsMember, total}
 use Rattle.tss_laws.specs.Entries.{IsGoingHome, IsLeaving, IsUsed, IsAbsent, IsLive, IsLastVersion, IsRetiring, HasEntries}
 
 -- ---- what an event has to leave

@@ -1,7 +1,7 @@
 -- A gone keeps the entries: that of the last version of an object takes the object's entry with it.
-use Rattle.std.proofs.Common.{◌≡◌, ◌≢◌, ℕ, ◌+◌, ◌≤◌, ◌⊎◌, inl, inr, Bool, true, false, if◌then◌else◌, List, [], ◌∷◌, Option, Some, None, refl, sym, ap, ◌∙◌, subst}
+use Rattle.std.proofs.Common.{◌≡◌, ◌≢◌, ℕ, inl, inr, Bool, true, false, if◌then◌else◌, List, Option, Some, None, refl, sym, ap, ◌∙◌, subst}
 use Rattle.std.specs.Prelude.{is_some}
-use Rattle.std.specs.FinMap.{get, insert, remove}
+use Rattle.std.specs.FinMap.{get, remove}
 use Rattle.std.proofs.lemmas.Option.{none-some, same_Some}
 use Rattle.tss_base.specs.declared.range.Range.{Range}
 use Rattle.tss_base.specs.declared.operand.OpName.{OpName}
@@ -10,13 +10,12 @@ use Rattle.tss_base.specs.declared.operand.Task.{Task}
 use Rattle.tss_base.specs.declared.machine.Machine.{Machine}
 use Rattle.tss_base.specs.declared.event.Event.TheVariants as event
 use Rattle.tss_maps.proofs.Keys.{nat_order, name_order, decide_key}
-use Rattle.tss_maps.proofs.Changes.{at_removed, beside_removed, from_removed, decide_get}
+use Rattle.tss_maps.proofs.Changes.{at_removed, beside_removed, from_removed}
 use Rattle.tss_protocol.specs.Mail.{GoneContents, Mail, taken}
 use Rattle.tss_protocol.specs.State.{State, Entry, Version}
 use Rattle.tss_protocol.specs.UnitMachine.{IsEnabled, is_enabled, after_event, without, gone_message_taken}
 use Rattle.tss_phases.specs.Orderly.{AreOrderly}
 use Rattle.tss_phases.proofs.Tests.{something, not_both}
-use Rattle.tss_locality.specs.Rounds.{object_in}
 use Rattle.tss_locality.proofs.LeftFields.{Leaves-after_event}
 use Rattle.tss_laws.specs.Members.{operand_among, IsVersionOf, IsOpenOf, IsMember, total}
 use Rattle.tss_laws.specs.Entries.{IsGoingHome, IsLeaving, IsUsed, IsAbsent, IsLive, IsRetiring, HasCause, HasEntries, HasRetirement}
@@ -25,7 +24,7 @@ use Rattle.tss_laws.specs.Control.{HasGroundwork}
 use Rattle.tss_laws.proofs.EntriesFrames.{DecodesNoMore, entries_kept}
 use Rattle.tss_laws.proofs.EntriesDecoded.{later_decodes_none}
 use Rattle.tss_laws.proofs.EntriesNames.{HasOperandOn, operand_of_object, one_object}
-use Rattle.tss_laws.proofs.EntriesCopy.{SameGoing, going_entries}
+use Rattle.tss_laws.proofs.EntriesCopy.{going_entries}
 use Rattle.tss_laws.proofs.RetirementFrames.{HasRetirement-same, retirement_kept}
 
 module _ (m : Machine) (all ts : List Task) (S : State) (ground : HasGroundwork m all ts S) (orderly : AreOrderly S)

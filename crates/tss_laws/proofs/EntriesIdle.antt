@@ -1,10 +1,10 @@
 -- Every answer to a version that asks keeps the entries, and a refusal has a cause.
-use Rattle.std.proofs.Common.{◌≡◌, ◌≢◌, ℕ, ◌+◌, ◌<◌, ◌≤◌, ◌⊎◌, inl, inr, Bool, true, false, List, Option, Some, None, refl, sym, ap, ◌∙◌, subst, arith}
+use Rattle.std.proofs.Common.{◌≡◌, ◌≢◌, ℕ, ◌<◌, ◌≤◌, ◌⊎◌, inl, inr, Bool, true, false, List, Some, None, refl, sym, ap, ◌∙◌, subst, arith}
 use Rattle.std.proofs.lemmas.Bool.Decides.{nat_tests}
 use Rattle.std.specs.Prelude.{is_some, ◌==◌, ◌&&◌}
 use Rattle.std.specs.FinMap.{get, insert}
 use Rattle.std.proofs.lemmas.Bool.{and_parts}
-use Rattle.std.proofs.lemmas.Option.{none-some, same_Some}
+use Rattle.std.proofs.lemmas.Option.{same_Some}
 use Rattle.tss_base.specs.declared.range.Range.{Range}
 use Rattle.tss_base.specs.declared.operand.OpName.{OpName}
 use Rattle.tss_base.specs.declared.operand.Task.{Task}
@@ -14,7 +14,7 @@ use Rattle.tss_base.specs.Names.{Numbered}
 use Rattle.tss_maps.proofs.Keys.{name_order, decide_key}
 use Rattle.tss_maps.proofs.Changes.{from_inserted}
 use Rattle.tss_protocol.specs.Names.{same_name}
-use Rattle.tss_protocol.specs.Mail.{IdleContents, Mail, posted_all, taken}
+use Rattle.tss_protocol.specs.Mail.{IdleContents}
 use Rattle.tss_protocol.specs.State.{State, Entry, Version, Outcome}
 use Rattle.tss_protocol.specs.Renaming.{may_retire, idle_by}
 use Rattle.tss_protocol.specs.UnitMachine.{IsEnabled, is_enabled, after_event, without, with_entries, idle_message_taken}
@@ -22,12 +22,11 @@ use Rattle.tss_phases.specs.Orderly.{AreOrderly}
 use Rattle.tss_phases.proofs.Received.{own_name}
 use Rattle.tss_phases.proofs.SettlingLemmas.{name_from_test}
 use Rattle.tss_phases.proofs.Tests.{something, not_both}
-use Rattle.tss_locality.proofs.LeftFields.{Leaves-after_event}
 use Rattle.tss_laws.specs.Members.{total}
 use Rattle.tss_laws.specs.Entries.{HasCause, HasEntries, HasRetirement}
 use Rattle.tss_laws.specs.Readers.{Arrivals}
 use Rattle.tss_laws.specs.Control.{HasGroundwork, IsControlled}
-use Rattle.tss_laws.proofs.EntriesFrames.{SameObjects, DecodesNoMore, HasEntries-same}
+use Rattle.tss_laws.proofs.EntriesFrames.{DecodesNoMore, HasEntries-same}
 use Rattle.tss_laws.proofs.EntriesDecoded.{later_decodes_none}
 use Rattle.tss_laws.proofs.EntriesOfVersions.{HasEntryOf, entry_of_version, entry_awake_of, released_within, registered_within}
 use Rattle.tss_laws.proofs.EntriesGranted.{Grants, entries_granted}

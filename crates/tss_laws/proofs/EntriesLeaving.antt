@@ -1,5 +1,5 @@
 -- Versions that leave, after an event that changes no version, no copy, no retire and no gone.
-use Rattle.std.proofs.Common.{◌≡◌, inl, inr, Option, Some, None, refl, sym, ap, ◌∙◌}
+use Rattle.std.proofs.Common.{◌≡◌, inl, inr, sym, ap, ◌∙◌}
 use Rattle.std.specs.FinMap.{get}
 use Rattle.tss_base.specs.declared.range.Range.{Range}
 use Rattle.tss_base.specs.declared.operand.OpName.{OpName}

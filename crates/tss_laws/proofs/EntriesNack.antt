@@ -1,17 +1,17 @@
 -- A nack keeps the entries, and its refusal has a cause.
-use Rattle.std.proofs.Common.{◌≡◌, ◌≢◌, ℕ, inl, inr, Bool, true, false, List, Option, Some, None, refl, sym, ap, ◌∙◌, subst, true≢false}
+use Rattle.std.proofs.Common.{◌≡◌, inl, inr, true, List, Option, Some, None, refl, sym, ap, ◌∙◌, subst, true≢false}
 use Rattle.std.specs.Prelude.{is_some}
-use Rattle.std.specs.FinMap.{get, insert, remove}
-use Rattle.std.proofs.lemmas.Option.{none-some, same_Some}
+use Rattle.std.specs.FinMap.{get}
+use Rattle.std.proofs.lemmas.Option.{none-some}
 use Rattle.tss_base.specs.declared.operand.OpName.{OpName}
 use Rattle.tss_base.specs.declared.operand.Task.{Task}
 use Rattle.tss_base.specs.declared.machine.Machine.{Machine}
 use Rattle.tss_base.specs.declared.event.Event.TheVariants as event
 use Rattle.tss_maps.proofs.Keys.{name_order}
 use Rattle.tss_maps.proofs.Changes.{beside_inserted, from_inserted, from_removed}
-use Rattle.tss_protocol.specs.Mail.{Mail, posted_all, taken}
-use Rattle.tss_protocol.specs.State.{State, Entry, Version}
-use Rattle.tss_protocol.specs.Versions.{put_version, settled, refused_once, nacked_at, after_nack}
+use Rattle.tss_protocol.specs.Mail.{Mail}
+use Rattle.tss_protocol.specs.State.{State, Version}
+use Rattle.tss_protocol.specs.Versions.{put_version, settled, refused_once, nacked_at}
 use Rattle.tss_protocol.specs.UnitMachine.{IsEnabled, is_enabled, after_event, without, with_versioned}
 use Rattle.tss_phases.specs.Orderly.{AreOrderly}
 use Rattle.tss_laws.specs.Members.{total}
@@ -23,7 +23,7 @@ use Rattle.tss_laws.proofs.ChainsAlike.{AreAlike}
 use Rattle.tss_laws.proofs.ChainsSettled.{HasChains-written}
 use Rattle.tss_laws.proofs.ChainsReleased.{others_written}
 use Rattle.tss_laws.proofs.EntriesDecoded.{later_decodes_none}
-use Rattle.tss_laws.proofs.EntriesOfVersions.{HasEntryOf, entry_awake_of}
+use Rattle.tss_laws.proofs.EntriesOfVersions.{entry_awake_of}
 use Rattle.tss_laws.proofs.EntriesWritten.{total_written, entries_written}
 use Rattle.tss_laws.proofs.EntriesSettleCases.{KeepsSettled, posted_all_settled, settles_with}
 use Rattle.tss_laws.proofs.EntriesSettled.{AsksSoundly}

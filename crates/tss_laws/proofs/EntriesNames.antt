@@ -1,7 +1,7 @@
 -- What is known of the names of a round: their operands, their objects, and that they have been decoded.
-use Rattle.std.proofs.Common.{◌≡◌, ◌≢◌, ℕ, ◌+◌, ◌<◌, ◌≤◌, ◌⊎◌, inl, inr, Bool, true, false, List, [], ◌∷◌, Option, Some, None, refl, sym, ap, ◌∙◌, subst, arith, true≢false}
+use Rattle.std.proofs.Common.{◌≡◌, ◌≢◌, ℕ, ◌<◌, ◌≤◌, ◌⊎◌, inl, inr, Bool, true, false, List, [], ◌∷◌, Option, Some, None, refl, sym, ap, ◌∙◌, subst, arith, true≢false}
 use Rattle.std.proofs.lemmas.Bool.Decides.{nat_tests}
-use Rattle.std.specs.Prelude.{slice_get, nat_lt, ◌||◌, ◌==◌, ◌-◌}
+use Rattle.std.specs.Prelude.{slice_get, nat_lt, ◌||◌, ◌==◌}
 use Rattle.std.specs.FinMap.{get}
 use Rattle.std.proofs.lemmas.Option.{none-some, same_Some}
 use Rattle.tss_base.specs.declared.range.Range.{Range}
@@ -13,15 +13,14 @@ use Rattle.tss_maps.proofs.Changes.{decide_get}
 use Rattle.tss_model.specs.Access.{operands_of}
 use Rattle.tss_protocol.specs.Names.{bank_of}
 use Rattle.tss_protocol.specs.Needs.{is_in_inbox}
-use Rattle.tss_protocol.specs.State.{State, Entry, Version}
+use Rattle.tss_protocol.specs.State.{State, Entry}
 use Rattle.tss_phases.specs.Phase.{look_ups, phase_of, inbox_has, is_ahead, is_decoded}
 use Rattle.tss_phases.specs.Orderly.{AreOrderly}
 use Rattle.tss_phases.proofs.Tests.{not_both}
 use Rattle.tss_locality.specs.Agreement.{operand_in}
-use Rattle.tss_locality.specs.Objects.{AreApartNamed}
 use Rattle.tss_locality.specs.Rounds.{object_or, object_in}
 use Rattle.tss_locality.proofs.RoundObjects.{apart_in_round}
-use Rattle.tss_laws.specs.Tasks.{task_at, last_taken, taken_by, IsTaken, IsNewest, IsOperandOf, HasTaskNumbers, IsUndecoded}
+use Rattle.tss_laws.specs.Tasks.{taken_by, IsTaken, IsOperandOf, HasTaskNumbers, IsUndecoded}
 use Rattle.tss_laws.specs.Names.{IsDecoded}
 use Rattle.tss_laws.specs.Members.{first_there, operand_among, IsMember}
 use Rattle.tss_laws.specs.Control.{HasGroundwork}

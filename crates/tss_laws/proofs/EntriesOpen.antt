@@ -1,7 +1,7 @@
 -- An open keeps the entries: its version is registered, and the one that it follows is settled.
-use Rattle.std.proofs.Common.{◌≡◌, ◌≢◌, ℕ, ◌≤◌, ◌⊎◌, inl, inr, Bool, true, false, List, [], ◌∷◌, ◌++◌, Option, Some, None, refl, sym, ap, ◌∙◌, subst, true≢false}
+use Rattle.std.proofs.Common.{◌≡◌, ◌≢◌, ℕ, inl, inr, true, List, [], ◌++◌, Option, Some, None, refl, sym, ap, ◌∙◌, subst}
 use Rattle.std.specs.Prelude.{is_some}
-use Rattle.std.specs.FinMap.{get, insert, remove}
+use Rattle.std.specs.FinMap.{get}
 use Rattle.std.proofs.lemmas.Option.{none-some, same_Some}
 use Rattle.tss_base.specs.declared.range.Range.{Range}
 use Rattle.tss_base.specs.declared.operand.OpName.{OpName}
@@ -12,34 +12,33 @@ use Rattle.tss_base.specs.declared.event.Event.TheVariants as event
 use Rattle.tss_base.specs.declared.event.How.{How}
 use Rattle.tss_base.specs.declared.event.How.TheVariants.{Beside, Over}
 use Rattle.tss_base.specs.declared.event.Follow.{Follow}
-use Rattle.tss_base.specs.Names.{Named}
 use Rattle.tss_maps.proofs.Keys.{name_order, decide_key}
 use Rattle.tss_maps.proofs.Changes.{at_removed, beside_removed}
-use Rattle.tss_protocol.specs.Mail.{StorageName, OpenContents, Message, Mail, posted_all, taken}
+use Rattle.tss_protocol.specs.Mail.{OpenContents, Message, Mail, posted_all, taken}
 use Rattle.tss_protocol.specs.State.{State, Entry, Version}
-use Rattle.tss_protocol.specs.Versions.{Versioned, put_version, ready_with, first_version, followed, settled, sending, opened_first, opened_how, opened_by, after_open, is_followable}
+use Rattle.tss_protocol.specs.Versions.{ready_with, first_version, settled, sending, opened_first, opened_how, opened_by, is_followable}
 use Rattle.tss_protocol.specs.UnitMachine.{IsEnabled, is_enabled, after_event, without, with_versioned, can_open_message, open_message_taken}
-use Rattle.tss_phases.specs.Phase.{LookUps, look_ups, station_phase, phase_at, phase_of, is_decoded}
+use Rattle.tss_phases.specs.Phase.{LookUps, look_ups, phase_at, phase_of, is_decoded}
 use Rattle.tss_phases.specs.Orderly.{IsOrderly, AreOrderly}
 use Rattle.tss_phases.proofs.PhaseLemmas.{phase_silent, station_told}
 use Rattle.tss_phases.proofs.OrderlyLemmas.{opening_stands}
 use Rattle.tss_phases.proofs.Tests.{something}
-use Rattle.tss_laws.specs.Members.{operand_among, IsVersionOf, IsOpenOf, IsMember, total}
+use Rattle.tss_laws.specs.Members.{operand_among, IsOpenOf}
 use Rattle.tss_laws.specs.Chains.{HasChains}
-use Rattle.tss_laws.specs.Entries.{IsGoingHome, IsLeaving, IsUsed, IsLive, IsRetiring, IsLastVersion, HasEntries}
+use Rattle.tss_laws.specs.Entries.{IsGoingHome, IsLeaving, IsUsed, IsRetiring, IsLastVersion, HasEntries}
 use Rattle.tss_laws.specs.Readers.{Arrivals}
 use Rattle.tss_laws.specs.Control.{HasGroundwork, IsControlled}
 use Rattle.tss_laws.proofs.SentLemmas.{AllSent, AllSent-append}
 use Rattle.tss_laws.proofs.SettleCases.{OthersSettled}
-use Rattle.tss_laws.proofs.ChainsRegistered.{Registers, linked_to, version_back, open_back, member_back, member_on, total_same, front_object, still, HasChains-registered}
+use Rattle.tss_laws.proofs.ChainsRegistered.{Registers, version_back, open_back, member_back, member_on, total_same, front_object, still, HasChains-registered}
 use Rattle.tss_laws.proofs.ChainsOpen.{following, others_followed, registers_first, registered_state, registers_behind, front_apart}
-use Rattle.tss_laws.proofs.EntriesFrames.{DecodesNoMore, KeepsLatest, KeepsLeaving, entries_kept}
+use Rattle.tss_laws.proofs.EntriesFrames.{DecodesNoMore, KeepsLeaving, entries_kept}
 use Rattle.tss_laws.proofs.EntriesDecoded.{later_decodes_none}
 use Rattle.tss_laws.proofs.EntriesNames.{name_decoded}
-use Rattle.tss_laws.proofs.EntriesQuiet.{IsQuiet, mail_posted_all}
+use Rattle.tss_laws.proofs.EntriesQuiet.{mail_posted_all}
 use Rattle.tss_laws.proofs.EntriesUse.{ready_quiet}
 use Rattle.tss_laws.proofs.EntriesSettleCases.{IsOfSettle, KeepsSettled, posted_all_settled, ready_of_settle, settles_with}
-use Rattle.tss_laws.proofs.RetirementWritten.{AfterSettle, entries_then}
+use Rattle.tss_laws.proofs.RetirementWritten.{entries_then}
 
 -- ---- a version is registered
 

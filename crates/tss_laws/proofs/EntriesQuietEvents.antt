@@ -1,8 +1,7 @@
 -- Events that change nothing of which entries and refusals speak keep them.
-use Rattle.std.proofs.Common.{◌≡◌, ℕ, Bool, true, false, List, [], ◌∷◌, Option, Some, None, refl, sym, ap, ◌∙◌, true≢false}
+use Rattle.std.proofs.Common.{◌≡◌, ℕ, Bool, List, [], ◌∷◌, Option, Some, None, refl, ◌∙◌}
 use Rattle.std.specs.FinMap.{get}
 use Rattle.tss_base.specs.declared.operand.OpName.{OpName}
-use Rattle.tss_base.specs.declared.operand.Operand.{Operand}
 use Rattle.tss_base.specs.declared.operand.Task.{Task}
 use Rattle.tss_base.specs.declared.machine.Machine.{Machine}
 use Rattle.tss_base.specs.declared.event.Event.{Event}
@@ -10,14 +9,11 @@ use Rattle.tss_base.specs.declared.event.Event.TheVariants as event
 use Rattle.tss_model.specs.Access.{operands_of}
 use Rattle.tss_protocol.specs.Mail.{Source, Message, Decode, Ack, Open, Use, Ready, Link, Release, Bye, Idle, Nack, Retire, Gone, Mail, posted, posted_all}
 use Rattle.tss_protocol.specs.State.{State, Flying, Busy}
-use Rattle.tss_protocol.specs.UnitMachine.{IsEnabled, after_event, with_sent, without, after_take, ready_message_taken, link_message_taken, after_start, start_task, after_exec, after_finish, bye_message_taken}
+use Rattle.tss_protocol.specs.UnitMachine.{IsEnabled, after_event, without, after_take, ready_message_taken, link_message_taken, after_start, start_task, after_exec, after_finish, bye_message_taken}
 use Rattle.tss_phases.specs.Orderly.{AreOrderly}
-use Rattle.tss_laws.specs.Tasks.{HasTaskNumbers}
 use Rattle.tss_laws.specs.Entries.{HasEntries, HasRetirement}
 use Rattle.tss_laws.specs.Control.{HasGroundwork}
-use Rattle.tss_laws.specs.Asking.{AsksOnce}
 use Rattle.tss_laws.proofs.SentLemmas.{AllSent, after_ready-all, after_link-all, flight_after_finish-all}
-use Rattle.tss_laws.proofs.FrontLemmas.{is_of_front}
 use Rattle.tss_laws.proofs.AskingLemmas.{IsAside, decodes_aside}
 use Rattle.tss_laws.proofs.EntriesFrames.{DecodesNoMore, HasEntries-same}
 use Rattle.tss_laws.proofs.EntriesQuiet.{IsQuietEvent, quiet_objects, quiet_entries}

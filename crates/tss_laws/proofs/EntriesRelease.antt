@@ -1,28 +1,26 @@
 -- A release keeps the entries, and asking and refusing.
-use Rattle.std.proofs.Common.{◌≡◌, ◌≢◌, ℕ, suc, ◌≤◌, inl, inr, Bool, true, false, List, [], ◌∷◌, ◌++◌, Option, Some, None, refl, sym, ap, ◌∙◌, subst, arith, true≢false}
+use Rattle.std.proofs.Common.{◌≡◌, ℕ, suc, ◌≤◌, inl, inr, Bool, true, false, List, [], ◌∷◌, ◌++◌, Option, Some, None, refl, sym, ap, ◌∙◌, subst, arith, true≢false}
 use Rattle.std.specs.Prelude.{is_some, not}
-use Rattle.std.specs.FinMap.{get, insert, remove}
+use Rattle.std.specs.FinMap.{get}
 use Rattle.std.proofs.lemmas.Option.{none-some, same_Some}
-use Rattle.tss_base.specs.declared.range.Range.{Range}
 use Rattle.tss_base.specs.declared.operand.OpName.{OpName}
 use Rattle.tss_base.specs.declared.operand.Mode.{Mode}
 use Rattle.tss_base.specs.declared.operand.Mode.TheVariants.{Input, Output, Inout}
 use Rattle.tss_base.specs.declared.operand.Task.{Task}
 use Rattle.tss_base.specs.declared.machine.Machine.{Machine}
 use Rattle.tss_base.specs.declared.event.Event.TheVariants as event
-use Rattle.tss_base.specs.Names.{Named}
 use Rattle.tss_model.specs.Access.{writes}
-use Rattle.tss_protocol.specs.Mail.{StorageName, ReleaseContents, Message, Bye, Mail, posted_all, taken}
+use Rattle.tss_protocol.specs.Mail.{ReleaseContents, Message, Bye, taken}
 use Rattle.tss_protocol.specs.State.{State, Entry, Version}
-use Rattle.tss_protocol.specs.Versions.{Versioned, put_version, head_ready, is_last, produced_now, released_once, settled, sending, released_by, released_at, after_release}
+use Rattle.tss_protocol.specs.Versions.{put_version, head_ready, is_last, produced_now, released_once, settled, sending, released_by, released_at}
 use Rattle.tss_protocol.specs.UnitMachine.{IsEnabled, is_enabled, after_event, without, with_versioned, release_message_taken}
-use Rattle.tss_phases.specs.Phase.{Phase, Releasing, phase_of, has_released}
+use Rattle.tss_phases.specs.Phase.{Releasing, phase_of, has_released}
 use Rattle.tss_phases.specs.Openers.{produced_opener, opener_by, version_opener}
 use Rattle.tss_phases.specs.Orderly.{AreOrderly}
-use Rattle.tss_phases.proofs.Tests.{something, not_both}
-use Rattle.tss_laws.specs.Members.{operand_among, total}
+use Rattle.tss_phases.proofs.Tests.{something}
+use Rattle.tss_laws.specs.Members.{operand_among}
 use Rattle.tss_laws.specs.Chains.{HasChains}
-use Rattle.tss_laws.specs.Entries.{IsLeaving, IsRetiring, HasEntries, HasRetirement}
+use Rattle.tss_laws.specs.Entries.{IsLeaving, IsRetiring, HasEntries}
 use Rattle.tss_laws.specs.Readers.{Arrivals}
 use Rattle.tss_laws.specs.Holders.{IsOwnOrRead}
 use Rattle.tss_laws.specs.Control.{HasGroundwork, IsControlled}
@@ -35,7 +33,7 @@ use Rattle.tss_laws.proofs.EntriesFrames.{DecodesNoMore}
 use Rattle.tss_laws.proofs.EntriesDecoded.{later_decodes_none}
 use Rattle.tss_laws.proofs.EntriesWritten.{total_written, entries_written}
 use Rattle.tss_laws.proofs.EntriesSettleCases.{IsOfSettle, KeepsSettled, posted_all_settled, ready_of_settle, settles_with}
-use Rattle.tss_laws.proofs.RetirementWritten.{AsksAlike, sound_written, AfterSettle, entries_then, retirement_then}
+use Rattle.tss_laws.proofs.RetirementWritten.{entries_then}
 
 -- what an event leaves that writes a version over and then settles it
 pub record WritesAndSettles (ts : List Task) (S T : State) (v : OpName) (y : Version) : Type 0 where

@@ -1,6 +1,6 @@
 -- A retire keeps the entries: the last version of an object goes home.
-use Rattle.std.proofs.Common.{◌≡◌, ◌≢◌, ℕ, ◌+◌, ◌≤◌, ◌⊎◌, inl, inr, Bool, true, false, List, [], ◌∷◌, Option, Some, None, refl, sym, ap, ◌∙◌, subst, true≢false}
-use Rattle.std.specs.Prelude.{is_some, is_none, ◌&&◌}
+use Rattle.std.proofs.Common.{◌≡◌, ◌≢◌, ℕ, ◌+◌, ◌⊎◌, inl, inr, true, List, Option, Some, None, refl, sym, ap, ◌∙◌, subst, true≢false}
+use Rattle.std.specs.Prelude.{is_some, is_none}
 use Rattle.std.specs.FinMap.{get, insert, remove}
 use Rattle.std.proofs.lemmas.Bool.{and_parts}
 use Rattle.std.proofs.lemmas.Option.{none-some, same_Some}
@@ -11,7 +11,7 @@ use Rattle.tss_base.specs.declared.operand.Task.{Task}
 use Rattle.tss_base.specs.declared.machine.Machine.{Machine}
 use Rattle.tss_base.specs.declared.event.Event.TheVariants as event
 use Rattle.tss_maps.proofs.Keys.{nat_order, name_order, decide_key}
-use Rattle.tss_maps.proofs.Changes.{at_inserted, beside_inserted, from_inserted, at_removed, beside_removed, from_removed, decide_get}
+use Rattle.tss_maps.proofs.Changes.{at_inserted, beside_inserted, from_inserted, at_removed, beside_removed, from_removed}
 use Rattle.tss_protocol.specs.Names.{bank_of}
 use Rattle.tss_protocol.specs.Mail.{StorageName, Home, Buffer, GoneContents, Mail, posted_all, taken}
 use Rattle.tss_protocol.specs.State.{State, Entry, Version, CopyState}
@@ -19,10 +19,10 @@ use Rattle.tss_protocol.specs.Versions.{retired}
 use Rattle.tss_protocol.specs.Buffers.{can_retire_from, sent_by_retire, new_copy, copies_after_retire}
 use Rattle.tss_protocol.specs.UnitMachine.{IsEnabled, is_enabled, after_event, without, can_retire, retire_version}
 use Rattle.tss_phases.specs.Orderly.{AreOrderly}
-use Rattle.tss_phases.proofs.Tests.{something, not_both}
+use Rattle.tss_phases.proofs.Tests.{something}
 use Rattle.tss_locality.proofs.LeftFields.{Leaves-after_event}
-use Rattle.tss_laws.specs.Members.{operand_among, IsVersionOf, IsOpenOf, IsMember, registered_of, opening_reader, uses_of, total}
-use Rattle.tss_laws.specs.Entries.{IsGoingHome, IsLeaving, IsUsed, IsAbsent, IsLive, IsRetiring, IsLastVersion, HasEntries, HasRetirement}
+use Rattle.tss_laws.specs.Members.{operand_among, IsVersionOf, IsOpenOf, IsMember, registered_of, opening_reader, uses_of}
+use Rattle.tss_laws.specs.Entries.{IsGoingHome, IsLeaving, IsUsed, IsLive, IsRetiring, IsLastVersion, HasEntries, HasRetirement}
 use Rattle.tss_laws.specs.Readers.{Arrivals}
 use Rattle.tss_laws.specs.Control.{HasGroundwork, IsControlled}
 use Rattle.tss_laws.proofs.EntriesFrames.{DecodesNoMore, KeepsLatest, KeepsLeaving, entries_kept}

@@ -1,5 +1,5 @@
 -- Entries and refusals after a settle, where all other versions were settled.
-use Rattle.std.proofs.Common.{◌≡◌, ◌≢◌, ℕ, ◌+◌, ◌<◌, ◌≤◌, ◌⊎◌, inl, inr, Bool, true, false, List, Option, Some, None, refl, sym, ap, ◌∙◌, subst, arith}
+use Rattle.std.proofs.Common.{◌≡◌, ◌≢◌, ℕ, ◌+◌, ◌<◌, ◌≤◌, inl, inr, List, Some, None, sym, ap, ◌∙◌, subst, arith}
 use Rattle.std.specs.FinMap.{get}
 use Rattle.std.proofs.lemmas.Option.{none-some, same_Some}
 use Rattle.tss_base.specs.declared.range.Range.{Range}
@@ -15,7 +15,6 @@ use Rattle.tss_laws.specs.Entries.{IsGoingHome, IsLeaving, IsUsed, IsLive, IsRet
 use Rattle.tss_laws.proofs.EntriesFrames.{DecodesNoMore, KeepsLatest, KeepsLeaving, entries_kept}
 use Rattle.tss_laws.proofs.EntriesSettling.{Becomes, SettlesTo}
 use Rattle.tss_laws.proofs.EntriesSettleCases.{KeepsSettled}
-use Rattle.tss_laws.proofs.RetirementFrames.{cause_same}
 
 -- what a settle leaves
 pub record Settled (ts : List Task) (S T : State) (v : OpName) : Type 0 where

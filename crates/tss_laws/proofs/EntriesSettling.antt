@@ -1,5 +1,5 @@
 -- What a settle does to versions, and what it sends, where all other versions were settled: each version is settled then.
-use Rattle.std.proofs.Common.{◌≡◌, ◌≢◌, ℕ, ◌+◌, ◌<◌, ◌≤◌, ◌⊎◌, inl, inr, Bool, true, false, List, [], ◌∷◌, ◌++◌, Option, Some, None, refl, sym, ap, ◌∙◌, subst, arith, true≢false}
+use Rattle.std.proofs.Common.{◌≡◌, ◌≢◌, ℕ, ◌⊎◌, inl, inr, Bool, true, false, List, Option, Some, None, refl, sym, ap, ◌∙◌, subst, arith, true≢false}
 use Rattle.std.proofs.lemmas.Bool.Decides.{nat_tests}
 use Rattle.std.specs.Prelude.{◌&&◌, ◌==◌, is_none, not}
 use Rattle.std.specs.FinMap.{get, insert}
@@ -7,18 +7,16 @@ use Rattle.std.proofs.lemmas.Bool.{and_parts}
 use Rattle.std.proofs.lemmas.Option.{none-some, same_Some}
 use Rattle.tss_base.specs.declared.operand.OpName.{OpName}
 use Rattle.tss_base.specs.declared.operand.Task.{Task}
-use Rattle.tss_base.specs.declared.event.How.TheVariants.{Beside, Over}
 use Rattle.tss_base.specs.declared.event.Follow.{Follow}
 use Rattle.tss_base.specs.Names.{Named}
 use Rattle.tss_maps.proofs.Keys.{name_order, decide_key}
-use Rattle.tss_maps.proofs.Changes.{at_inserted, beside_inserted, from_inserted, decide_get}
+use Rattle.tss_maps.proofs.Changes.{at_inserted, beside_inserted, from_inserted}
 use Rattle.tss_protocol.specs.State.{State, Version}
-use Rattle.tss_protocol.specs.Versions.{Versioned, put_version, may_die, may_ask, is_count, followed_by, settle_asking, settled, unlinked}
-use Rattle.tss_phases.specs.Settling.{GivesWay}
+use Rattle.tss_protocol.specs.Versions.{put_version, may_die, may_ask, is_count, followed_by, settle_asking}
 use Rattle.tss_laws.specs.Chains.{HasChains}
 use Rattle.tss_laws.specs.Entries.{IsSettled}
-use Rattle.tss_laws.proofs.SettleCases.{OthersSettled, IsQuiet, Asks, IsTakenOver, IsPassedBy, SettleCase, moved_up, settle_cases}
-use Rattle.tss_laws.proofs.UnlinkedVersions.{GaveWay, gave_way_beside, gave_way_over, took_over, bridged}
+use Rattle.tss_laws.proofs.SettleCases.{OthersSettled}
+use Rattle.tss_laws.proofs.UnlinkedVersions.{GaveWay, bridged}
 use Rattle.tss_laws.proofs.ChainsSettled.{chains_next, chains_own}
 
 -- ---- what becomes of a version

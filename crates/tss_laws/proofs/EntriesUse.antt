@@ -1,5 +1,5 @@
 -- A use keeps the entries, and asking and refusing.
-use Rattle.std.proofs.Common.{◌≡◌, ◌≢◌, ℕ, suc, ◌≤◌, inl, inr, Bool, true, false, List, [], ◌∷◌, Option, Some, None, refl, sym, ap, ◌∙◌, subst, arith, true≢false}
+use Rattle.std.proofs.Common.{◌≡◌, ℕ, suc, ◌≤◌, inl, inr, Bool, true, false, List, Option, Some, None, refl, sym, ap, ◌∙◌, subst, arith}
 use Rattle.std.proofs.lemmas.Bool.Decides.{nat_tests}
 use Rattle.std.specs.Prelude.{is_some, ◌&&◌, ◌==◌, is_none, not}
 use Rattle.std.specs.FinMap.{get, insert, remove}
@@ -10,19 +10,17 @@ use Rattle.tss_base.specs.declared.operand.Operand.{Operand}
 use Rattle.tss_base.specs.declared.operand.Task.{Task}
 use Rattle.tss_base.specs.declared.machine.Machine.{Machine}
 use Rattle.tss_base.specs.declared.event.Event.TheVariants as event
-use Rattle.tss_base.specs.declared.event.Follow.{Follow}
 use Rattle.tss_base.specs.Names.{Named}
 use Rattle.tss_maps.proofs.Keys.{name_order}
 use Rattle.tss_maps.proofs.Changes.{from_inserted, from_removed}
-use Rattle.tss_protocol.specs.Mail.{StorageName, Message, Mail, posted_all, taken}
+use Rattle.tss_protocol.specs.Mail.{StorageName, Mail, posted_all, taken}
 use Rattle.tss_protocol.specs.State.{State, Entry, Version}
-use Rattle.tss_protocol.specs.Versions.{Versioned, put_version, ready_with, enlisted, may_die, may_ask, is_count, used_alone, used_behind, used_at, after_use, can_use}
+use Rattle.tss_protocol.specs.Versions.{Versioned, ready_with, enlisted, is_count, used_alone, used_behind, used_at}
 use Rattle.tss_protocol.specs.UnitMachine.{IsEnabled, is_enabled, after_event, without, with_versioned, can_use_message, use_message_taken}
 use Rattle.tss_phases.specs.Orderly.{AreOrderly}
 use Rattle.tss_phases.proofs.Tests.{something}
-use Rattle.tss_locality.proofs.LeftFields.{Leaves-after_event}
-use Rattle.tss_laws.specs.Members.{operand_among, IsVersionOf, IsMember}
-use Rattle.tss_laws.specs.Entries.{IsSettled, IsRetiring, HasEntries, HasRetirement}
+use Rattle.tss_laws.specs.Members.{operand_among, IsMember}
+use Rattle.tss_laws.specs.Entries.{IsSettled, HasEntries, HasRetirement}
 use Rattle.tss_laws.specs.Readers.{Arrivals}
 use Rattle.tss_laws.specs.Control.{HasGroundwork, IsControlled}
 use Rattle.tss_laws.proofs.SentLemmas.{AllSent}

@@ -1,7 +1,7 @@
 -- Entries after a version is written over with one of its object, and as many readers are directed to each version.
-use Rattle.std.proofs.Common.{◌≡◌, ◌≢◌, ℕ, ◌+◌, ◌≤◌, ◌⊎◌, inl, inr, Bool, true, false, List, Option, Some, None, refl, sym, ap, ◌∙◌, subst}
+use Rattle.std.proofs.Common.{◌≡◌, ◌≢◌, ℕ, ◌+◌, inl, inr, true, false, List, Some, sym, ap, ◌∙◌}
 use Rattle.std.specs.FinMap.{get, insert}
-use Rattle.std.proofs.lemmas.Option.{none-some, same_Some}
+use Rattle.std.proofs.lemmas.Option.{same_Some}
 use Rattle.tss_base.specs.declared.range.Range.{Range}
 use Rattle.tss_base.specs.declared.operand.OpName.{OpName}
 use Rattle.tss_base.specs.declared.operand.Operand.{Operand}
@@ -11,9 +11,9 @@ use Rattle.tss_maps.proofs.Changes.{at_inserted, beside_inserted, from_inserted}
 use Rattle.tss_protocol.specs.State.{State, Entry, Version}
 use Rattle.tss_phases.proofs.Tests.{not_both}
 use Rattle.tss_laws.specs.Members.{operand_among, IsVersionOf, IsOpenOf, IsMember, registered_of, opening_reader, uses_of, total}
-use Rattle.tss_laws.specs.Entries.{IsGoingHome, IsLeaving, IsUsed, IsLive, IsRetiring, IsLastVersion, HasEntries}
+use Rattle.tss_laws.specs.Entries.{IsGoingHome, IsLeaving, IsUsed, IsRetiring, HasEntries}
 use Rattle.tss_laws.specs.Chains.{HasChains}
-use Rattle.tss_laws.proofs.EntriesFrames.{DecodesNoMore, KeepsLatest, KeepsLeaving, entries_kept}
+use Rattle.tss_laws.proofs.EntriesFrames.{DecodesNoMore, KeepsLeaving, entries_kept}
 
 -- as many readers were directed to each version where as many are registered at the one that is written
 pub total_written : (S T : State) (v : OpName) (x y : Version) → get S.versions v ≡ Some x

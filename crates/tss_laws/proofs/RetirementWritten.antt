@@ -1,22 +1,21 @@
 -- Asking and refusing where one version is written over with one that asks as it did, and then is settled.
-use Rattle.std.proofs.Common.{◌≡◌, ◌≢◌, ℕ, ◌≤◌, inl, inr, Bool, true, false, List, Option, Some, None, refl, sym, ap, ◌∙◌, subst, arith}
+use Rattle.std.proofs.Common.{◌≡◌, ℕ, ◌≤◌, inl, inr, true, List, Some, None, refl, sym, ap, ◌∙◌, subst, arith}
 use Rattle.std.specs.FinMap.{get, insert}
-use Rattle.std.proofs.lemmas.Option.{none-some, same_Some}
+use Rattle.std.proofs.lemmas.Option.{same_Some}
 use Rattle.tss_base.specs.declared.range.Range.{Range}
 use Rattle.tss_base.specs.declared.operand.OpName.{OpName}
 use Rattle.tss_base.specs.declared.operand.Task.{Task}
 use Rattle.tss_maps.proofs.Keys.{name_order, decide_key}
 use Rattle.tss_maps.proofs.Changes.{at_inserted, beside_inserted, from_inserted}
-use Rattle.tss_protocol.specs.State.{State, Entry, Version}
-use Rattle.tss_protocol.specs.Versions.{Versioned, settled}
+use Rattle.tss_protocol.specs.State.{State, Version}
+use Rattle.tss_protocol.specs.Versions.{settled}
 use Rattle.tss_laws.specs.Chains.{HasChains}
-use Rattle.tss_laws.specs.Asking.{AsksFor, AsksOnce}
-use Rattle.tss_laws.specs.Entries.{AsksRightly, HasCause, HasEntries, HasRetirement}
-use Rattle.tss_laws.proofs.SentLemmas.{AllSent}
+use Rattle.tss_laws.specs.Asking.{AsksFor}
+use Rattle.tss_laws.specs.Entries.{HasCause, HasEntries, HasRetirement}
 use Rattle.tss_laws.proofs.SettleCases.{OthersSettled}
 use Rattle.tss_laws.proofs.EntriesFrames.{DecodesNoMore}
 use Rattle.tss_laws.proofs.EntriesSettling.{SettlesTo}
-use Rattle.tss_laws.proofs.EntriesSettleCases.{IsOfSettle, KeepsSettled, settles_with}
+use Rattle.tss_laws.proofs.EntriesSettleCases.{KeepsSettled, settles_with}
 use Rattle.tss_laws.proofs.EntriesSettled.{Settled, AsksSoundly, entries_settled, retirement_settled}
 
 -- a version asks, and was refused, as another did
