@@ -207,3 +207,4 @@ pub mod WaitsRuns
 pub mod HoldersNacked
 pub mod ProgressBuffers
 pub mod ProgressRuns
+pub mod HoldersReleases
