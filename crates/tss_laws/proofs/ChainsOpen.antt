@@ -27,7 +27,8 @@ use Rattle.tss_laws.specs.Control.{HasGroundwork, IsControlled}
 use Rattle.tss_laws.proofs.SentLemmas.{posted_all-later, after_open-later}
 use Rattle.tss_laws.proofs.SettleCases.{OthersSettled, at_changed, beside_changed}
 use Rattle.tss_laws.proofs.ChainsSettled.{HasChains-settled}
-use Rattle.tss_laws.proofs.ChainsRegistered.{followed_version, linked_to, Registers, HasChains-registered}
+use Rattle.tss_laws.proofs.ChainsRegistered.{followed_version, linked_to, Registers}
+use Rattle.tss_laws.proofs.ChainsOpened.{HasChains-registered}
 use Rattle.tss_laws.proofs.ReleaseFacts.{released_few}
 
 -- ---- the first version of an object

@@ -22,7 +22,8 @@ use Rattle.tss_laws.proofs.SettleCases.{OthersSettled, HasNext, IsQuiet, Asks, I
 use Rattle.tss_laws.proofs.UnlinkedVersions.{GaveWay, gave_way_beside, gave_way_over, took_over}
 use Rattle.tss_laws.proofs.ChainsAlike.{AreAlike, alike_same, AreChainsAlike, HasChains-alike}
 use Rattle.tss_laws.proofs.ChainsFrames.{HasChains-same}
-use Rattle.tss_laws.proofs.ChainsGivingWay.{TakesStorage, Departs, HasChains-departed}
+use Rattle.tss_laws.proofs.ChainsGivingWay.{TakesStorage, Departs}
+use Rattle.tss_laws.proofs.ChainsDeparted.{HasChains-departed}
 
 -- ---- one version is written over
 

@@ -208,3 +208,7 @@ pub mod HoldersNacked
 pub mod ProgressBuffers
 pub mod ProgressRuns
 pub mod HoldersReleases
+pub mod ChainsBridged
+pub mod ChainsDeparted
+pub mod ChainsNewVersion
+pub mod ChainsOpened

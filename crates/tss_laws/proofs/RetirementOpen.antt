@@ -24,7 +24,8 @@ use Rattle.tss_laws.proofs.JointLemmas.{joint_open}
 use Rattle.tss_laws.proofs.RetirementFrames.{cause_same}
 use Rattle.tss_laws.proofs.RetirementSettled.{RetiresBut, HasRetirement-settled}
 use Rattle.tss_laws.proofs.RetirementReleased.{nacks_left, quiet_calm}
-use Rattle.tss_laws.proofs.ChainsRegistered.{linked_to, HasChains-registered}
+use Rattle.tss_laws.proofs.ChainsRegistered.{linked_to}
+use Rattle.tss_laws.proofs.ChainsOpened.{HasChains-registered}
 use Rattle.tss_laws.proofs.ChainsOpen.{following, at_followed, behind_followed, beside_followed, others_followed, registered_state, registers_behind, front_apart, fresh, part_how}
 use Rattle.tss_laws.proofs.ReleaseFacts.{released_few}
 
