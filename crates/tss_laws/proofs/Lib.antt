@@ -212,3 +212,4 @@ pub mod ChainsBridged
 pub mod ChainsDeparted
 pub mod ChainsNewVersion
 pub mod ChainsOpened
+pub mod CalmStates

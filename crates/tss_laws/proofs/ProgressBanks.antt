@@ -24,9 +24,10 @@ use Rattle.tss_laws.specs.Readers.{Arrivals, Has, has_arrived}
 use Rattle.tss_laws.specs.Control.{HasGroundwork, IsControlled}
 use Rattle.tss_laws.proofs.EntriesNames.{decode_among, object_of_entry, one_object, one_operand, decoded_apart, name_decoded}
 use Rattle.tss_laws.proofs.FlatNames.{same_range-equal, same_range-refl}
-use Rattle.tss_laws.proofs.ProgressStuck.{IsQuiet}
+use Rattle.tss_laws.proofs.CalmStates.{flying_operand}
+use Rattle.tss_laws.proofs.ProgressStuck.{IsQuiet, calm_of}
 use Rattle.tss_laws.proofs.ProgressVersions.{AllLeft, none_alone, nothing_retires, latest_version}
-use Rattle.tss_laws.proofs.ProgressPhases.{HasLetGo, flying_operand}
+use Rattle.tss_laws.proofs.ProgressPhases.{HasLetGo}
 use Rattle.tss_laws.proofs.ProgressOldest.{produced_when_left, past, none_followed, none_follows, own_record, decodes_or_ready, ready_told}
 
 -- some of a list passes a test, or none does
@@ -82,7 +83,7 @@ module _ (m : Machine) (all ts : List Task) (g : Arrivals) (S : State) (ground :
   pub record_among : (q : OpName) (r : OperandState) → q.task ≡ n → slice_get x.operands q.place ≡ Some r
       → operand_among ts q ≡ Some (r.operand)
   record_among q r own at =
-      let p = flying_operand m all ts g S ground control quiet q r
+      let p = flying_operand m all ts g S ground control (calm_of S quiet) q r
       (own_record m all ts g S ground control quiet gone n x flies least q r own at) in
       let k = record_of q p.0 p.1 own in
       p.1 ∙ ap Some (sym k.2 ∙ ap (λ (r : OperandState). r.operand) (same_Some k.0 r (sym k.1 ∙ at)))

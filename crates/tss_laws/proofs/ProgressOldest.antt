@@ -27,9 +27,10 @@ use Rattle.tss_laws.specs.Members.{operand_among, IsOn, IsWriterOn}
 use Rattle.tss_laws.specs.Chains.{IsFollowed}
 use Rattle.tss_laws.specs.Readers.{Arrivals, Has, IsArrival}
 use Rattle.tss_laws.specs.Control.{HasGroundwork, IsControlled}
-use Rattle.tss_laws.proofs.ProgressStuck.{IsQuiet}
+use Rattle.tss_laws.proofs.CalmStates.{flying_operand, no_reader_waits}
+use Rattle.tss_laws.proofs.ProgressStuck.{IsQuiet, calm_of}
 use Rattle.tss_laws.proofs.ProgressVersions.{AllLeft, none_behind}
-use Rattle.tss_laws.proofs.ProgressPhases.{HasLetGo, Stands, fails_somewhere, flying_operand, all_wait, stands, no_reader_waits, left_before}
+use Rattle.tss_laws.proofs.ProgressPhases.{HasLetGo, Stands, fails_somewhere, all_wait, stands, left_before}
 
 -- ---- modes
 
@@ -161,7 +162,7 @@ module _ (m : Machine) (all ts : List Task) (g : Arrivals) (S : State) (ground :
       where
         by : (v : OpName) (y : Version) → get S.versions v ≡ Some y → Has o (g v) → (v ≡ o) ⊎ (v.task < o.task)
             → (b : Bool) → y.produced ≡ b → ⊥
-        by v y there has younger true e = no_reader_waits m all ts g S ground control quiet v y there e o has waits
+        by v y there has younger true e = no_reader_waits m all ts g S ground control (calm_of S quiet) v y there e o has waits
         by v y there has younger false e = reader_by o v p y among own reads waits there has younger e
 
     none_waiting : (o : OpName) (p : Operand) → operand_among ts o ≡ Some p → o.task ≡ n → phase_of S o ≡ Waiting → ⊥
@@ -181,7 +182,7 @@ module _ (m : Machine) (all ts : List Task) (g : Arrivals) (S : State) (ground :
         → (phase_of S o ≡ Decoding) ⊎ (phase_of S o ≡ Ready)
     decodes_or_ready o r own at =
         let record_at = own_record o r own at in
-        let p = flying_operand m all ts g S ground control quiet o r record_at in
+        let p = flying_operand m all ts g S ground control (calm_of S quiet) o r record_at in
         elim (stands m all ts g S ground control quiet gone o r record_at) [
           | inl decoding ↦ inl decoding
           | inr (inl waits) ↦ absurd (none_waiting o p.0 p.1 own waits)

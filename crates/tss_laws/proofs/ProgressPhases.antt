@@ -31,7 +31,8 @@ use Rattle.tss_laws.specs.Holders.{link_fits}
 use Rattle.tss_laws.specs.Runners.{IsAtStage, is_late}
 use Rattle.tss_laws.specs.Control.{HasGroundwork, IsControlled}
 use Rattle.tss_laws.proofs.GroundworkSpawn.{among_object}
-use Rattle.tss_laws.proofs.ProgressStuck.{IsQuiet}
+use Rattle.tss_laws.proofs.CalmStates.{is_calm, calm_phase, flying_operand}
+use Rattle.tss_laws.proofs.ProgressStuck.{IsQuiet, calm_of}
 
 -- the operands of a finished task have let go
 abbrev pub HasLetGo : State → Type 0
@@ -40,16 +41,6 @@ HasLetGo S =
     → is_late (phase_of S o) ≡ true
 
 -- ---- phases
-
--- the phases of a quiet state
-abbrev pub is_calm : Phase → Bool
-is_calm Ahead = true
-is_calm Decoding = true
-is_calm Waiting = true
-is_calm Ready = true
-is_calm Promised = true
-is_calm Left = true
-is_calm p = false
 
 calm_late : (p : Phase) → is_calm p ≡ true → is_late p ≡ true → (p ≡ Promised) ⊎ (p ≡ Left)
 calm_late Ahead c l = absurd (true≢false (sym l))
@@ -62,30 +53,6 @@ calm_late Releasing c l = absurd (true≢false (sym c))
 calm_late Leaving c l = absurd (true≢false (sym c))
 calm_late Promised c l = inl refl
 calm_late Left c l = inr refl
-
-calm_record : (f : Farewell) (s : Option Source) → is_calm (record_phase f s) ≡ true
-calm_record farewell.Nothing None = refl
-calm_record farewell.Nothing (Some s) = refl
-calm_record farewell.Promised s = refl
-calm_record farewell.Left s = refl
-
-calm_station : (r : Option OperandState) (ahead : Bool) → is_calm (station_phase r ahead) ≡ true
-calm_station None true = refl
-calm_station None false = refl
-calm_station (Some r) ahead = calm_record r.farewell r.source
-
--- those that hold a link
-calm_holder : (p : Phase) (b : OpName) → is_calm p ≡ true → link_fits p (link.Held b) ≡ true → p ≡ Waiting
-calm_holder Ahead b c l = absurd (true≢false (sym l))
-calm_holder Decoding b c l = absurd (true≢false (sym l))
-calm_holder Sent b c l = absurd (true≢false (sym l))
-calm_holder Waiting b c l = refl
-calm_holder Told b c l = absurd (true≢false (sym c))
-calm_holder Ready b c l = absurd (true≢false (sym l))
-calm_holder Releasing b c l = absurd (true≢false (sym l))
-calm_holder Leaving b c l = absurd (true≢false (sym l))
-calm_holder Promised b c l = absurd (true≢false (sym l))
-calm_holder Left b c l = absurd (true≢false (sym l))
 
 -- an operand in flight whose task waits
 abbrev pub Stands : Phase → Type 0
@@ -120,31 +87,10 @@ different a b h = grind (arith, nat_tests)
 module _ (m : Machine) (all ts : List Task) (g : Arrivals) (S : State) (ground : HasGroundwork m all ts S)
     (control : IsControlled ts g S) (quiet : IsQuiet S) where
   -- each operand is calm
-  pub calm : (o : OpName) → is_calm (phase_of S o) ≡ true
-  calm o = by (get S.mail.decodes o) refl
-    where
-      by : (d : Option Operand) → get S.mail.decodes o ≡ d → is_calm (phase_of S o) ≡ true
-      by (Some p) e = ap is_calm (phase_decoding (look_ups S o) p e)
-      by None e =
-          ap is_calm (phase_silent (look_ups S o) (record {
-            decoding = e;
-            opening = quiet.opens o;
-            using = quiet.uses o;
-            telling = quiet.readies o;
-            releasing = quiet.releases o;
-            leaving = quiet.byes o;
-          }))
-          ∙ calm_station (operand_at S.flight o) (is_ahead S o.task)
+  calm : (o : OpName) → is_calm (phase_of S o) ≡ true
+  calm = calm_phase m all ts g S ground control (calm_of S quiet)
 
   -- ---- tasks in flight
-
-  -- an operand in flight is one of the round
-  pub flying_operand : (o : OpName) (r : OperandState) → operand_at S.flight o ≡ Some r
-      → (p : Operand) × (operand_among ts o ≡ Some p)
-  flying_operand o r at =
-      let x = ground.round.within.named.records o r at in
-      let p = among_object ts o x.0 x.1 in
-      (p.0, p.1)
 
   not_left : (o : OpName) (r : OperandState) → operand_at S.flight o ≡ Some r → has_left r.farewell ≡ false
       → phase_of S o ≡ Left → ⊥
@@ -157,7 +103,7 @@ module _ (m : Machine) (all ts : List Task) (g : Arrivals) (S : State) (ground :
 
   not_promised : (o : OpName) (r : OperandState) → operand_at S.flight o ≡ Some r → phase_of S o ≡ Promised → ⊥
   not_promised o r at promised =
-      let p = flying_operand o r at in
+      let p = flying_operand m all ts g S ground control (calm_of S quiet) o r at in
       let next = (control.holders.links o p.0 r p.1 at).promised promised in
       none-some next.0 (sym (quiet.links o) ∙ next.1)
 
@@ -196,34 +142,6 @@ module _ (m : Machine) (all ts : List Task) (g : Arrivals) (S : State) (ground :
       stands_by (phase_of S o) (calm o)
       (λ ahead. none-some r (sym (ahead_shows (look_ups S o) ahead).1.0 ∙ at))
       (λ late. let x = control.holders.runners.late o r at late in none_finished gone o.task x.0 x.1 x.2)
-
-  -- ---- readers
-
-  holder_waits : (a b : OpName) → Holds S a b → phase_of S a ≡ Waiting
-  holder_waits a b holds =
-      let p = flying_operand a holds.0 holds.1 in
-      let fits = (control.holders.links a p.0 holds.0 p.1 holds.1).fits in
-      calm_holder (phase_of S a) b (calm a) (ap (link_fits (phase_of S a)) (sym holds.2) ∙ fits)
-
-  none_waits : (xs : List OpName) → AreChained S xs
-      → ((a : OpName) → oldest_of xs ≡ Some a → phase_of S a ≡ Waiting → ⊥)
-      → (b : OpName) → Has b xs → phase_of S b ≡ Waiting → ⊥
-  none_waits [] chained first b has waits = has
-  none_waits (a ∷ []) chained first b (inl same) waits = first a refl (ap (phase_of S) same ∙ waits)
-  none_waits (a ∷ []) chained first b (inr has) waits = has
-  none_waits (c ∷ a ∷ xs) chained first b (inr has) waits = none_waits (a ∷ xs) chained.1 first b has waits
-  none_waits (c ∷ a ∷ xs) chained first b (inl same) waits = elim (chained.0.waits (ap (phase_of S) same ∙ waits)) [
-    | inl linking ↦ none-some c (sym (quiet.links a) ∙ linking)
-    | inr holds ↦ none_waits (a ∷ xs) chained.1 first a (inl refl) (holder_waits a c holds)
-  ]
-
-  -- no reader of a produced version waits
-  pub no_reader_waits : (v : OpName) (y : Version) → get S.versions v ≡ Some y → y.produced ≡ true
-      → (b : OpName) → Has b (g v) → phase_of S b ≡ Waiting → ⊥
-  no_reader_waits v y there produced =
-      let h = control.readers.versions v y there in
-      none_waits (g v) h.chained
-      (λ a first waits. true≢false (sym produced ∙ (h.first a first).0 waits))
 
   -- ---- tasks before those in flight
 

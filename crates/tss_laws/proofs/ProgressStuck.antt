@@ -23,6 +23,7 @@ use Rattle.tss_laws.specs.Members.{IsVersionOf, IsOpenOf, IsMember}
 use Rattle.tss_laws.specs.Chains.{OpensAfter}
 use Rattle.tss_laws.specs.Readers.{Arrivals}
 use Rattle.tss_laws.specs.Control.{HasGroundwork, IsControlled}
+use Rattle.tss_laws.proofs.CalmStates.{IsCalm}
 use Rattle.tss_laws.proofs.ProgressChoice.{IsStuck}
 
 -- ---- stuck
@@ -43,6 +44,20 @@ pub record IsQuiet (S : State) : Type 0 where
   pub copies : (b : ℕ) → get S.copies b ≡ None
   pub workers : (w : ℕ) → get S.workers w ≡ None
   pub queue : S.queue ≡ []
+
+-- so it is calm
+pub calm_of : (S : State) → IsQuiet S → IsCalm S
+calm_of S quiet = record {
+  opens = quiet.opens;
+  uses = quiet.uses;
+  readies = quiet.readies;
+  links = quiet.links;
+  releases = quiet.releases;
+  byes = quiet.byes;
+  idles = quiet.idles;
+  nacks = quiet.nacks;
+  retires = quiet.retires;
+}
 
 -- ---- messages that are enabled wherever they are
 

@@ -20,7 +20,8 @@ use Rattle.tss_laws.specs.Members.{registered_of, opening_reader, uses_of, total
 use Rattle.tss_laws.specs.Entries.{IsGoingHome, IsLeaving, HasCause}
 use Rattle.tss_laws.specs.Readers.{Arrivals, Has, released_among}
 use Rattle.tss_laws.specs.Control.{HasGroundwork, IsControlled}
-use Rattle.tss_laws.proofs.ProgressStuck.{IsQuiet}
+use Rattle.tss_laws.proofs.CalmStates.{AllReleased, nobody_asks, total_registered, all_released, none_released_behind}
+use Rattle.tss_laws.proofs.ProgressStuck.{IsQuiet, calm_of}
 
 -- ---- numbers
 
@@ -30,51 +31,14 @@ same_test a b e = grind (arith, nat_tests)
 less_test : (a b : ℕ) → a < b → (a == b) ≡ false
 less_test a b h = grind (arith, nat_tests)
 
-first_of_three : (a b c r : ℕ) → a ≡ r → b ≡ 0 → c ≡ 0 → a + b + c ≡ r
-first_of_three a b c r d e f = omega (arith, d, e, f)
-
--- readers that have all left are all counted
-all_left_count : (S : State) (xs : List OpName) → ((a : OpName) → Has a xs → phase_of S a ≡ Left)
-    → released_among S xs ≡ length xs
-all_left_count S [] left = refl
-all_left_count S (a ∷ xs) left =
-    ap (λ p. cond {A = ℕ} (has_released p) (suc (released_among S xs)) (released_among S xs)) (left a (inl refl))
-    ∙ ap suc (all_left_count S xs (λ b h. left b (inr h)))
-
 module _ (m : Machine) (all ts : List Task) (g : Arrivals) (S : State) (ground : HasGroundwork m all ts S)
     (control : IsControlled ts g S) (quiet : IsQuiet S) where
-  -- ---- counts
-
-  -- no version asks
-  pub nobody_asks : (v : OpName) (y : Version) → get S.versions v ≡ Some y → y.asked ≡ None
-  nobody_asks v y there = by y.asked refl
-    where
-      by : (a : Option ℕ) → y.asked ≡ a → y.asked ≡ None
-      by None e = e
-      by (Some count) e = absurd (elim (ground.asking.asking v count (y, there, e)) [
-        | inl idle ↦ none-some idle.0 (sym (quiet.idles v) ∙ idle.1)
-        | inr (inl nack) ↦ none-some tt (sym (quiet.nacks v) ∙ nack)
-        | inr (inr retire) ↦ none-some tt (sym (quiet.retires v) ∙ retire)
-      ])
-
-  no_uses_of : (v : OpName) → uses_of S.mail.uses v ≡ 0
-  no_uses_of v = count_none name_order (λ o w. same_name w v) S.mail.uses
-      (λ o w e. absurd (none-some w (sym (quiet.uses o) ∙ e)))
-
-  -- all readers of a version have registered
-  total_registered : (v : OpName) (y : Version) → get S.versions v ≡ Some y → total S v ≡ y.registered
-  total_registered v y there =
-      first_of_three (registered_of (get S.versions v)) (opening_reader (get S.mail.opens v)) (uses_of S.mail.uses v)
-      y.registered (ap registered_of there) (ap opening_reader (quiet.opens v)) (no_uses_of v)
-
   -- its readers have left
   abbrev pub AllLeft : OpName → Type 0
   AllLeft v = (a : OpName) → Has a (g v) → phase_of S a ≡ Left
 
-  all_released : (v : OpName) (y : Version) → get S.versions v ≡ Some y → AllLeft v → y.released ≡ y.registered
-  all_released v y there left =
-      let readers = control.readers.versions v y there in
-      readers.released ∙ all_left_count S (g v) left ∙ sym readers.registered
+  left_released : (v : OpName) → AllLeft v → AllReleased m all ts g S ground control (calm_of S quiet) v
+  left_released v left a has = ap has_released (left a has)
 
   -- ---- a version that stays has readers that haven't left
 
@@ -82,12 +46,7 @@ module _ (m : Machine) (all ts : List Task) (g : Arrivals) (S : State) (ground :
   pub none_behind : (v : OpName) (y : Version) (f : Follow) → get S.versions v ≡ Some y → y.successor ≡ Some f
       → y.produced ≡ true → AllLeft v → ⊥
   none_behind v y f there next produced left =
-      let last = ((control.chains.linked v y there).followed f next).last in
-      let same = all_released v y there left ∙ sym (last ∙ total_registered v y there) in
-      true≢false (sym (and_from (y.produced && (y.released == f.last)) (is_none y.asked)
-      (and_from y.produced (y.released == f.last) produced (same_test y.released f.last same))
-      (ap is_none (nobody_asks v y there)))
-      ∙ (control.retirement.settled v y there).dies f next)
+      none_released_behind m all ts g S ground control (calm_of S quiet) v y f there next produced (left_released v left)
 
   -- an entry's latest version was refused for fewer readers
   refused_before : (b : ℕ) (e : Entry) (y : Version) → get S.entries b ≡ Some e → get S.versions e.latest ≡ Some y
@@ -101,7 +60,7 @@ module _ (m : Machine) (all ts : List Task) (g : Arrivals) (S : State) (ground :
         | inl other ↦ absurd (other (ap (λ (e : Entry). e.latest) one))
         | inr fewer ↦
             less_test k y.registered
-            (subst (λ n. k < n) (ap (λ (e : Entry). e.sent) one ∙ sent ∙ total_registered e.latest y there) fewer)
+            (subst (λ n. k < n) (ap (λ (e : Entry). e.sent) one ∙ sent ∙ total_registered m all ts g S ground control (calm_of S quiet) e.latest y there) fewer)
       ]
 
   -- a produced version that is alone
@@ -109,12 +68,12 @@ module _ (m : Machine) (all ts : List Task) (g : Arrivals) (S : State) (ground :
       → y.object.base ≡ b → e.sent ≡ total S e.latest → y.successor ≡ None → y.predecessor ≡ None
       → y.produced ≡ true → AllLeft e.latest → ⊥
   none_alone b e y entry there base sent last oldest produced left =
-      let same = same_test y.released y.registered (all_released e.latest y there left) in
+      let same = same_test y.released y.registered (all_released m all ts g S ground control (calm_of S quiet) e.latest y there (left_released e.latest left)) in
       let fresh = refused_before b e y entry there base sent y.refused refl in
       let two = and_from y.produced (y.released == y.registered) produced same in
       let three = and_from (y.produced && (y.released == y.registered)) (is_none y.predecessor) two (ap is_none oldest) in
       let four = and_from (y.produced && (y.released == y.registered) && is_none y.predecessor) (is_none y.asked) three
-      (ap is_none (nobody_asks e.latest y there)) in
+      (ap is_none (nobody_asks m all ts g S ground control (calm_of S quiet) e.latest y there)) in
       true≢false (sym (and_from (y.produced && (y.released == y.registered) && is_none y.predecessor && is_none y.asked)
       (not (is_count y.refused y.registered)) four (ap not fresh))
       ∙ (control.retirement.settled e.latest y there).asks last)

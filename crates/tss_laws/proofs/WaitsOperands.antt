@@ -23,10 +23,11 @@ use Rattle.tss_phases.specs.Openers.{open_opener, opener_by}
 use Rattle.tss_laws.specs.Members.{operand_among, IsOn, IsWriterOn, NoWriterBetween}
 use Rattle.tss_laws.specs.Readers.{Arrivals, Has}
 use Rattle.tss_laws.specs.Control.{HasGroundwork, IsControlled}
+use Rattle.tss_laws.proofs.CalmStates.{no_reader_waits, none_released_behind}
 use Rattle.tss_laws.proofs.ProgressPhases.{HasLetGo}
 use Rattle.tss_laws.proofs.WaitsUsers.{AreRising}
 use Rattle.tss_laws.proofs.WaitsRound.{only_reads, writer_passes, reader_passes}
-use Rattle.tss_laws.proofs.WaitsSilent.{HasNoMessage, released_open, past_released, no_reader_waits, none_behind}
+use Rattle.tss_laws.proofs.WaitsSilent.{HasNoMessage, released_open, past_released}
 
 -- an operand that only reads is an input
 input_of : (p : Mode) → writes p ≡ false → p ≡ Input
@@ -119,7 +120,7 @@ module _ (m : Machine) (all ts : List Task) (g : Arrivals) (S : State) (ground :
 
     reader_by : p.mode ≡ Input → phase_of S o ≡ Waiting → (v : OpName) (y : Version) → get S.versions v ≡ Some y
         → Has o (g v) → (b : Bool) → y.produced ≡ b → ⊥
-    reader_by input waits v y at has true e = no_reader_waits m all ts g S ground control silent v y at e o has waits
+    reader_by input waits v y at has true e = no_reader_waits m all ts g S ground control silent.calm v y at e o has waits
     reader_by input waits v y at has false e =
         let arrival = (control.readers.versions v y at).each o has in
         let same = same_Some arrival.on.operand p (sym arrival.on.there ∙ among) in
@@ -159,7 +160,7 @@ module _ (m : Machine) (all ts : List Task) (g : Arrivals) (S : State) (ground :
         → z.successor ≡ Some f → z.object ≡ p.object → q.task < o.task → NoWriterBetween ts z.object q o
         → (b : Bool) → z.produced ≡ b → ⊥
     over_by inout q z f at next object older alone true e =
-        none_behind m all ts g S ground control silent q z f at next e (readers_before inout q z at object older alone)
+        none_released_behind m all ts g S ground control silent.calm q z f at next e (readers_before inout q z at object older alone)
     over_by inout q z f at next object older alone false e =
         opener_holds q z at e (writer_released z.object object (λ output. differs inout output) q
         (writer_opened q z at e) older alone)

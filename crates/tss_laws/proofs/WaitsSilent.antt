@@ -1,5 +1,5 @@
--- A state without messages: an operand in flight that isn't ready waits, one whose task has finished or left has released
--- its version, and no reader of a produced version waits.
+-- A state without messages: an operand in flight that isn't ready waits, and one whose task has finished or left has
+-- released its version.
 use Rattle.std.proofs.Common.{◌≡◌, ◌≢◌, ℕ, zero, suc, ◌+◌, ◌<◌, ◌≤◌, ◌⊎◌, Bool, true, false, List, [], ◌∷◌, length, Option, Some, None, refl, sym, ap, ◌∙◌, subst, inl, inr, arith, true≢false}
 use Rattle.std.specs.Prelude.{◌==◌, ◌&&◌, ◌||◌, not, cond, is_none, is_some, nat_lt, slice_get}
 use Rattle.std.specs.FinMap.{get, len}
@@ -39,6 +39,7 @@ use Rattle.tss_laws.specs.Holders.{link_fits}
 use Rattle.tss_laws.specs.Runners.{is_late}
 use Rattle.tss_laws.specs.Control.{HasGroundwork, IsControlled}
 use Rattle.tss_laws.proofs.GroundworkSpawn.{among_object, of_spawned}
+use Rattle.tss_laws.proofs.CalmStates.{IsCalm}
 use Rattle.tss_laws.proofs.ProgressPhases.{HasLetGo}
 
 -- ---- no message
@@ -46,15 +47,7 @@ use Rattle.tss_laws.proofs.ProgressPhases.{HasLetGo}
 -- no message under way
 pub record HasNoMessage (S : State) : Type 0 where
   pub decodes : (o : OpName) → get S.mail.decodes o ≡ None
-  pub opens : (o : OpName) → get S.mail.opens o ≡ None
-  pub uses : (o : OpName) → get S.mail.uses o ≡ None
-  pub readies : (o : OpName) → get S.mail.readies o ≡ None
-  pub links : (o : OpName) → get S.mail.links o ≡ None
-  pub releases : (o : OpName) → get S.mail.releases o ≡ None
-  pub byes : (o : OpName) → get S.mail.byes o ≡ None
-  pub idles : (v : OpName) → get S.mail.idles v ≡ None
-  pub nacks : (v : OpName) → get S.mail.nacks v ≡ None
-  pub retires : (v : OpName) → get S.mail.retires v ≡ None
+  pub calm : IsCalm S
 
 -- where the mail is silent there is none
 pub no_message : (S : State) → is_silent S.mail ≡ true → HasNoMessage S
@@ -62,15 +55,17 @@ no_message S silent =
     let none = eqb-true (message_count S.mail) 0 silent in
     record {
       decodes = λ o. absent_empty S.mail.decodes o (omega (arith, none));
-      opens = λ o. absent_empty S.mail.opens o (omega (arith, none));
-      uses = λ o. absent_empty S.mail.uses o (omega (arith, none));
-      readies = λ o. absent_empty S.mail.readies o (omega (arith, none));
-      links = λ o. absent_empty S.mail.links o (omega (arith, none));
-      releases = λ o. absent_empty S.mail.releases o (omega (arith, none));
-      byes = λ o. absent_empty S.mail.byes o (omega (arith, none));
-      idles = λ v. absent_empty S.mail.idles v (omega (arith, none));
-      nacks = λ v. absent_empty S.mail.nacks v (omega (arith, none));
-      retires = λ v. absent_empty S.mail.retires v (omega (arith, none));
+      calm = record {
+        opens = λ o. absent_empty S.mail.opens o (omega (arith, none));
+        uses = λ o. absent_empty S.mail.uses o (omega (arith, none));
+        readies = λ o. absent_empty S.mail.readies o (omega (arith, none));
+        links = λ o. absent_empty S.mail.links o (omega (arith, none));
+        releases = λ o. absent_empty S.mail.releases o (omega (arith, none));
+        byes = λ o. absent_empty S.mail.byes o (omega (arith, none));
+        idles = λ v. absent_empty S.mail.idles v (omega (arith, none));
+        nacks = λ v. absent_empty S.mail.nacks v (omega (arith, none));
+        retires = λ v. absent_empty S.mail.retires v (omega (arith, none));
+      };
     }
 
 -- ---- phases
@@ -85,19 +80,6 @@ still_station : (r : Option OperandState) (ahead : Bool) → is_still (station_p
 still_station None true = refl
 still_station None false = refl
 still_station (Some r) ahead = still_record r.farewell r.source
-
--- one that holds a link waits
-still_holder : (p : Phase) (b : OpName) → is_still p ≡ true → link_fits p (link.Held b) ≡ true → p ≡ Waiting
-still_holder Ahead b s l = absurd (true≢false (sym l))
-still_holder Decoding b s l = absurd (true≢false (sym l))
-still_holder Sent b s l = absurd (true≢false (sym l))
-still_holder Waiting b s l = refl
-still_holder Told b s l = absurd (true≢false (sym s))
-still_holder Ready b s l = absurd (true≢false (sym l))
-still_holder Releasing b s l = absurd (true≢false (sym l))
-still_holder Leaving b s l = absurd (true≢false (sym l))
-still_holder Promised b s l = absurd (true≢false (sym l))
-still_holder Left b s l = absurd (true≢false (sym l))
 
 -- one whose release was sent has released
 still_late : (p : Phase) → is_still p ≡ true → is_late p ≡ true → has_released p ≡ true
@@ -155,17 +137,6 @@ is_finished_stage stage.Queued e = absurd (true≢false (sym e))
 is_finished_stage stage.Running e = absurd (true≢false (sym e))
 is_finished_stage stage.Finished e = refl
 
--- readers that have all released are all counted
-released_all : (S : State) (xs : List OpName) → ((a : OpName) → Has a xs → has_released (phase_of S a) ≡ true)
-    → released_among S xs ≡ length xs
-released_all S [] released = refl
-released_all S (a ∷ xs) released =
-    ap (λ b. cond {A = ℕ} b (suc (released_among S xs)) (released_among S xs)) (released a (inl refl))
-    ∙ ap suc (released_all S xs (λ b h. released b (inr h)))
-
-first_of_three : (a b c r : ℕ) → a ≡ r → b ≡ 0 → c ≡ 0 → a + b + c ≡ r
-first_of_three a b c r d e f = omega (arith, d, e, f)
-
 module _ (m : Machine) (all ts : List Task) (g : Arrivals) (S : State) (ground : HasGroundwork m all ts S)
     (control : IsControlled ts g S) (silent : HasNoMessage S) where
   -- each phase is still
@@ -173,11 +144,11 @@ module _ (m : Machine) (all ts : List Task) (g : Arrivals) (S : State) (ground :
   still o =
       ap is_still (phase_silent (look_ups S o) (record {
         decoding = silent.decodes o;
-        opening = silent.opens o;
-        using = silent.uses o;
-        telling = silent.readies o;
-        releasing = silent.releases o;
-        leaving = silent.byes o;
+        opening = silent.calm.opens o;
+        using = silent.calm.uses o;
+        telling = silent.calm.readies o;
+        releasing = silent.calm.releases o;
+        leaving = silent.calm.byes o;
       }))
       ∙ still_station (operand_at S.flight o) (is_ahead S o.task)
 
@@ -218,65 +189,3 @@ module _ (m : Machine) (all ts : List Task) (g : Arrivals) (S : State) (ground :
       by (Some x) e h =
           let r = flying_record q p x among e in
           still_late (phase_of S q) (still q) (gone q r.0 r.1 (x, e, is_finished_stage x.stage h))
-
-  -- ---- readers
-
-  holder_waits : (a b : OpName) → Holds S a b → phase_of S a ≡ Waiting
-  holder_waits a b holds =
-      let named = ground.round.within.named.records a holds.0 holds.1 in
-      let p = among_object ts a named.0 named.1 in
-      let fits = (control.holders.links a p.0 holds.0 p.1 holds.1).fits in
-      still_holder (phase_of S a) b (still a) (ap (link_fits (phase_of S a)) (sym holds.2) ∙ fits)
-
-  none_waits : (xs : List OpName) → AreChained S xs
-      → ((a : OpName) → oldest_of xs ≡ Some a → phase_of S a ≡ Waiting → ⊥)
-      → (b : OpName) → Has b xs → phase_of S b ≡ Waiting → ⊥
-  none_waits [] chained first b has waits = has
-  none_waits (a ∷ []) chained first b (inl same) waits = first a refl (ap (phase_of S) same ∙ waits)
-  none_waits (a ∷ []) chained first b (inr has) waits = has
-  none_waits (c ∷ a ∷ xs) chained first b (inr has) waits = none_waits (a ∷ xs) chained.1 first b has waits
-  none_waits (c ∷ a ∷ xs) chained first b (inl same) waits = elim (chained.0.waits (ap (phase_of S) same ∙ waits)) [
-    | inl linking ↦ none-some c (sym (silent.links a) ∙ linking)
-    | inr holds ↦ none_waits (a ∷ xs) chained.1 first a (inl refl) (holder_waits a c holds)
-  ]
-
-  -- no reader of a produced version waits
-  pub no_reader_waits : (v : OpName) (y : Version) → get S.versions v ≡ Some y → y.produced ≡ true
-      → (b : OpName) → Has b (g v) → phase_of S b ≡ Waiting → ⊥
-  no_reader_waits v y there produced =
-      let h = control.readers.versions v y there in
-      none_waits (g v) h.chained
-      (λ a first waits. true≢false (sym produced ∙ (h.first a first).0 waits))
-
-  -- ---- a produced version with a successor
-
-  nobody_asks : (v : OpName) (y : Version) → get S.versions v ≡ Some y → y.asked ≡ None
-  nobody_asks v y there = by y.asked refl
-    where
-      by : (a : Option ℕ) → y.asked ≡ a → y.asked ≡ None
-      by None e = e
-      by (Some count) e = absurd (elim (ground.asking.asking v count (y, there, e)) [
-        | inl idle ↦ none-some idle.0 (sym (silent.idles v) ∙ idle.1)
-        | inr (inl nack) ↦ none-some tt (sym (silent.nacks v) ∙ nack)
-        | inr (inr retire) ↦ none-some tt (sym (silent.retires v) ∙ retire)
-      ])
-
-  total_registered : (v : OpName) (y : Version) → get S.versions v ≡ Some y → total S v ≡ y.registered
-  total_registered v y there =
-      first_of_three (registered_of (get S.versions v)) (opening_reader (get S.mail.opens v)) (uses_of S.mail.uses v)
-      y.registered (ap registered_of there) (ap opening_reader (silent.opens v))
-      (count_none name_order (λ o w. same_name w v) S.mail.uses
-      (λ o w e. absurd (none-some w (sym (silent.uses o) ∙ e))))
-
-  -- it has a reader that hasn't released it
-  pub none_behind : (v : OpName) (y : Version) (f : Follow) → get S.versions v ≡ Some y → y.successor ≡ Some f
-      → y.produced ≡ true → ((a : OpName) → Has a (g v) → has_released (phase_of S a) ≡ true) → ⊥
-  none_behind v y f there next produced released =
-      let last = ((control.chains.linked v y there).followed f next).last in
-      let readers = control.readers.versions v y there in
-      let same = readers.released ∙ released_all S (g v) released ∙ sym readers.registered
-      ∙ sym (last ∙ total_registered v y there) in
-      true≢false (sym (and_from (y.produced && (y.released == f.last)) (is_none y.asked)
-      (and_from y.produced (y.released == f.last) produced (eq-eqb y.released f.last same))
-      (ap is_none (nobody_asks v y there)))
-      ∙ (control.retirement.settled v y there).dies f next)
