@@ -1,10 +1,10 @@
 -- The bank of a decode of the oldest task in flight in a quiet state: each of its entries has an operand of that task
 -- that is ready, and one version.
-use Rattle.std.proofs.Common.{◌≡◌, ◌≢◌, ℕ, zero, suc, ◌<◌, ◌≤◌, ◌⊎◌, Bool, true, false, List, [], ◌∷◌, Option, Some, None, refl, sym, ap, ◌∙◌, subst, inl, inr, arith, true≢false}
-use Rattle.std.specs.Prelude.{◌&&◌, slice_get, map, option_map}
+use Rattle.std.proofs.Common.{◌≡◌, ℕ, zero, suc, ◌<◌, ◌≤◌, ◌⊎◌, Bool, true, false, List, [], ◌∷◌, Option, Some, None, refl, sym, ap, ◌∙◌, subst, inl, inr, arith, true≢false}
+use Rattle.std.specs.Prelude.{◌&&◌, slice_get}
 use Rattle.std.specs.FinMap.{get}
-use Rattle.std.proofs.lemmas.Bool.{cases_Bool, cases_lt, and_parts, and_from}
-use Rattle.std.proofs.lemmas.Option.{none-some, same_Some, slice_get-map}
+use Rattle.std.proofs.lemmas.Bool.{cases_lt, and_parts, and_from}
+use Rattle.std.proofs.lemmas.Option.{none-some, same_Some}
 use Rattle.tss_base.specs.declared.range.Range.{Range}
 use Rattle.tss_base.specs.declared.operand.OpName.{OpName}
 use Rattle.tss_base.specs.declared.operand.Operand.{Operand}
@@ -13,20 +13,20 @@ use Rattle.tss_base.specs.declared.machine.Machine.{Machine}
 use Rattle.tss_base.specs.declared.event.Follow.{Follow}
 use Rattle.tss_model.specs.Access.{operands_of}
 use Rattle.tss_model.specs.Spawn.{same_range}
-use Rattle.tss_protocol.specs.Names.{operand_name, bank_of}
+use Rattle.tss_protocol.specs.Names.{bank_of}
 use Rattle.tss_protocol.specs.State.{State, OperandState, Flying, Entry, Version}
-use Rattle.tss_protocol.specs.Stations.{operand_at, is_ready}
+use Rattle.tss_protocol.specs.Stations.{is_ready}
 use Rattle.tss_locality.proofs.Flights.{from_mapped}
 use Rattle.tss_phases.specs.Phase.{Phase, Ahead, Decoding, Sent, Waiting, Told, Ready, Releasing, Leaving, Promised, Left, phase_of, is_decoded}
-use Rattle.tss_laws.specs.Tasks.{task_at, IsOperandOf}
-use Rattle.tss_laws.specs.Members.{operand_among, IsVersionOf}
-use Rattle.tss_laws.specs.Readers.{Arrivals, Has, has_arrived}
+use Rattle.tss_laws.specs.Tasks.{task_at}
+use Rattle.tss_laws.specs.Members.{operand_among}
+use Rattle.tss_laws.specs.Readers.{Arrivals, has_arrived}
 use Rattle.tss_laws.specs.Control.{HasGroundwork, IsControlled}
-use Rattle.tss_laws.proofs.EntriesNames.{decode_among, object_of_entry, one_object, one_operand, decoded_apart, name_decoded}
+use Rattle.tss_laws.proofs.EntriesNames.{decode_among, decoded_apart, name_decoded}
 use Rattle.tss_laws.proofs.FlatNames.{same_range-equal, same_range-refl}
 use Rattle.tss_laws.proofs.CalmStates.{flying_operand}
 use Rattle.tss_laws.proofs.ProgressStuck.{IsQuiet, calm_of}
-use Rattle.tss_laws.proofs.ProgressVersions.{AllLeft, none_alone, nothing_retires, latest_version}
+use Rattle.tss_laws.proofs.ProgressVersions.{none_alone, nothing_retires, latest_version}
 use Rattle.tss_laws.proofs.ProgressPhases.{HasLetGo}
 use Rattle.tss_laws.proofs.ProgressOldest.{produced_when_left, past, none_followed, none_follows, own_record, decodes_or_ready, ready_told}
 

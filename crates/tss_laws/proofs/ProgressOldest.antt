@@ -1,6 +1,6 @@
 -- The oldest task in flight of a quiet state: all that was before it has left, so none of its operands waits, and one is
 -- still to be decoded.
-use Rattle.std.proofs.Common.{◌≡◌, ◌≢◌, ℕ, ◌<◌, ◌≤◌, ◌⊎◌, Bool, true, false, List, Option, Some, None, refl, sym, ap, ◌∙◌, subst, inl, inr, arith, true≢false}
+use Rattle.std.proofs.Common.{◌≡◌, ℕ, ◌<◌, ◌≤◌, ◌⊎◌, Bool, true, false, List, Option, Some, None, refl, sym, ap, ◌∙◌, subst, inl, inr, arith, true≢false}
 use Rattle.std.specs.Prelude.{slice_get, is_some}
 use Rattle.std.specs.FinMap.{get}
 use Rattle.std.proofs.lemmas.Bool.{cases_order}
@@ -13,24 +13,23 @@ use Rattle.tss_base.specs.declared.operand.Operand.{Operand}
 use Rattle.tss_base.specs.declared.operand.Task.{Task}
 use Rattle.tss_base.specs.declared.machine.Machine.{Machine}
 use Rattle.tss_base.specs.declared.event.Follow.{Follow}
-use Rattle.tss_base.specs.declared.event.Stage.TheVariants as stage
 use Rattle.tss_model.specs.Access.{writes}
 use Rattle.tss_protocol.specs.Names.{operand_name}
 use Rattle.tss_protocol.specs.Mail.{StorageName}
 use Rattle.tss_protocol.specs.State.{State, OperandState, Flying, Version}
 use Rattle.tss_protocol.specs.Stations.{operand_at, is_ready}
 use Rattle.tss_locality.proofs.Flights.{record_in}
-use Rattle.tss_phases.specs.Phase.{Phase, Decoding, Waiting, Ready, Left, station_phase, is_ahead, look_ups, phase_of}
+use Rattle.tss_phases.specs.Phase.{Decoding, Waiting, Ready, Left, look_ups, phase_of}
 use Rattle.tss_phases.specs.Openers.{open_opener, opener_by}
 use Rattle.tss_phases.proofs.Shown.{ready_shows}
 use Rattle.tss_laws.specs.Members.{operand_among, IsOn, IsWriterOn}
 use Rattle.tss_laws.specs.Chains.{IsFollowed}
-use Rattle.tss_laws.specs.Readers.{Arrivals, Has, IsArrival}
+use Rattle.tss_laws.specs.Readers.{Arrivals, Has}
 use Rattle.tss_laws.specs.Control.{HasGroundwork, IsControlled}
 use Rattle.tss_laws.proofs.CalmStates.{flying_operand, no_reader_waits}
 use Rattle.tss_laws.proofs.ProgressStuck.{IsQuiet, calm_of}
 use Rattle.tss_laws.proofs.ProgressVersions.{AllLeft, none_behind}
-use Rattle.tss_laws.proofs.ProgressPhases.{HasLetGo, Stands, fails_somewhere, all_wait, stands, left_before}
+use Rattle.tss_laws.proofs.ProgressPhases.{HasLetGo, fails_somewhere, all_wait, stands, left_before}
 
 -- ---- modes
 

@@ -1,36 +1,27 @@
 -- Operands in a quiet state: each task in flight waits, and each of its operands is to be decoded, waits or is ready. No
 -- reader of a produced version waits.
-use Rattle.std.proofs.Common.{◌≡◌, ◌≢◌, ℕ, zero, suc, ◌<◌, ◌≤◌, ◌⊎◌, Bool, true, false, List, [], ◌∷◌, Option, Some, None, refl, sym, ap, ◌∙◌, subst, inl, inr, arith, true≢false}
-use Rattle.std.specs.Prelude.{◌==◌, ◌&&◌, ◌||◌, nat_lt, slice_get}
+use Rattle.std.proofs.Common.{◌≡◌, ℕ, suc, ◌<◌, ◌≤◌, ◌⊎◌, Bool, true, false, List, [], ◌∷◌, Option, Some, None, refl, sym, ap, ◌∙◌, inl, inr, arith, true≢false}
+use Rattle.std.specs.Prelude.{◌==◌, nat_lt, slice_get}
 use Rattle.std.specs.List.{list_all, list_any}
 use Rattle.std.specs.FinMap.{get}
-use Rattle.std.proofs.lemmas.Bool.{and_cases, or_from, cases_Bool, le-ltb}
+use Rattle.std.proofs.lemmas.Bool.{and_cases, or_from, le-ltb}
 use Rattle.std.proofs.lemmas.Bool.Decides.{nat_tests}
 use Rattle.std.proofs.lemmas.Option.{none-some, same_Some}
 use Rattle.tss_base.specs.declared.operand.OpName.{OpName}
-use Rattle.tss_base.specs.declared.operand.Operand.{Operand}
 use Rattle.tss_base.specs.declared.operand.Task.{Task}
 use Rattle.tss_base.specs.declared.machine.Machine.{Machine}
 use Rattle.tss_base.specs.declared.event.Stage.{Stage}
 use Rattle.tss_base.specs.declared.event.Stage.TheVariants as stage
-use Rattle.tss_base.specs.declared.event.LinkState.TheVariants as link
-use Rattle.tss_base.specs.declared.event.Farewell.{Farewell}
-use Rattle.tss_base.specs.declared.event.Farewell.TheVariants as farewell
-use Rattle.tss_protocol.specs.Mail.{Source}
 use Rattle.tss_protocol.specs.Names.{operand_name}
-use Rattle.tss_protocol.specs.State.{State, OperandState, Flying, Version}
-use Rattle.tss_protocol.specs.Stations.{operand_at, has_left, has_finished, is_gone}
+use Rattle.tss_protocol.specs.State.{State, OperandState, Flying}
+use Rattle.tss_protocol.specs.Stations.{operand_at, has_left, has_finished}
 use Rattle.tss_locality.proofs.Flights.{record_in}
-use Rattle.tss_phases.specs.Phase.{Phase, Ahead, Decoding, Sent, Waiting, Told, Ready, Releasing, Leaving, Promised, Left, inbox_has, is_ahead, record_phase, station_phase, look_ups, phase_of}
-use Rattle.tss_phases.proofs.PhaseLemmas.{phase_decoding, phase_silent}
+use Rattle.tss_phases.specs.Phase.{Phase, Ahead, Decoding, Sent, Waiting, Told, Ready, Releasing, Leaving, Promised, Left, inbox_has, look_ups, phase_of}
 use Rattle.tss_phases.proofs.Shown.{left_shows, ahead_shows}
 use Rattle.tss_phases.proofs.OrderlyLemmas.{left_by_absence}
-use Rattle.tss_laws.specs.Members.{operand_among}
-use Rattle.tss_laws.specs.Readers.{Arrivals, Has, oldest_of, Holds, IsArrival, AreChained}
-use Rattle.tss_laws.specs.Holders.{link_fits}
+use Rattle.tss_laws.specs.Readers.{Arrivals}
 use Rattle.tss_laws.specs.Runners.{IsAtStage, is_late}
 use Rattle.tss_laws.specs.Control.{HasGroundwork, IsControlled}
-use Rattle.tss_laws.proofs.GroundworkSpawn.{among_object}
 use Rattle.tss_laws.proofs.CalmStates.{is_calm, calm_phase, flying_operand}
 use Rattle.tss_laws.proofs.ProgressStuck.{IsQuiet, calm_of}
 

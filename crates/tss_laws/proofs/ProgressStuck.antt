@@ -1,8 +1,8 @@
 -- A state in which no event is enabled: no message is under way but decodes, and nothing is queued, runs or is copied.
-use Rattle.std.proofs.Common.{◌≡◌, ℕ, zero, suc, ◌<◌, ◌⊎◌, Bool, true, false, List, [], ◌∷◌, Option, Some, None, refl, sym, ap, ◌∙◌, subst, inl, inr, arith, true≢false}
-use Rattle.std.specs.Prelude.{◌&&◌, ◌||◌, not, is_some, is_none, nat_lt}
+use Rattle.std.proofs.Common.{◌≡◌, ℕ, zero, suc, ◌<◌, Bool, true, false, List, [], ◌∷◌, Option, Some, None, refl, sym, ap, ◌∙◌, inl, inr, arith, true≢false}
+use Rattle.std.specs.Prelude.{not, is_some, is_none, nat_lt}
 use Rattle.std.specs.FinMap.{get}
-use Rattle.std.proofs.lemmas.Bool.{false_from_ne_true, and_from, lt-ltb}
+use Rattle.std.proofs.lemmas.Bool.{and_from, lt-ltb}
 use Rattle.std.proofs.lemmas.Option.{none-some}
 use Rattle.tss_base.specs.declared.operand.OpName.{OpName}
 use Rattle.tss_base.specs.declared.operand.Task.{Task}
@@ -18,8 +18,7 @@ use Rattle.tss_protocol.specs.State.{State, Busy, Version}
 use Rattle.tss_protocol.specs.Versions.{is_followable}
 use Rattle.tss_protocol.specs.Buffers.{can_retire_from}
 use Rattle.tss_protocol.specs.Workers.{can_start, can_exec, can_finish, has_ended}
-use Rattle.tss_protocol.specs.UnitMachine.{is_enabled, IsEnabled, can_open_message, can_use_message, can_retire, enabled_events}
-use Rattle.tss_laws.specs.Members.{IsVersionOf, IsOpenOf, IsMember}
+use Rattle.tss_protocol.specs.UnitMachine.{is_enabled, can_open_message, can_use_message, can_retire}
 use Rattle.tss_laws.specs.Chains.{OpensAfter}
 use Rattle.tss_laws.specs.Readers.{Arrivals}
 use Rattle.tss_laws.specs.Control.{HasGroundwork, IsControlled}

@@ -1,6 +1,6 @@
 -- Versions in a quiet state: one whose readers have all left doesn't stay.
-use Rattle.std.proofs.Common.{◌≡◌, ◌≢◌, ℕ, zero, suc, ◌+◌, ◌<◌, ◌⊎◌, Bool, true, false, List, [], ◌∷◌, length, Option, Some, None, refl, sym, ap, ◌∙◌, subst, inl, inr, arith, true≢false}
-use Rattle.std.specs.Prelude.{◌==◌, ◌&&◌, not, is_none, cond}
+use Rattle.std.proofs.Common.{◌≡◌, ℕ, ◌<◌, Bool, true, false, List, Option, Some, None, refl, sym, ap, ◌∙◌, subst, inl, inr, arith, true≢false}
+use Rattle.std.specs.Prelude.{◌==◌, ◌&&◌, not, is_none}
 use Rattle.std.specs.FinMap.{get}
 use Rattle.std.proofs.lemmas.Bool.{and_from}
 use Rattle.std.proofs.lemmas.Bool.Decides.{nat_tests}
@@ -10,15 +10,12 @@ use Rattle.tss_base.specs.declared.operand.OpName.{OpName}
 use Rattle.tss_base.specs.declared.operand.Task.{Task}
 use Rattle.tss_base.specs.declared.machine.Machine.{Machine}
 use Rattle.tss_base.specs.declared.event.Follow.{Follow}
-use Rattle.tss_maps.proofs.Keys.{name_order}
-use Rattle.tss_maps.proofs.Sums.{count_none}
-use Rattle.tss_protocol.specs.Names.{same_name}
 use Rattle.tss_protocol.specs.State.{State, Entry, Version}
-use Rattle.tss_protocol.specs.Versions.{is_count, may_die, may_ask}
-use Rattle.tss_phases.specs.Phase.{Phase, Left, phase_of, has_released}
-use Rattle.tss_laws.specs.Members.{registered_of, opening_reader, uses_of, total, IsVersionOf}
-use Rattle.tss_laws.specs.Entries.{IsGoingHome, IsLeaving, HasCause}
-use Rattle.tss_laws.specs.Readers.{Arrivals, Has, released_among}
+use Rattle.tss_protocol.specs.Versions.{is_count}
+use Rattle.tss_phases.specs.Phase.{Left, phase_of, has_released}
+use Rattle.tss_laws.specs.Members.{total, IsVersionOf}
+use Rattle.tss_laws.specs.Entries.{IsLeaving}
+use Rattle.tss_laws.specs.Readers.{Arrivals, Has}
 use Rattle.tss_laws.specs.Control.{HasGroundwork, IsControlled}
 use Rattle.tss_laws.proofs.CalmStates.{AllReleased, nobody_asks, total_registered, all_released, none_released_behind}
 use Rattle.tss_laws.proofs.ProgressStuck.{IsQuiet, calm_of}

@@ -1,27 +1,22 @@
 -- No task waits needlessly where no message is under way.
-use Rattle.std.proofs.Common.{◌≡◌, ℕ, zero, suc, Bool, true, false, List, [], ◌∷◌, Option, Some, None, refl, sym, ap, ◌∙◌, subst}
-use Rattle.std.specs.Prelude.{◌==◌, ◌&&◌, ◌||◌, not, map, option_map, slice_get}
+use Rattle.std.proofs.Common.{◌≡◌, ℕ, suc, Bool, true, false, List, [], ◌∷◌, Some, refl, sym, ap, ◌∙◌}
+use Rattle.std.specs.Prelude.{◌||◌, not, option_map, slice_get}
 use Rattle.std.specs.declared.cmp.Ordering.{Ordering}
-use Rattle.std.specs.List.{list_all, list_any}
+use Rattle.std.specs.List.{list_all}
 use Rattle.std.specs.FinMap.{FinMap, get, entries, values}
 use Rattle.std.proofs.lemmas.Bool.{and_from, or_left, or_right}
 use Rattle.std.proofs.lemmas.List.Folds.{list_all-map}
-use Rattle.std.proofs.lemmas.Option.{none-some, same_Some, slice_get-map}
-use Rattle.tss_base.specs.declared.operand.OpName.{OpName}
-use Rattle.tss_base.specs.declared.operand.Operand.{Operand}
+use Rattle.std.proofs.lemmas.Option.{slice_get-map}
 use Rattle.tss_base.specs.declared.operand.Task.{Task}
 use Rattle.tss_base.specs.declared.machine.Machine.{Machine}
-use Rattle.tss_base.specs.declared.event.Event.{Event}
 use Rattle.tss_base.specs.declared.event.Stage.{Stage}
 use Rattle.tss_base.specs.declared.event.Stage.TheVariants as stage
-use Rattle.tss_base.specs.Image.{ImageState}
 use Rattle.tss_maps.proofs.Keys.{IsKeyOrder, nat_order}
 use Rattle.tss_maps.proofs.OrderedLemmas.{get_from_place}
-use Rattle.tss_model.specs.Access.{operands_of}
 use Rattle.tss_protocol.specs.Names.{operand_name}
 use Rattle.tss_protocol.specs.Mail.{is_silent}
 use Rattle.tss_protocol.specs.State.{State, OperandState, Flying}
-use Rattle.tss_protocol.specs.Stations.{operand_at, is_ready, is_complete}
+use Rattle.tss_protocol.specs.Stations.{operand_at, is_ready}
 use Rattle.tss_protocol.specs.Needs.{runs_or_finished, is_past, is_in_queue, needed_tasks, waits_rightly, HasNoFalseWait}
 use Rattle.tss_locality.proofs.Flights.{record_in}
 use Rattle.tss_laws.specs.Readers.{Arrivals}

@@ -1,10 +1,10 @@
 -- No false wait: in a state without messages a task that waits needs one that hasn't finished.
-use Rattle.std.proofs.Common.{◌≡◌, ◌≢◌, ℕ, zero, suc, ◌<◌, ◌≤◌, ◌⊎◌, Bool, true, false, List, [], ◌∷◌, Option, Some, None, refl, sym, ap, ◌∙◌, subst, inl, inr, arith, true≢false}
+use Rattle.std.proofs.Common.{◌≡◌, ◌≢◌, ℕ, ◌<◌, ◌⊎◌, Bool, true, false, List, Option, Some, None, refl, sym, ap, ◌∙◌, subst, inl, inr, arith, true≢false}
 use Rattle.std.specs.Prelude.{slice_get}
 use Rattle.std.specs.List.{list_all}
 use Rattle.std.specs.FinMap.{get}
 use Rattle.std.proofs.lemmas.Bool.{cases_order}
-use Rattle.std.proofs.lemmas.Option.{none-some, same_Some}
+use Rattle.std.proofs.lemmas.Option.{same_Some}
 use Rattle.tss_base.specs.declared.range.Range.{Range}
 use Rattle.tss_base.specs.declared.operand.OpName.{OpName}
 use Rattle.tss_base.specs.declared.operand.Mode.{Mode}
@@ -12,13 +12,12 @@ use Rattle.tss_base.specs.declared.operand.Mode.TheVariants.{Input, Output, Inou
 use Rattle.tss_base.specs.declared.operand.Operand.{Operand}
 use Rattle.tss_base.specs.declared.operand.Task.{Task}
 use Rattle.tss_base.specs.declared.machine.Machine.{Machine}
-use Rattle.tss_base.specs.declared.event.How.TheVariants.{Beside, Over}
 use Rattle.tss_base.specs.declared.event.Follow.{Follow}
 use Rattle.tss_model.specs.Access.{operands_of, writes}
 use Rattle.tss_protocol.specs.Mail.{StorageName}
 use Rattle.tss_protocol.specs.State.{State, Version}
 use Rattle.tss_protocol.specs.Needs.{is_past, needed_tasks}
-use Rattle.tss_phases.specs.Phase.{Phase, Waiting, phase_of, has_released}
+use Rattle.tss_phases.specs.Phase.{Waiting, phase_of, has_released}
 use Rattle.tss_phases.specs.Openers.{open_opener, opener_by}
 use Rattle.tss_laws.specs.Members.{operand_among, IsOn, IsWriterOn, NoWriterBetween}
 use Rattle.tss_laws.specs.Readers.{Arrivals, Has}

@@ -1,5 +1,5 @@
 -- The tasks of a round stand in their order, in every run.
-use Rattle.std.proofs.Common.{◌≡◌, ℕ, zero, suc, ◌<◌, ◌≤◌, List, [], ◌∷◌, ◌++◌, append-nil, length, Option, Some, None, refl, sym, ap, ◌∙◌, subst, inl, inr, arith}
+use Rattle.std.proofs.Common.{◌≡◌, ℕ, suc, ◌<◌, List, [], ◌∷◌, ◌++◌, append-nil, Option, Some, None, refl, sym, subst, inl, inr, arith}
 use Rattle.std.specs.Prelude.{option_to_list, slice_get, Result, Ok, Err}
 use Rattle.std.proofs.lemmas.Option.{none-some}
 use Rattle.tss_base.specs.declared.operand.Task.{Task}
@@ -11,16 +11,13 @@ use Rattle.tss_model.specs.Spawn.{spawn_of}
 use Rattle.tss_model.specs.MainStep.{Call, ExitCall, Spawn, Barrier, Print, Unknown, spawn_call, spawn_on}
 use Rattle.tss_protocol.specs.State.{State, initial_state}
 use Rattle.tss_protocol.specs.MainEvent.{call_next}
-use Rattle.tss_protocol.specs.UnitMachine.{IsEnabled}
 use Rattle.tss_protocol.specs.Needs.{round_after_main, round_after_event, round_of}
 use Rattle.tss_protocol.specs.Run.{IsRun}
 use Rattle.tss_locality.specs.Rounds.{IsRounded}
 use Rattle.tss_locality.proofs.RoundObjects.{from_longer}
-use Rattle.tss_laws.specs.Readers.{Arrivals}
-use Rattle.tss_laws.specs.Control.{HasGroundwork}
 use Rattle.tss_laws.proofs.SpawnLemmas.{IsNext-spawn_of}
 use Rattle.tss_laws.proofs.GroundworkRuns.{ground_of_runs}
-use Rattle.tss_laws.proofs.WaitsUsers.{ComesBefore, AreRising}
+use Rattle.tss_laws.proofs.WaitsUsers.{AreRising}
 
 -- one more task comes behind all
 rising_more : (ts : List Task) (t : Task) → AreRising ts

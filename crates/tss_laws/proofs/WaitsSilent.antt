@@ -1,9 +1,9 @@
 -- A state without messages: an operand in flight that isn't ready waits, and one whose task has finished or left has
 -- released its version.
-use Rattle.std.proofs.Common.{◌≡◌, ◌≢◌, ℕ, zero, suc, ◌+◌, ◌<◌, ◌≤◌, ◌⊎◌, Bool, true, false, List, [], ◌∷◌, length, Option, Some, None, refl, sym, ap, ◌∙◌, subst, inl, inr, arith, true≢false}
-use Rattle.std.specs.Prelude.{◌==◌, ◌&&◌, ◌||◌, not, cond, is_none, is_some, nat_lt, slice_get}
-use Rattle.std.specs.FinMap.{get, len}
-use Rattle.std.proofs.lemmas.Bool.{and_from, or_from, eq-eqb, eqb-true, le-ltb, not-true}
+use Rattle.std.proofs.Common.{◌≡◌, Bool, true, false, List, Option, Some, None, refl, sym, ap, ◌∙◌, inl, inr, arith, true≢false}
+use Rattle.std.specs.Prelude.{◌==◌, not, is_some, nat_lt, slice_get}
+use Rattle.std.specs.FinMap.{get}
+use Rattle.std.proofs.lemmas.Bool.{or_from, eqb-true, le-ltb, not-true}
 use Rattle.std.proofs.lemmas.Option.{none-some, same_Some}
 use Rattle.tss_base.specs.declared.operand.OpName.{OpName}
 use Rattle.tss_base.specs.declared.operand.Operand.{Operand}
@@ -11,34 +11,26 @@ use Rattle.tss_base.specs.declared.operand.Task.{Task}
 use Rattle.tss_base.specs.declared.machine.Machine.{Machine}
 use Rattle.tss_base.specs.declared.event.Stage.{Stage}
 use Rattle.tss_base.specs.declared.event.Stage.TheVariants as stage
-use Rattle.tss_base.specs.declared.event.LinkState.TheVariants as link
 use Rattle.tss_base.specs.declared.event.Farewell.{Farewell}
 use Rattle.tss_base.specs.declared.event.Farewell.TheVariants as farewell
-use Rattle.tss_base.specs.declared.event.Follow.{Follow}
-use Rattle.tss_maps.proofs.Keys.{name_order}
 use Rattle.tss_maps.proofs.Entries.{absent_empty}
-use Rattle.tss_maps.proofs.Sums.{count_none}
 use Rattle.tss_model.specs.Access.{operands_of}
-use Rattle.tss_protocol.specs.Names.{same_name}
-use Rattle.tss_protocol.specs.Mail.{Source, Mail, StorageName, is_silent, message_count}
-use Rattle.tss_protocol.specs.State.{State, OperandState, Flying, Version}
+use Rattle.tss_protocol.specs.Mail.{Source, StorageName, is_silent, message_count}
+use Rattle.tss_protocol.specs.State.{State, OperandState, Flying}
 use Rattle.tss_protocol.specs.Stations.{operand_at, is_ready, has_finished}
-use Rattle.tss_protocol.specs.Versions.{may_die}
 use Rattle.tss_protocol.specs.Needs.{is_in_inbox, is_past_by, is_past}
 use Rattle.tss_locality.proofs.Flights.{record_in, from_mapped}
 use Rattle.tss_phases.specs.Phase.{Phase, Ahead, Decoding, Sent, Waiting, Told, Ready, Releasing, Leaving, Promised, Left, LookUps, inbox_has, is_ahead, record_phase, station_phase, look_ups, phase_of, has_released}
 use Rattle.tss_phases.specs.Orderly.{FitsPhase, WasTold}
-use Rattle.tss_phases.specs.Openers.{open_opener, opener_by}
+use Rattle.tss_phases.specs.Openers.{open_opener}
 use Rattle.tss_phases.proofs.PhaseLemmas.{phase_silent}
 use Rattle.tss_phases.proofs.Shown.{is_still}
 use Rattle.tss_phases.proofs.OrderlyLemmas.{left_by_absence}
-use Rattle.tss_laws.specs.Members.{operand_among, registered_of, opening_reader, uses_of, total}
-use Rattle.tss_laws.specs.Tasks.{task_at}
-use Rattle.tss_laws.specs.Readers.{Arrivals, Has, oldest_of, released_among, Holds, AreChained}
-use Rattle.tss_laws.specs.Holders.{link_fits}
+use Rattle.tss_laws.specs.Members.{operand_among}
+use Rattle.tss_laws.specs.Readers.{Arrivals}
 use Rattle.tss_laws.specs.Runners.{is_late}
 use Rattle.tss_laws.specs.Control.{HasGroundwork, IsControlled}
-use Rattle.tss_laws.proofs.GroundworkSpawn.{among_object, of_spawned}
+use Rattle.tss_laws.proofs.GroundworkSpawn.{of_spawned}
 use Rattle.tss_laws.proofs.CalmStates.{IsCalm}
 use Rattle.tss_laws.proofs.ProgressPhases.{HasLetGo}
 
