@@ -1,5 +1,5 @@
--- A state with no message but decodes, acks and gones: no reader of a produced version waits, and a produced version with
--- a successor has a reader that hasn't released it.
+-- A state with no message but decodes, acks and gones: no reader of a produced version waits, and a produced version
+-- with a successor has a reader that hasn't released it.
 use Rattle.std.proofs.Common.{◌≡◌, ℕ, suc, ◌+◌, Bool, true, false, List, [], ◌∷◌, length, Option, Some, None, refl, sym, ap, ◌∙◌, inl, inr, arith, true≢false}
 use Rattle.std.specs.Prelude.{◌==◌, ◌&&◌, cond, is_none}
 use Rattle.std.specs.FinMap.{get}

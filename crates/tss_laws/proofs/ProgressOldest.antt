@@ -161,7 +161,8 @@ module _ (m : Machine) (all ts : List Task) (g : Arrivals) (S : State) (ground :
       where
         by : (v : OpName) (y : Version) → get S.versions v ≡ Some y → Has o (g v) → (v ≡ o) ⊎ (v.task < o.task)
             → (b : Bool) → y.produced ≡ b → ⊥
-        by v y there has younger true e = no_reader_waits m all ts g S ground control (calm_of S quiet) v y there e o has waits
+        by v y there has younger true e =
+            no_reader_waits m all ts g S ground control (calm_of S quiet) v y there e o has waits
         by v y there has younger false e = reader_by o v p y among own reads waits there has younger e
 
     none_waiting : (o : OpName) (p : Operand) → operand_among ts o ≡ Some p → o.task ≡ n → phase_of S o ≡ Waiting → ⊥

@@ -43,7 +43,8 @@ module _ (m : Machine) (all ts : List Task) (g : Arrivals) (S : State) (ground :
   pub none_behind : (v : OpName) (y : Version) (f : Follow) → get S.versions v ≡ Some y → y.successor ≡ Some f
       → y.produced ≡ true → AllLeft v → ⊥
   none_behind v y f there next produced left =
-      none_released_behind m all ts g S ground control (calm_of S quiet) v y f there next produced (left_released v left)
+      none_released_behind m all ts g S ground control (calm_of S quiet) v y f there next produced
+      (left_released v left)
 
   -- an entry's latest version was refused for fewer readers
   refused_before : (b : ℕ) (e : Entry) (y : Version) → get S.entries b ≡ Some e → get S.versions e.latest ≡ Some y
@@ -57,7 +58,8 @@ module _ (m : Machine) (all ts : List Task) (g : Arrivals) (S : State) (ground :
         | inl other ↦ absurd (other (ap (λ (e : Entry). e.latest) one))
         | inr fewer ↦
             less_test k y.registered
-            (subst (λ n. k < n) (ap (λ (e : Entry). e.sent) one ∙ sent ∙ total_registered m all ts g S ground control (calm_of S quiet) e.latest y there) fewer)
+            (subst (λ n. k < n) (ap (λ (e : Entry). e.sent) one ∙ sent
+            ∙ total_registered m all ts g S ground control (calm_of S quiet) e.latest y there) fewer)
       ]
 
   -- a produced version that is alone
@@ -65,7 +67,8 @@ module _ (m : Machine) (all ts : List Task) (g : Arrivals) (S : State) (ground :
       → y.object.base ≡ b → e.sent ≡ total S e.latest → y.successor ≡ None → y.predecessor ≡ None
       → y.produced ≡ true → AllLeft e.latest → ⊥
   none_alone b e y entry there base sent last oldest produced left =
-      let same = same_test y.released y.registered (all_released m all ts g S ground control (calm_of S quiet) e.latest y there (left_released e.latest left)) in
+      let same = same_test y.released y.registered
+      (all_released m all ts g S ground control (calm_of S quiet) e.latest y there (left_released e.latest left)) in
       let fresh = refused_before b e y entry there base sent y.refused refl in
       let two = and_from y.produced (y.released == y.registered) produced same in
       let three = and_from (y.produced && (y.released == y.registered)) (is_none y.predecessor) two (ap is_none oldest) in

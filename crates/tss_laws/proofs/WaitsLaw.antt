@@ -56,8 +56,8 @@ module _ (m : Machine) (all ts : List Task) (g : Arrivals) (S : State) (ground :
         let own = ground.round.flying n x flies in
         let flying = ground.numbers.flight n x flies in
         let place = sym (ap (λ ps. slice_get ps f.0) flying.operands)
-            ∙ slice_get-map (λ (r : OperandState). r.operand) x.operands f.0
-            ∙ ap (option_map (λ (r : OperandState). r.operand)) f.2 in
+        ∙ slice_get-map (λ (r : OperandState). r.operand) x.operands f.0
+        ∙ ap (option_map (λ (r : OperandState). r.operand)) f.2 in
         let o = operand_name x.task.number f.0 in
         let at : operand_at S.flight o ≡ Some f.1 = ap (record_in f.0) (ap (get S.flight) own.0 ∙ flies) ∙ f.2 in
         none_waits m all ts g S ground control silent gone rise own.1.0 x.task own.1.1 past o f.1.operand refl place

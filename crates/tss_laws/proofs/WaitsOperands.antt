@@ -86,12 +86,12 @@ module _ (m : Machine) (all ts : List Task) (g : Arrivals) (S : State) (ground :
       ∙ released_open y.storage (phase_of S v) released)
 
   module _ (silent : HasNoMessage S) (gone : HasLetGo S) (rise : AreRising ts) (k : ℕ) (t : Task)
-      (there : slice_get ts k ≡ Some t) (past : list_all (is_past S) (needed_tasks ts t) ≡ true) (o : OpName) (p : Operand)
-      (own : o.task ≡ t.number) (place : slice_get (operands_of t) o.place ≡ Some p)
+      (there : slice_get ts k ≡ Some t) (past : list_all (is_past S) (needed_tasks ts t) ≡ true)
+      (o : OpName) (p : Operand) (own : o.task ≡ t.number) (place : slice_get (operands_of t) o.place ≡ Some p)
       (among : operand_among ts o ≡ Some p) where
     -- the last writer before it has released
-    writer_released : (x : Range) → x ≡ p.object → (p.mode ≢ Output) → (v : OpName) → IsWriterOn ts x v → v.task < o.task
-        → NoWriterBetween ts x v o → has_released (phase_of S v) ≡ true
+    writer_released : (x : Range) → x ≡ p.object → (p.mode ≢ Output) → (v : OpName) → IsWriterOn ts x v
+        → v.task < o.task → NoWriterBetween ts x v o → has_released (phase_of S v) ≡ true
     writer_released x object reads v w before alone =
         past_released m all ts g S ground control silent gone v w.operand w.there
         (writer_passes m all ts S ground rise k t there (is_past S) past o p own place reads v
@@ -119,7 +119,8 @@ module _ (m : Machine) (all ts : List Task) (g : Arrivals) (S : State) (ground :
 
     reader_by : p.mode ≡ Input → phase_of S o ≡ Waiting → (v : OpName) (y : Version) → get S.versions v ≡ Some y
         → Has o (g v) → (b : Bool) → y.produced ≡ b → ⊥
-    reader_by input waits v y at has true e = no_reader_waits m all ts g S ground control silent.calm v y at e o has waits
+    reader_by input waits v y at has true e =
+        no_reader_waits m all ts g S ground control silent.calm v y at e o has waits
     reader_by input waits v y at has false e =
         let arrival = (control.readers.versions v y at).each o has in
         let same = same_Some arrival.on.operand p (sym arrival.on.there ∙ among) in
@@ -159,7 +160,8 @@ module _ (m : Machine) (all ts : List Task) (g : Arrivals) (S : State) (ground :
         → z.successor ≡ Some f → z.object ≡ p.object → q.task < o.task → NoWriterBetween ts z.object q o
         → (b : Bool) → z.produced ≡ b → ⊥
     over_by inout q z f at next object older alone true e =
-        none_released_behind m all ts g S ground control silent.calm q z f at next e (readers_before inout q z at object older alone)
+        none_released_behind m all ts g S ground control silent.calm q z f at next e
+        (readers_before inout q z at object older alone)
     over_by inout q z f at next object older alone false e =
         opener_holds q z at e (writer_released z.object object (λ output. differs inout output) q
         (writer_opened q z at e) older alone)

@@ -1,5 +1,5 @@
--- The tasks that one of a round needs, by the names of operands: the last writer of an object before it, and the readers
--- since.
+-- The tasks that one of a round needs, by the names of operands: the last writer of an object before it, and the
+-- readers since.
 use Rattle.std.proofs.Common.{◌≡◌, ◌≢◌, ℕ, zero, suc, ◌<◌, Bool, true, false, List, [], ◌∷◌, Option, Some, None, refl, sym, ap, ◌∙◌, subst, arith, true≢false}
 use Rattle.std.specs.Prelude.{◌&&◌, not, nat_lt, cond, option_to_list, slice_get}
 use Rattle.std.specs.List.{list_all}
@@ -39,8 +39,8 @@ own_operand t j p at =
     ap (λ b. cond b (slice_get (operands_of t) j) None) (eq-eqb t.number t.number refl) ∙ at
 
 -- so the list has them
-pub among_tasks : (ts : List Task) → AreNumbered ts → (k : ℕ) (t : Task) → slice_get ts k ≡ Some t → (j : ℕ) (p : Operand)
-    → slice_get (operands_of t) j ≡ Some p → operand_among ts (operand_name t.number j) ≡ Some p
+pub among_tasks : (ts : List Task) → AreNumbered ts → (k : ℕ) (t : Task) → slice_get ts k ≡ Some t
+    → (j : ℕ) (p : Operand) → slice_get (operands_of t) j ≡ Some p → operand_among ts (operand_name t.number j) ≡ Some p
 among_tasks [] one k t there j p at = absurd (none-some t there)
 among_tasks (u ∷ ts) one zero t there j p at =
     let same = same_Some u t there in
@@ -153,7 +153,8 @@ module _ (m : Machine) (all ts : List Task) (S : State) (ground : HasGroundwork 
             let same = w.2 in
             absurd (alone w.0 (omega (arith, after, number, same)) (omega (arith, before, own, same)) w.1)
 
-    module _ (o : OpName) (p : Operand) (own : o.task ≡ t.number) (place : slice_get (operands_of t) o.place ≡ Some p) where
+    module _ (o : OpName) (p : Operand) (own : o.task ≡ t.number)
+        (place : slice_get (operands_of t) o.place ≡ Some p) where
       -- what its operand needs passes the test
       needs_pass : list_all test (needs_by p.mode (users_of p.object earlier)) ≡ true
       needs_pass =
@@ -192,5 +193,5 @@ module _ (m : Machine) (all ts : List Task) (S : State) (ground : HasGroundwork 
           let readers = (and_parts (list_all test (option_to_list u.writer)) (list_all test u.readers)
           (sym (list_all-append test (option_to_list u.writer) u.readers) ∙ all)).1 in
           ap test number
-          ∙ last_reader p.object test no_users earlier early.0 f.task early.1 earlier_rise (unwritten_at p.object a on f)
-          (read_at p.object a on f) (none_since p.object a o on.operand f own alone) readers
+          ∙ last_reader p.object test no_users earlier early.0 f.task early.1 earlier_rise
+          (unwritten_at p.object a on f) (read_at p.object a on f) (none_since p.object a o on.operand f own alone) readers

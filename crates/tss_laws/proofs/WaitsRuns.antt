@@ -28,8 +28,7 @@ IsControlledRound m all ts g S = IsControlled ts g S × HasLetGo S
 -- each event keeps both
 kept_round : ((e : Event) → AreGroupsKept e) → IsKeptOnGround IsControlledRound
 kept_round kept m all ts g S e ground h on =
-    let order = (kept e).order m all ts g S ground h.0 on in
-    (
+    let order = (kept e).order m all ts g S ground h.0 on in (
       IsControlled-event e (kept e) m all ts g S ground h.0 on order,
       HasLetGo-after_event m S h.0.orderly h.1 e on order,
     )

@@ -159,7 +159,8 @@ module _ (m : Machine) (all ts : List Task) (g : Arrivals) (S : State) (ground :
       let flying = ground.numbers.flight q.task x there in
       let task = same_Some of.task x.task (sym of.spawned ∙ flying.task) in
       let k = from_mapped (λ (r : OperandState). r.operand) x.operands q.place p
-      (ap (λ rs. slice_get rs q.place) flying.operands ∙ ap (λ t. slice_get (operands_of t) q.place) (sym task) ∙ of.place) in
+      (ap (λ rs. slice_get rs q.place) flying.operands
+      ∙ ap (λ t. slice_get (operands_of t) q.place) (sym task) ∙ of.place) in
       (k.0, ap (record_in q.place) there ∙ k.1)
 
   -- their operands have released their versions

@@ -62,7 +62,8 @@ from_filtered test [] k x at = absurd (none-some x at)
 from_filtered {X} test (y ∷ xs) k x at = by (test y) refl k at (from_filtered test xs)
   where
     by : (b : Bool) → test y ≡ b → (k : ℕ) → slice_get (cond b (y ∷ filter test xs) (filter test xs)) k ≡ Some x
-        → ((k : ℕ) (x : X) → slice_get (filter test xs) k ≡ Some x → ((j : ℕ) × (slice_get xs j ≡ Some x)) × (test x ≡ true))
+        → ((k : ℕ) (x : X) → slice_get (filter test xs) k ≡ Some x
+        → ((j : ℕ) × (slice_get xs j ≡ Some x)) × (test x ≡ true))
         → ((j : ℕ) × (slice_get (y ∷ xs) j ≡ Some x)) × (test x ≡ true)
     by true here zero at rest = ((0, at), ap test (sym (same_Some y x at)) ∙ here)
     by true here (suc k) at rest = let f = rest k x at in ((suc f.0.0, f.0.1), f.1)
@@ -142,14 +143,16 @@ module _ (x : Range) where
 
     one_fewer : (u : Users) (n : ℕ) (read : Bool) → ReadersPass (users_with u n false read) → ReadersPass u
     one_fewer u n true e =
-        (and_parts (list_all test u.readers) (list_all test (n ∷ [])) (sym (list_all-append test u.readers (n ∷ [])) ∙ e)).0
+        (and_parts (list_all test u.readers) (list_all test (n ∷ []))
+        (sym (list_all-append test u.readers (n ∷ [])) ∙ e)).0
     one_fewer u n false e = e
 
     -- those before pass it, where none writes
     readers_stay : (u : Users) (ts : List Task) → NoneWrites ts → ReadersPass (users_from u ts) → ReadersPass u
     readers_stay u [] none e = e
     readers_stay u (t ∷ ts) none e =
-        one_fewer u t.number (has_read x t) (subst (λ w. ReadersPass (users_with u t.number w (has_read x t))) (none 0 t refl)
+        one_fewer u t.number (has_read x t)
+        (subst (λ w. ReadersPass (users_with u t.number w (has_read x t))) (none 0 t refl)
         (readers_stay (users_more u t) ts (λ k v at. none (suc k) v at) e))
 
     -- so does one that only reads it, and after which none writes
@@ -164,7 +167,8 @@ module _ (x : Range) where
         let rest = readers_stay (users_more u t) ts (none_behind s t ts same rise.0 none) e in
         let mine : ReadersPass (users_with u t.number false true) =
         subst (λ r. ReadersPass (users_with u t.number false r)) (ap (has_read x) same ∙ read)
-        (subst (λ w. ReadersPass (users_with u t.number w (has_read x t))) (ap (has_written x) same ∙ unwritten) rest) in
+        (subst (λ w. ReadersPass (users_with u t.number w (has_read x t)))
+        (ap (has_written x) same ∙ unwritten) rest) in
         let last = (and_parts (list_all test u.readers) (list_all test (t.number ∷ []))
         (sym (list_all-append test u.readers (t.number ∷ [])) ∙ mine)).1 in
         ap (λ (t : Task). test t.number) (sym same) ∙ (and_parts (test t.number) true last).0
