@@ -213,3 +213,4 @@ pub mod ChainsDeparted
 pub mod ChainsNewVersion
 pub mod ChainsOpened
 pub mod CalmStates
+pub mod BuffersSettled

@@ -44,7 +44,7 @@ record IsReadyToSettle (Q : OpName → Type 0) (vs : Named Version) (v : OpName)
 -- ---- what a version was before another one gave way
 
 -- changed, or as it was
-abbrev IsChanged : (Version → Version) → OpName → OpName → Version → Version → Type 0
+abbrev pub IsChanged : (Version → Version) → OpName → OpName → Version → Version → Type 0
 IsChanged f v q x y = (y ≡ x) ⊎ ((q ≡ v) × (y ≡ f x))
 
 from_changed_by : (vs : Named Version) (v : OpName) (f : Version → Version) (o : Option Version) → get vs v ≡ o
@@ -62,10 +62,11 @@ pub from_changed : (vs : Named Version) (v : OpName) (f : Version → Version) (
 from_changed vs v f = from_changed_by vs v f (get vs v) refl
 
 -- the same of a version that may not be named
-abbrev IsNamedChange : (Version → Version) → Option OpName → OpName → Version → Version → Type 0
+abbrev pub IsNamedChange : (Version → Version) → Option OpName → OpName → Version → Version → Type 0
 IsNamedChange f v q x y = (y ≡ x) ⊎ ((v ≡ Some q) × (y ≡ f x))
 
-from_named : (vs : Named Version) (v : Option OpName) (f : Version → Version) (q : OpName) (y : Version)
+-- what stands after it
+pub from_named : (vs : Named Version) (v : Option OpName) (f : Version → Version) (q : OpName) (y : Version)
     → get (change_named vs v f) q ≡ Some y → (x : Version) × (get vs q ≡ Some x) × IsNamedChange f v q x y
 from_named vs None f q y e = (y, e, inl refl)
 from_named vs (Some v) f q y e =
