@@ -61,7 +61,8 @@ module _ (m : Machine) (S : State) (o : OpName) (p : Operand) (there : get S.mai
   }
 
   -- a decode that sends an open
-  sends_open : (c : OpenContents) (n : Entry) → T.mail ≡ mail_with (Open o c) → T.entries ≡ insert S.entries p.object.base n
+  sends_open : (c : OpenContents) (n : Entry) → T.mail ≡ mail_with (Open o c)
+      → T.entries ≡ insert S.entries p.object.base n
       → c.operand ≡ p → n.object ≡ p.object → n.latest ≡ o → n.sent ≡ first_reader c.operand.mode c.follows
       → n.retiring ≡ false → DecodesOpen S T o p c n
   sends_open c n mail entries operand object latest sent live = record {
@@ -121,7 +122,8 @@ module _ (m : Machine) (S : State) (o : OpName) (p : Operand) (there : get S.mai
     -- an output opens a version beside the latest
     pub sends_beside : p.mode ≡ Output → DecodesOpen S T o p beside_contents (live_entry o e Output)
     sends_beside is =
-        sends_open beside_contents (live_entry o e Output) (mail_live Output is) (entries_live Output is) refl object refl
+        sends_open beside_contents (live_entry o e Output) (mail_live Output is)
+        (entries_live Output is) refl object refl
         (ap (λ mode. first_reader mode (Some (follows_latest e Beside))) (sym is)) live
 
     -- an inout over it
@@ -174,11 +176,14 @@ module _ (m : Machine) (all ts : List Task) (S : State) (ground : HasGroundwork 
         → HasEntries ts (after_event m S (event.Decode o))
     decoded_live e at Input is =
         entries_used m all ts S ground orderly h o p there (after_event m S (event.Decode o)) e
-        (sends_use m S o p there e at (object_of_entry m all ts S ground orderly h o p there e at) (entry_awake m S o p there on e at) is)
+        (sends_use m S o p there e at (object_of_entry m all ts S ground orderly h o p there e at)
+        (entry_awake m S o p there on e at) is)
     decoded_live e at Output is =
-        opened _ _ (sends_beside m S o p there e at (object_of_entry m all ts S ground orderly h o p there e at) (entry_awake m S o p there on e at) is)
+        opened _ _ (sends_beside m S o p there e at (object_of_entry m all ts S ground orderly h o p there e at)
+        (entry_awake m S o p there on e at) is)
     decoded_live e at Inout is =
-        opened _ _ (sends_over m S o p there e at (object_of_entry m all ts S ground orderly h o p there e at) (entry_awake m S o p there on e at) is)
+        opened _ _ (sends_over m S o p there e at (object_of_entry m all ts S ground orderly h o p there e at)
+        (entry_awake m S o p there on e at) is)
 
     decoded_entries : (x : Option Entry) → get S.entries p.object.base ≡ x
         → HasEntries ts (after_event m S (event.Decode o))

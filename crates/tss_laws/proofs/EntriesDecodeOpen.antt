@@ -124,7 +124,8 @@ module _ (m : Machine) (all ts : List Task) (S : State) (ground : HasGroundwork 
     stays_by : (x : Option Entry) → get S.entries p.object.base ≡ x → (v : OpName) → IsLeaving S p.object v → ⊥
     stays_by None none v l = (h.absent o p among none).stays v l
     stays_by (Some e) at v l =
-        (h.live p.object.base e at (awake e at)).stays v (subst (λ x. IsLeaving S x v) (sym (object_of_entry m all ts S ground orderly h o p there e at)) l)
+        (h.live p.object.base e at (awake e at)).stays v
+        (subst (λ x. IsLeaving S x v) (sym (object_of_entry m all ts S ground orderly h o p there e at)) l)
 
     stays_before : (v : OpName) → IsLeaving S p.object v → ⊥
     stays_before = stays_by (get S.entries p.object.base) refl
@@ -199,14 +200,16 @@ module _ (m : Machine) (all ts : List Task) (S : State) (ground : HasGroundwork 
   entries_opened awake = record {
     absent = λ q r at none.
         let apart : r.object.base ≢ p.object.base = λ same.
-        none-some n (sym none ∙ ap (λ m. get m r.object.base) d.entries ∙ ap (get (insert S.entries p.object.base n)) same
+        none-some n (sym none ∙ ap (λ m. get m r.object.base) d.entries
+        ∙ ap (get (insert S.entries p.object.base n)) same
         ∙ at_inserted nat_order S.entries p.object.base n) in
         absent_after r.object apart
         (h.absent q r at (sym (beside_inserted nat_order S.entries p.object.base n r.object.base apart)
         ∙ ap (λ m. get m r.object.base) (sym d.entries) ∙ none));
     operand = λ b e at. elim (from_entries b e at) [
       | inl new ↦
-          subst (λ e. (e.object.base ≡ b) × ((r : Operand) × (operand_among ts e.latest ≡ Some r) × (r.object ≡ e.object)))
+          subst (λ e. (e.object.base ≡ b)
+          × ((r : Operand) × (operand_among ts e.latest ≡ Some r) × (r.object ≡ e.object)))
           (sym new.1)
           (ap (λ (x : Range). x.base) d.object ∙ sym new.0, (p, ap (operand_among ts) d.latest ∙ among, sym d.object))
       | inr old ↦ h.operand b e old.1

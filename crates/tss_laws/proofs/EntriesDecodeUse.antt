@@ -187,7 +187,8 @@ module _ (m : Machine) (all ts : List Task) (S : State) (ground : HasGroundwork 
         ∙ ap (λ m. get m r.object.base) (sym d.entries) ∙ none));
     operand = λ b e at. elim (from_entries b e at) [
       | inl new ↦
-          subst (λ e. (e.object.base ≡ b) × ((r : Operand) × (operand_among ts e.latest ≡ Some r) × (r.object ≡ e.object)))
+          subst (λ e. (e.object.base ≡ b)
+          × ((r : Operand) × (operand_among ts e.latest ≡ Some r) × (r.object ≡ e.object)))
           (sym new.1)
           (let q = h.operand p.object.base n d.there in (q.0 ∙ sym new.0, q.1))
       | inr old ↦ h.operand b e old.1

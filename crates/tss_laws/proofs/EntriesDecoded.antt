@@ -25,7 +25,8 @@ use Rattle.tss_laws.proofs.EntriesQuiet.{decoded_before}
 -- what is decoded of a spawned task after an event was decoded before
 abbrev pub DecodesNone : List Task → State → State → Type 0
 DecodesNone all S T =
-    (o : OpName) (p : Operand) → IsOperandOf all o p → is_decoded (phase_of T o) ≡ true → is_decoded (phase_of S o) ≡ true
+    (o : OpName) (p : Operand) → IsOperandOf all o p
+    → is_decoded (phase_of T o) ≡ true → is_decoded (phase_of S o) ≡ true
 
 module _ (m : Machine) (all : List Task) (S : State) (before : AreOrderly S) where
   -- events behind the gateway

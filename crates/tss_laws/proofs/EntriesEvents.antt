@@ -37,11 +37,13 @@ module _ (m : Machine) (all ts : List Task) (g : Arrivals) (S : State) (ground :
 pub keeps_entries : (e : Event) → IsGroupKept e (λ ts g S. HasEntries ts S)
 keeps_entries event.Main m all ts g S ground k on order = keeps_main.entries m all ts g S ground k on order
 keeps_entries event.Take m all ts g S ground k on order =
-    HasEntries-quiet m all ts S ground k.orderly event.Take tt on (after m all ts g S ground k event.Take on order) k.entries
+    HasEntries-quiet m all ts S ground k.orderly event.Take tt on
+    (after m all ts g S ground k event.Take on order) k.entries
 keeps_entries (event.Decode o) m all ts g S ground k on order =
     HasEntries-decode m all ts S ground k.orderly k.chains k.entries o on
 keeps_entries (event.Ack o) m all ts g S ground k on order =
-    HasEntries-quiet m all ts S ground k.orderly (event.Ack o) tt on (after m all ts g S ground k (event.Ack o) on order)
+    HasEntries-quiet m all ts S ground k.orderly (event.Ack o) tt on
+    (after m all ts g S ground k (event.Ack o) on order)
     k.entries
 keeps_entries (event.Open o) m all ts g S ground k on order =
     HasEntries-open m all ts g S ground k o on (after m all ts g S ground k (event.Open o) on order)
@@ -65,7 +67,8 @@ keeps_entries (event.Finish w) m all ts g S ground k on order =
 keeps_entries (event.Release o) m all ts g S ground k on order =
     HasEntries-release m all ts g S ground k o on (after m all ts g S ground k (event.Release o) on order)
 keeps_entries (event.Bye o) m all ts g S ground k on order =
-    HasEntries-quiet m all ts S ground k.orderly (event.Bye o) tt on (after m all ts g S ground k (event.Bye o) on order)
+    HasEntries-quiet m all ts S ground k.orderly (event.Bye o) tt on
+    (after m all ts g S ground k (event.Bye o) on order)
     k.entries
 keeps_entries (event.Idle v) m all ts g S ground k on order =
     HasEntries-idle m all ts g S ground k v on (after m all ts g S ground k (event.Idle v) on order)
@@ -88,9 +91,11 @@ keeps_retirement (event.Decode o) m all ts g S ground k on order =
 keeps_retirement (event.Ack o) m all ts g S ground k on order = HasRetirement-quiet m S (event.Ack o) tt k.retirement
 keeps_retirement (event.Open o) m all ts g S ground k on order = HasRetirement-open m all ts g S ground k o on
 keeps_retirement (event.Use o) m all ts g S ground k on order = HasRetirement-use m all ts g S ground k o on
-keeps_retirement (event.Ready o) m all ts g S ground k on order = HasRetirement-quiet m S (event.Ready o) tt k.retirement
+keeps_retirement (event.Ready o) m all ts g S ground k on order =
+    HasRetirement-quiet m S (event.Ready o) tt k.retirement
 keeps_retirement (event.Link o) m all ts g S ground k on order = HasRetirement-quiet m S (event.Link o) tt k.retirement
-keeps_retirement (event.Start w) m all ts g S ground k on order = HasRetirement-quiet m S (event.Start w) tt k.retirement
+keeps_retirement (event.Start w) m all ts g S ground k on order =
+    HasRetirement-quiet m S (event.Start w) tt k.retirement
 keeps_retirement (event.Exec w) m all ts g S ground k on order = HasRetirement-quiet m S (event.Exec w) tt k.retirement
 keeps_retirement (event.Finish w) m all ts g S ground k on order =
     HasRetirement-quiet m S (event.Finish w) tt k.retirement

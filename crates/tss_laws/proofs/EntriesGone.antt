@@ -28,7 +28,8 @@ use Rattle.tss_laws.proofs.EntriesCopy.{going_entries}
 use Rattle.tss_laws.proofs.RetirementFrames.{HasRetirement-same, retirement_kept}
 
 module _ (m : Machine) (all ts : List Task) (S : State) (ground : HasGroundwork m all ts S) (orderly : AreOrderly S)
-    (chains : HasChains ts S) (h : HasEntries ts S) (v : OpName) (g : GoneContents) (there : get S.mail.gones v ≡ Some g) where
+    (chains : HasChains ts S) (h : HasEntries ts S) (v : OpName) (g : GoneContents)
+    (there : get S.mail.gones v ≡ Some g) where
   abbrev T : State
   T = after_event m S (event.Gone v)
 
@@ -265,7 +266,8 @@ module _ (m : Machine) (all ts : List Task) (S : State) (ground : HasGroundwork 
         (ap (λ (x : Range). x.base) p.2 ∙ same ∙ ap (λ (x : Range). x.base) (sym operand.2)) in
         no_version w (y, version, sym p.2 ∙ is ∙ operand.2) in (
           c.0,
-          ap (λ m. get m y.object.base) entries ∙ beside_removed nat_order S.entries g.object.base y.object.base other ∙ c.1,
+          ap (λ m. get m y.object.base) entries ∙ beside_removed nat_order S.entries g.object.base y.object.base other
+          ∙ c.1,
           c.2,
         )
 

@@ -105,7 +105,8 @@ module _ (m : Machine) (all ts : List Task) (g : Arrivals) (S : State) (ground :
             uses = λ j. (is j).mail.uses;
             retires = λ j. (is j).mail.retires;
             gones = λ j. (is j).mail.gones;
-            entries = (λ j. (is j).entries) ∙ ap (λ b. insert S.entries b (record (f.entry) { retiring = true })) to_base;
+            entries = (λ j. (is j).entries)
+                ∙ ap (λ b. insert S.entries b (record (f.entry) { retiring = true })) to_base;
             decoded = decoded after;
           }
 

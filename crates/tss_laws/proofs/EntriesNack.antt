@@ -34,7 +34,8 @@ module _ (m : Machine) (all ts : List Task) (g : Arrivals) (S : State) (ground :
   abbrev T : State
   T = after_event m S (event.Nack v)
 
-  module _ (there : get S.mail.nacks v ≡ Some tt) (x : Version) (at : get S.versions v ≡ Some x) (after : AreOrderly T) where
+  module _ (there : get S.mail.nacks v ≡ Some tt) (x : Version) (at : get S.versions v ≡ Some x)
+      (after : AreOrderly T) where
     -- the state before the settle
     abbrev U : State
     U = record (without S (event.Nack v)) { versions = put_version S.versions v (refused_once x) }
@@ -49,7 +50,8 @@ module _ (m : Machine) (all ts : List Task) (g : Arrivals) (S : State) (ground :
     chains : HasChains ts U
     chains =
         HasChains-written S U v x (refused_once x)
-        (record { there = at; put = refl; like = refused_like; registered = refl; opens = refl; uses = refl }) ts h.chains
+        (record { there = at; put = refl; like = refused_like; registered = refl; opens = refl; uses = refl })
+        ts h.chains
 
     totals : (w : OpName) → total U w ≡ total S w
     totals w = total_written S U v x (refused_once x) at refl refl refl refl w

@@ -113,7 +113,8 @@ decoded_apart S orderly q p d (inr sent) =
 below_or_not : (a b : ℕ) → (a < b) ⊎ (b ≤ a)
 below_or_not a b = grind (arith, nat_tests)
 
-module _ (m : Machine) (all ts : List Task) (S : State) (ground : HasGroundwork m all ts S) (orderly : AreOrderly S) where
+module _ (m : Machine) (all ts : List Task) (S : State) (ground : HasGroundwork m all ts S)
+    (orderly : AreOrderly S) where
   -- objects of the round with one base are one
   pub one_object : (o q : OpName) (p r : Operand) → operand_among ts o ≡ Some p → operand_among ts q ≡ Some r
       → p.object.base ≡ r.object.base → p.object ≡ r.object

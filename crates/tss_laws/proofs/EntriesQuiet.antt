@@ -198,7 +198,8 @@ module _ (m : Machine) (S : State) where
       (record { versions = refl; copies = refl; opens = refl; uses = refl; retires = refl; gones = refl })
       (after_ready-all IsQuiet (λ o s. tt) (λ o r. tt) S.flight o s)
 
-  quiet_link : (o : OpName) (next : Option OpName) → SameObjects S (link_message_taken (without S (event.Link o)) o next)
+  quiet_link : (o : OpName) (next : Option OpName)
+      → SameObjects S (link_message_taken (without S (event.Link o)) o next)
   quiet_link o None =
       record { versions = refl; copies = refl; opens = refl; uses = refl; retires = refl; gones = refl }
   quiet_link o (Some next) = objects_sent S _ _

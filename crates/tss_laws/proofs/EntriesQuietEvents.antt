@@ -22,15 +22,18 @@ use Rattle.tss_laws.proofs.RetirementFrames.{HasRetirement-same}
 
 -- ---- entries
 
-module _ (m : Machine) (all ts : List Task) (S : State) (ground : HasGroundwork m all ts S) (before : AreOrderly S) where
+module _ (m : Machine) (all ts : List Task) (S : State) (ground : HasGroundwork m all ts S)
+    (before : AreOrderly S) where
   quiet_decodes_none : (e : Event) → IsQuietEvent e → IsEnabled m S e → AreOrderly (after_event m S e)
       → DecodesNoMore ts S (after_event m S e)
   quiet_decodes_none event.Take q on after =
       λ o p at. take_decodes_none m all S before ground.numbers on o p (ground.known.operands o p at)
   quiet_decodes_none (event.Ack a) q on after = λ o p at. ack_decodes_none m all S before a o
-  quiet_decodes_none (event.Ready a) q on after = λ o p at. later_decodes_none m all S before (event.Ready a) refl after o
+  quiet_decodes_none (event.Ready a) q on after =
+      λ o p at. later_decodes_none m all S before (event.Ready a) refl after o
   quiet_decodes_none (event.Link a) q on after = λ o p at. later_decodes_none m all S before (event.Link a) refl after o
-  quiet_decodes_none (event.Start w) q on after = λ o p at. later_decodes_none m all S before (event.Start w) refl after o
+  quiet_decodes_none (event.Start w) q on after =
+      λ o p at. later_decodes_none m all S before (event.Start w) refl after o
   quiet_decodes_none (event.Exec w) q on after = λ o p at. later_decodes_none m all S before (event.Exec w) refl after o
   quiet_decodes_none (event.Finish w) q on after =
       λ o p at. later_decodes_none m all S before (event.Finish w) refl after o

@@ -179,7 +179,8 @@ module _ (m : Machine) (all ts : List Task) (g : Arrivals) (S : State) (ground :
 
   module _ (after : AreOrderly T) (y : Version) (ms : List Message) (news : AllSent (IsOfSettle v) ms)
       (like : AreAlike x y) (registered : y.registered ≡ x.registered)
-      (is : T ≡ with_versioned (without S (event.Release o)) (sending ms (settled (put_version S.versions v y) v))) where
+      (is : T ≡ with_versioned (without S (event.Release o))
+      (sending ms (settled (put_version S.versions v y) v))) where
     abbrev W : State
     W = record S { versions = put_version S.versions v y }
 

@@ -156,7 +156,8 @@ module _ (m : Machine) (all ts : List Task) (g : Arrivals) (S : State) (ground :
   retiring_own e same object r = record {
     leaving = inr (subst (IsGoingHome T e.object) (sym same) (subst (λ y. IsGoingHome T y v) object d.goes));
     last = λ y k there.
-        absurd (none-some tt (sym (at_removed name_order S.mail.retires v) ∙ ap (get (remove S.mail.retires v)) (sym same)
+        absurd (none-some tt (sym (at_removed name_order S.mail.retires v) 
+        ∙ ap (get (remove S.mail.retires v)) (sym same)
         ∙ ap (λ m. get m e.latest) (sym d.retires) ∙ k));
     none = λ k w y.
         let old = version_back e.object w y in
@@ -191,7 +192,8 @@ module _ (m : Machine) (all ts : List Task) (g : Arrivals) (S : State) (ground :
         asked = λ w y count t asks.
             let a = r.asked w y count (before w y t) asks in
             record { produced = a.produced; oldest = a.oldest; released = a.released };
-        refused = λ w y count t no_more. cause_same S T d.entries w y count (r.refused w y count (before w y t) no_more);
+        refused = λ w y count t no_more. cause_same S T d.entries w y count
+        (r.refused w y count (before w y t) no_more);
         refusing = λ w y count t asks nack.
             cause_same S T d.entries w y count
             (r.refusing w y count (before w y t) asks (ap (λ m. get m w) (sym d.nacks) ∙ nack));
@@ -254,7 +256,8 @@ module _ (m : Machine) (all ts : List Task) (S : State) (ground : HasGroundwork 
           none-some k.0 (sym (ground.places.versions v x at).2 ∙ ap (get S.mail.gones) (sym same) ∙ k.1) in
           inr (
             k.0,
-            ap (λ m. get m w) home_gones ∙ beside_inserted name_order S.mail.gones v (retired x.object None) w apart ∙ k.1,
+            ap (λ m. get m w) home_gones ∙ beside_inserted name_order S.mail.gones v (retired x.object None) w apart
+            ∙ k.1,
             k.2,
             k.3,
           )
@@ -367,7 +370,8 @@ module _ (m : Machine) (all ts : List Task) (g : Arrivals) (S : State) (ground :
       retires_by m all ts S ground h.orderly v finds.version finds.there after finds.version.storage refl finds.from
 
   -- entries after a retire
-  pub HasEntries-retire : AreOrderly (after_event m S (event.Retire v)) → HasEntries ts (after_event m S (event.Retire v))
+  pub HasEntries-retire : AreOrderly (after_event m S (event.Retire v))
+      → HasEntries ts (after_event m S (event.Retire v))
   HasEntries-retire after =
       entries_retired m all ts g S ground h v finds.version finds.there finds.may (after_event m S (event.Retire v))
       (retires_then after)

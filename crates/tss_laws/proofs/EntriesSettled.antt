@@ -121,7 +121,8 @@ module _ (ts : List Task) (S T : State) (v : OpName) (d : Settled ts S T v) wher
           → y.successor ≡ Some f → ⊥
       may_last may y at =
           let l = r.last y may at in
-          latest_last e (λ w k. subst (λ (w : OpName). w.task ≤ e.latest.task) (sym (l.only w k)) (itself e.latest.task)) y at
+          latest_last e (λ w k. subst (λ (w : OpName). w.task ≤ e.latest.task) (sym (l.only w k))
+          (itself e.latest.task)) y at
           (latest_object b e there y at)
         where
           itself : (a : ℕ) → a ≤ a

@@ -1,4 +1,4 @@
--- What a settle does to versions, and what it sends, where all other versions were settled: each version is settled then.
+-- What a settle does to versions where all others were settled: each is settled then.
 use Rattle.std.proofs.Common.{◌≡◌, ◌≢◌, ℕ, ◌⊎◌, inl, inr, Bool, true, false, List, Option, Some, None, refl, sym, ap, ◌∙◌, subst, arith, true≢false}
 use Rattle.std.proofs.lemmas.Bool.Decides.{nat_tests}
 use Rattle.std.specs.Prelude.{◌&&◌, ◌==◌, is_none, not}
@@ -52,7 +52,8 @@ becomes_itself y = record {
 
 -- versions after a settle: each was there, is settled, and one that has gone had a successor
 pub record SettlesTo (vs ws : Named Version) : Type 0 where
-  pub from : (w : OpName) (z : Version) → get ws w ≡ Some z → (y : Version) × (get vs w ≡ Some y) × Becomes y z × IsSettled z
+  pub from : (w : OpName) (z : Version) → get ws w ≡ Some z → (y : Version) × (get vs w ≡ Some y) × Becomes y z
+      × IsSettled z
   pub stay : (w : OpName) (y : Version) → get vs w ≡ Some y
       → ((z : Version) × (get ws w ≡ Some z)) ⊎ ((f : Follow) × (y.successor ≡ Some f))
 
@@ -163,7 +164,8 @@ module _ (vs : Named Version) (v : OpName) (x : Version) (at : get vs v ≡ Some
       | inr old ↦ (z, old.1, becomes_itself z, others w z old.1 old.0)
     ];
     stay = λ w y e. elim (decide_key name_order w v) [
-      | inl same ↦ inl (asked_version, ap (get (insert vs v asked_version)) same ∙ at_inserted name_order vs v asked_version)
+      | inl same ↦ inl (asked_version, ap (get (insert vs v asked_version)) same
+      ∙ at_inserted name_order vs v asked_version)
       | inr other ↦ inl (y, beside_inserted name_order vs v asked_version w other ∙ e)
     ];
   }

@@ -39,7 +39,8 @@ pub cause_written : (S T : State) (base : ℕ) (n : Entry) → T.entries ≡ ins
 cause_written S T base n entries v y count why c = elim (decide_key nat_order y.object.base base) [
   | inl same ↦ (
     n,
-    ap (λ m. get m y.object.base) entries ∙ ap (get (insert S.entries base n)) same ∙ at_inserted nat_order S.entries base n,
+    ap (λ m. get m y.object.base) entries ∙ ap (get (insert S.entries base n)) same
+    ∙ at_inserted nat_order S.entries base n,
     why c.0 (ap (get S.entries) (sym same) ∙ c.1) c.2,
   )
   | inr other ↦ (
@@ -66,7 +67,8 @@ module _ (m : Machine) (all ts : List Task) (S : State) (ground : HasGroundwork 
 
     cause_open : (d : OpenContents) (n : Entry) → DecodesOpen S T o p d n → HasCause T v y count
     cause_open d n k =
-        cause_written S T p.object.base n k.entries v y count (λ e at why. inl (λ same. new_apart (sym k.latest ∙ same))) c
+        cause_written S T p.object.base n k.entries v y count
+        (λ e at why. inl (λ same. new_apart (sym k.latest ∙ same))) c
 
     cause_use : (n : Entry) → DecodesUse S T o p n → HasCause T v y count
     cause_use n k =
