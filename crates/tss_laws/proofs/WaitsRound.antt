@@ -194,4 +194,5 @@ module _ (m : Machine) (all ts : List Task) (S : State) (ground : HasGroundwork 
           (sym (list_all-append test (option_to_list u.writer) u.readers) ∙ all)).1 in
           ap test number
           ∙ last_reader p.object test no_users earlier early.0 f.task early.1 earlier_rise
-          (unwritten_at p.object a on f) (read_at p.object a on f) (none_since p.object a o on.operand f own alone) readers
+          (unwritten_at p.object a on f) (read_at p.object a on f) (none_since p.object a o on.operand f own alone)
+          readers
