@@ -150,6 +150,7 @@ pub record HasTaken (vs us : Named Version) (v w : OpName) (ms : List Message) :
   pub there : get vs v ≡ Some version
   pub follow : Follow
   pub next : version.successor ≡ Some follow
+  pub done : may_die version follow.last ≡ true
   pub way : follow.how ≡ Over
   pub is : follow.version ≡ w
   pub before : Version
@@ -255,6 +256,7 @@ module _ (vs : Named Version) (v : OpName) (x : Version) (f : Follow) (there : g
             there = there;
             follow = f;
             next = next;
+            done = done;
             way = way;
             is = sym same;
             before = y;

@@ -192,7 +192,7 @@ module _ (ts : List Task) (S : State) (chains : HasChains ts S) (o : OpName) (c 
               ∙ nothing
 
   -- whom its settle tells is the operand itself
-  settle_tells_own : (n : ℕ) (q : OpName) → SettleTells n opened f.version q → q ≡ o
+  pub settle_tells_own : (n : ℕ) (q : OpName) → SettleTells n opened f.version q → q ≡ o
   settle_tells_own n q h = elim (decide_get S.versions f.version) [
     | inl none ↦ absurd (absent_tells none n q h)
     | inr x ↦ by x.0 x.1 n h

@@ -214,3 +214,5 @@ pub mod ChainsNewVersion
 pub mod ChainsOpened
 pub mod CalmStates
 pub mod BuffersSettled
+pub mod HoldersOpened
+pub mod HoldersOpen
