@@ -77,7 +77,8 @@ module _ (m : Machine) (all ts : List Task) (g : Arrivals) (S : State) (ground :
       let flying = ground.numbers.flight n x flies in
       let task = same_Some of.task x.task (sym of.spawned ∙ ap (task_at all) own ∙ flying.task) in
       from_mapped (λ (r : OperandState). r.operand) x.operands q.place p
-      (ap (λ rs. slice_get rs q.place) flying.operands ∙ ap (λ t. slice_get (operands_of t) q.place) (sym task) ∙ of.place)
+      (ap (λ rs. slice_get rs q.place) flying.operands
+      ∙ ap (λ t. slice_get (operands_of t) q.place) (sym task) ∙ of.place)
 
   -- a record is that of its operand
   pub record_among : (q : OpName) (r : OperandState) → q.task ≡ n → slice_get x.operands q.place ≡ Some r
@@ -89,7 +90,8 @@ module _ (m : Machine) (all ts : List Task) (g : Arrivals) (S : State) (ground :
       p.1 ∙ ap Some (sym k.2 ∙ ap (λ (r : OperandState). r.operand) (same_Some k.0 r (sym k.1 ∙ at)))
 
   -- one that has been decoded is ready
-  decoded_ready : (q : OpName) (p : Operand) → operand_among ts q ≡ Some p → q.task ≡ n → is_decoded (phase_of S q) ≡ true
+  decoded_ready : (q : OpName) (p : Operand) → operand_among ts q ≡ Some p → q.task ≡ n
+      → is_decoded (phase_of S q) ≡ true
       → (r : OperandState) × (slice_get x.operands q.place ≡ Some r) × (r.operand ≡ p) × (is_ready r ≡ true)
   decoded_ready q p among own decoded =
       let r = record_of q p among own in (

@@ -1,9 +1,8 @@
--- Each held buffer is that of an open under way, of a version, of one that is gone with its message under way, or of one
--- that is copied home. Every event keeps this.
-use Rattle.std.proofs.Common.{◌≡◌, ◌≢◌, ℕ, ◌+◌, ◌⊎◌, Bool, true, false, List, [], ◌∷◌, ◌++◌, Option, Some, None, refl, sym, ap, ◌∙◌, subst, inl, inr, true≢false}
+-- Each held buffer is that of an open under way, of a version, of one that is gone with its message under way, or of
+-- one that is copied home. Every event keeps this.
+use Rattle.std.proofs.Common.{◌≡◌, ℕ, ◌+◌, ◌⊎◌, Bool, true, false, List, [], ◌∷◌, ◌++◌, Option, Some, None, refl, sym, ap, ◌∙◌, subst, inl, inr, true≢false}
 use Rattle.std.specs.Prelude.{not, is_some}
 use Rattle.std.specs.FinMap.{get, insert, remove, get-empty}
-use Rattle.std.specs.Ordering.{nat_cmp}
 use Rattle.std.proofs.lemmas.Bool.{and_parts}
 use Rattle.std.proofs.lemmas.Option.{none-some, same_Some}
 use Rattle.tss_base.specs.declared.operand.OpName.{OpName}
@@ -24,10 +23,10 @@ use Rattle.tss_maps.proofs.Changes.{at_inserted, beside_inserted, from_inserted,
 use Rattle.tss_model.specs.Access.{operands_of}
 use Rattle.tss_model.specs.MainStep.{MainState, Call, main_call}
 use Rattle.tss_protocol.specs.Names.{bank_of}
-use Rattle.tss_protocol.specs.Mail.{StorageName, Home, Buffer, Source, OpenContents, ReleaseContents, IdleContents, GoneContents, Message, Ready, Bye, Open, Mail, posted, posted_all, taken}
+use Rattle.tss_protocol.specs.Mail.{StorageName, Home, Buffer, Source, OpenContents, ReleaseContents, IdleContents, GoneContents, Message, Bye, Mail, posted, posted_all, taken}
 use Rattle.tss_protocol.specs.State.{State, Flying, Busy, Entry, Version, CopyState, initial_state}
 use Rattle.tss_protocol.specs.Renaming.{takes_buffer, buffers_after_decode, live_message, decode_message, may_retire, idle_by, buffers_after_gone}
-use Rattle.tss_protocol.specs.Versions.{Versioned, put_version, version_changed, change_version, ready_with, first_version, new_version, followed, opened_how, opened_by, after_open, is_followable, enlisted, used_alone, used_behind, used_at, head_ready, produced_now, released_once, released_by, released_at, is_last, refused_once, nacked_at, retired, settled}
+use Rattle.tss_protocol.specs.Versions.{Versioned, put_version, version_changed, change_version, ready_with, first_version, new_version, followed, opened_how, opened_by, is_followable, enlisted, used_alone, used_behind, used_at, head_ready, produced_now, released_once, released_by, released_at, is_last, refused_once, nacked_at, retired, settled}
 use Rattle.tss_protocol.specs.Buffers.{can_retire_from, sent_by_retire, new_copy, copies_after_retire, is_last_piece, piece_len, copies_after_copy, sent_by_copy}
 use Rattle.tss_protocol.specs.MainEvent.{call_next, main_by, after_call}
 use Rattle.tss_protocol.specs.UnitMachine.{IsEnabled, is_enabled, after_event, without, after_take, can_open_message, decode_message_taken, open_message_taken, use_message_taken, ready_message_taken, link_message_taken, after_start, start_task, after_exec, after_finish, release_message_taken, bye_message_taken, idle_message_taken, can_retire, retire_version, after_copy, gone_message_taken}
@@ -78,7 +77,8 @@ module _ (cs : Numbered CopyState) (vs : Named Version) (n : OpName) where
   -- so do those before what a settle sends
   settle_holder : (m : Mail) (v : OpName) → CanSettle vs v → ((x : Version) → get vs v ≡ Some x → get m.gones v ≡ None)
       → Holder m.opens vs m.gones cs n
-      → Holder (posted_all m (settled vs v).sent).opens (settled vs v).part (posted_all m (settled vs v).sent).gones cs n
+      → Holder (posted_all m (settled vs v).sent).opens (settled vs v).part
+      (posted_all m (settled vs v).sent).gones cs n
   settle_holder m v can fresh h =
       subst (λ os. Holder os (settled vs v).part (posted_all m (settled vs v).sent).gones cs n)
       (sym (posted_all-later m (settled vs v).sent (settled-later vs v)).opens) (by h)
@@ -187,11 +187,12 @@ module _ (m : Machine) (all ts : List Task) (g : Arrivals) (S : State) (ground :
       sent_nothing S.copies S.versions n S.mail _
       (flight_after_finish-all HoldsNothing (λ o source. tt) (λ o r. tt) S.flight b.task.number) (h n bank e)
 
+  abbrev idle_sent : OpName → IdleContents → Bool → Mail
+  idle_sent v i may =
+      posted_all (taken S.mail (event.Idle v)) (idle_by S.entries v i.base (get S.entries i.base) may).sent
+
   buffers_idle_by : (v : OpName) (i : IdleContents) (may : Bool) (n : OpName) (bank : ℕ) → get S.buffers n ≡ Some bank
-      → Holder (posted_all (taken S.mail (event.Idle v)) (idle_by S.entries v i.base (get S.entries i.base) may).sent).opens
-      S.versions
-      (posted_all (taken S.mail (event.Idle v)) (idle_by S.entries v i.base (get S.entries i.base) may).sent).gones
-      S.copies n
+      → Holder (idle_sent v i may).opens S.versions (idle_sent v i may).gones S.copies n
   buffers_idle_by v i true = h
   buffers_idle_by v i false = h
 
@@ -210,8 +211,13 @@ module _ (m : Machine) (all ts : List Task) (g : Arrivals) (S : State) (ground :
         → Holder (insert S.mail.opens o c) S.versions S.mail.gones S.copies n
     opens_more c n (inr rest) = inr rest
     opens_more c n (inl d) =
-        inl (d.0, d.1, beside_inserted name_order S.mail.opens o c d.0
-        (λ same. no_open d.1 (ap (get S.mail.opens) (sym same) ∙ d.2)) ∙ d.2, d.3)
+        inl (
+          d.0,
+          d.1,
+          beside_inserted name_order S.mail.opens o c d.0
+              (λ same. no_open d.1 (ap (get S.mail.opens) (sym same) ∙ d.2)) ∙ d.2,
+          d.3,
+        )
 
     opens_held : (c : OpenContents) → Held S.buffers (insert S.mail.opens o c) S.versions S.mail.gones S.copies
     opens_held c n bank e = opens_more c n (h n bank e)
@@ -228,7 +234,8 @@ module _ (m : Machine) (all ts : List Task) (g : Arrivals) (S : State) (ground :
     abbrev With : Option Entry → Mode → Message → Type 0
     With entry mode x =
         Held (buffers_after_decode S.buffers o (bank_of m.sizes operand.object) (takes_buffer entry mode))
-        (posted (taken S.mail (event.Decode o)) x).opens S.versions (posted (taken S.mail (event.Decode o)) x).gones S.copies
+        (posted (taken S.mail (event.Decode o)) x).opens S.versions
+        (posted (taken S.mail (event.Decode o)) x).gones S.copies
 
     buffers_live : (e : Entry) (mode : Mode) → With (Some e) mode (live_message o operand e mode)
     buffers_live e Input = h
@@ -257,13 +264,22 @@ module _ (m : Machine) (all ts : List Task) (g : Arrivals) (S : State) (ground :
     opened_holder y stored n (inl d) = elim (decide_key name_order d.0 o) [
       | inl is ↦
           let one = same_Some d.1 c (sym d.2 ∙ ap (get S.mail.opens) is ∙ opening) in
-          inr (inl (o, y, at_inserted name_order S.versions o y,
-            stored ∙ ap (λ (c : OpenContents). c.storage) (sym one) ∙ d.3))
+          inr (inl (
+            o,
+            y,
+            at_inserted name_order S.versions o y,
+            stored ∙ ap (λ (c : OpenContents). c.storage) (sym one) ∙ d.3,
+          ))
       | inr other ↦ inl (d.0, d.1, beside_removed name_order S.mail.opens o d.0 other ∙ d.2, d.3)
     ]
     opened_holder y stored n (inr (inl v)) =
-        inr (inl (v.0, v.1, beside_inserted name_order S.versions o y v.0
-        (name_apart S.versions v.0 o v.1 v.2 fresh) ∙ v.2, v.3))
+        inr (inl (
+          v.0,
+          v.1,
+          beside_inserted name_order S.versions o y v.0
+              (name_apart S.versions v.0 o v.1 v.2 fresh) ∙ v.2,
+          v.3,
+        ))
     opened_holder y stored n (inr (inr rest)) = inr (inr rest)
 
     followed_holder : (f : Follow) (n : OpName) → Holder S.mail.opens S.versions S.mail.gones S.copies n
@@ -426,24 +442,37 @@ module _ (m : Machine) (all ts : List Task) (g : Arrivals) (S : State) (ground :
   ]
   retired_holder v x there (Some Home) stored on n (inr (inr (inl k))) =
       let other = name_apart S.mail.gones k.0 v k.1 k.2 (no_gone v x there) in
-      inr (inr (inl (k.0, k.1,
-        beside_inserted name_order S.mail.gones v (retired x.object None) k.0 other ∙ k.2, k.3)))
+      inr (inr (inl (
+        k.0,
+        k.1,
+        beside_inserted name_order S.mail.gones v (retired x.object None) k.0 other ∙ k.2,
+        k.3,
+      )))
   retired_holder v x there (Some Home) stored on n (inr (inr (inr k))) = inr (inr (inr k))
   retired_holder v x there (Some (Buffer b)) stored on n (inl d) = inl d
   retired_holder v x there (Some (Buffer b)) stored on n (inr (inl k)) = elim (decide_key name_order k.0 v) [
     | inl is ↦
         let bank = bank_of m.sizes x.object in
         let one = same_Some k.1 x (sym k.2 ∙ ap (get S.versions) is ∙ there) in
-        inr (inr (inr (bank, new_copy v x.object b, at_inserted nat_order S.copies bank (new_copy v x.object b),
-          same_buffer b n (sym stored ∙ ap (λ (x : Version). x.storage) (sym one) ∙ k.3))))
+        inr (inr (inr (
+          bank,
+          new_copy v x.object b,
+          at_inserted nat_order S.copies bank (new_copy v x.object b),
+          same_buffer b n (sym stored ∙ ap (λ (x : Version). x.storage) (sym one) ∙ k.3),
+        )))
     | inr other ↦ inr (inl (k.0, k.1, beside_removed name_order S.versions v k.0 other ∙ k.2, k.3))
   ]
   retired_holder v x there (Some (Buffer b)) stored on n (inr (inr (inl k))) = inr (inr (inl k))
   retired_holder v x there (Some (Buffer b)) stored on n (inr (inr (inr k))) =
       let bank = bank_of m.sizes x.object in
       let none = none_from_test (get S.copies bank) on in
-      inr (inr (inr (k.0, k.1, beside_inserted nat_order S.copies bank (new_copy v x.object b) k.0
-        (λ is. none-some k.1 (sym none ∙ ap (get S.copies) (sym is) ∙ k.2)) ∙ k.2, k.3)))
+      inr (inr (inr (
+        k.0,
+        k.1,
+        beside_inserted nat_order S.copies bank (new_copy v x.object b) k.0
+            (λ is. none-some k.1 (sym none ∙ ap (get S.copies) (sym is) ∙ k.2)) ∙ k.2,
+        k.3,
+      )))
 
   buffers_retire : (v : OpName) (x : Option Version) → get S.versions v ≡ x → can_retire m S x ≡ true
       → Keeps (retire_version m (without S (event.Retire v)) v x)
@@ -452,20 +481,30 @@ module _ (m : Machine) (all ts : List Task) (g : Arrivals) (S : State) (ground :
 
   copied_holder : (b : ℕ) (c : CopyState) → get S.copies b ≡ Some c → (last : Bool) → (n : OpName)
       → Holder S.mail.opens S.versions S.mail.gones S.copies n
-      → Holder (posted_all S.mail (sent_by_copy c last)).opens S.versions (posted_all S.mail (sent_by_copy c last)).gones
+      → Holder (posted_all S.mail (sent_by_copy c last)).opens S.versions
+      (posted_all S.mail (sent_by_copy c last)).gones
       (copies_after_copy S.copies b c last) n
   copied_holder b c there true n (inl d) = inl d
   copied_holder b c there true n (inr (inl k)) = inr (inl k)
   copied_holder b c there true n (inr (inr (inl k))) =
       let gone = retired c.object (Some c.buffer) in
-      inr (inr (inl (k.0, k.1, beside_inserted name_order S.mail.gones c.version gone k.0
-        (λ is. (ground.places.gones k.0 k.1 k.2).1 (b, c, there, sym is)) ∙ k.2, k.3)))
+      inr (inr (inl (
+        k.0,
+        k.1,
+        beside_inserted name_order S.mail.gones c.version gone k.0
+            (λ is. (ground.places.gones k.0 k.1 k.2).1 (b, c, there, sym is)) ∙ k.2,
+        k.3,
+      )))
   copied_holder b c there true n (inr (inr (inr k))) = elim (decide_key nat_order k.0 b) [
     | inl is ↦
         let one = same_Some k.1 c (sym k.2 ∙ ap (get S.copies) is ∙ there) in
         let gone = retired c.object (Some c.buffer) in
-        inr (inr (inl (c.version, gone, at_inserted name_order S.mail.gones c.version gone,
-          ap (λ (c : CopyState). Some c.buffer) (sym one) ∙ ap Some k.3)))
+        inr (inr (inl (
+          c.version,
+          gone,
+          at_inserted name_order S.mail.gones c.version gone,
+          ap (λ (c : CopyState). Some c.buffer) (sym one) ∙ ap Some k.3,
+        )))
     | inr other ↦ inr (inr (inr (k.0, k.1, beside_removed nat_order S.copies b k.0 other ∙ k.2, k.3)))
   ]
   copied_holder b c there false n (inl d) = inl d
@@ -476,8 +515,12 @@ module _ (m : Machine) (all ts : List Task) (g : Arrivals) (S : State) (ground :
       elim (decide_key nat_order k.0 b) [
         | inl is ↦
             let one = same_Some k.1 c (sym k.2 ∙ ap (get S.copies) is ∙ there) in
-            inr (inr (inr (b, more, at_inserted nat_order S.copies b more,
-              ap (λ (c : CopyState). c.buffer) (sym one) ∙ k.3)))
+            inr (inr (inr (
+              b,
+              more,
+              at_inserted nat_order S.copies b more,
+              ap (λ (c : CopyState). c.buffer) (sym one) ∙ k.3,
+            )))
         | inr other ↦
             inr (inr (inr (k.0, k.1, beside_inserted nat_order S.copies b more k.0 other ∙ k.2, k.3)))
       ]

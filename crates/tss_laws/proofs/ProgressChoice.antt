@@ -1,10 +1,9 @@
 -- Some event of a state is enabled, or none is.
-use Rattle.std.proofs.Common.{◌≡◌, ℕ, zero, suc, ◌<◌, ◌≤◌, ◌⊎◌, Bool, true, false, List, [], ◌∷◌, Option, Some, None, refl, sym, ap, ◌∙◌, subst, inl, inr, arith, true≢false}
+use Rattle.std.proofs.Common.{◌≡◌, ℕ, zero, suc, ◌<◌, ◌≤◌, ◌⊎◌, Bool, true, false, List, [], ◌∷◌, Option, Some, None, refl, ap, ◌∙◌, subst, inl, inr, arith}
 use Rattle.std.specs.Prelude.{◌&&◌, is_some, is_none, nat_lt}
 use Rattle.std.specs.declared.cmp.Ordering.{Ordering}
 use Rattle.std.specs.FinMap.{FinMap, get}
 use Rattle.std.proofs.lemmas.Bool.{cases_Bool, cases_lt, and_left, le-ltb}
-use Rattle.tss_base.specs.declared.operand.OpName.{OpName}
 use Rattle.tss_base.specs.declared.machine.Machine.{Machine}
 use Rattle.tss_base.specs.declared.event.Event.{Event}
 use Rattle.tss_base.specs.declared.event.Event.TheVariants as event
@@ -67,7 +66,8 @@ both (inr b) (inr c) = inr (b, c)
 
 module _ (m : Machine) (S : State) where
   -- the answer of a test as an event
-  named : {K : Type 0} (f : K → Event) → ((k : K) × (is_enabled m S (f k) ≡ true)) ⊎ ((k : K) → is_enabled m S (f k) ≡ false)
+  named : {K : Type 0} (f : K → Event)
+      → ((k : K) × (is_enabled m S (f k) ≡ true)) ⊎ ((k : K) → is_enabled m S (f k) ≡ false)
       → Choice m S f
   named f (inl some) = inl (f some.0, some.1)
   named f (inr none) = inr none

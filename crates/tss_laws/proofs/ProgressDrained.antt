@@ -1,12 +1,12 @@
 -- A quiet state without a task in flight: nothing is in any table, and where no event is enabled the state is finished.
 -- With one, its oldest task has a decode that may happen. So a state in which no event is enabled is finished.
-use Rattle.std.proofs.Common.{◌≡◌, ◌≢◌, ℕ, ◌+◌, ◌<◌, ◌≤◌, ◌⊎◌, Bool, true, false, List, [], ◌∷◌, length, Option, Some, None, refl, sym, ap, ◌∙◌, subst, inl, inr, arith, true≢false}
-use Rattle.std.specs.Prelude.{◌==◌, ◌&&◌, ◌||◌, not, is_none, is_some, nat_lt}
+use Rattle.std.proofs.Common.{◌≡◌, ℕ, ◌≤◌, ◌⊎◌, Bool, true, false, List, length, Option, Some, None, refl, sym, ap, ◌∙◌, inl, inr, arith, true≢false}
+use Rattle.std.specs.Prelude.{◌==◌, ◌&&◌, ◌||◌, not, is_none, is_some}
 use Rattle.std.specs.declared.cmp.Ordering.{Ordering}
 use Rattle.std.specs.FinMap.{FinMap, get, len}
-use Rattle.std.proofs.lemmas.Bool.{and_from, and_cases, or_parts, lt-ltb, cases_Bool, cases_eq}
+use Rattle.std.proofs.lemmas.Bool.{and_from, or_parts, lt-ltb, cases_eq}
 use Rattle.std.proofs.lemmas.Bool.Decides.{nat_tests}
-use Rattle.std.proofs.lemmas.Option.{none-some, same_Some}
+use Rattle.std.proofs.lemmas.Option.{none-some}
 use Rattle.tss_base.specs.declared.range.Range.{Range}
 use Rattle.tss_base.specs.declared.operand.OpName.{OpName}
 use Rattle.tss_base.specs.declared.operand.Operand.{Operand}
@@ -26,7 +26,7 @@ use Rattle.tss_maps.proofs.Sums.{count_none}
 use Rattle.tss_maps.proofs.OrderedLemmas.{IsLeast, least_some, least_none}
 use Rattle.tss_model.specs.MainStep.{Call, ExitCall, Spawn, Barrier, Print, Unknown}
 use Rattle.tss_protocol.specs.Names.{operand_name, station_of}
-use Rattle.tss_protocol.specs.Mail.{StorageName, Home, Buffer, Source, OpenContents, GoneContents, message_count}
+use Rattle.tss_protocol.specs.Mail.{Buffer, Source, OpenContents, GoneContents, message_count}
 use Rattle.tss_protocol.specs.State.{State, OperandState, Flying, Entry, Version, CopyState}
 use Rattle.tss_protocol.specs.Stations.{operand_at, tasks_in, has_slot}
 use Rattle.tss_protocol.specs.Gateway.{is_idle}
@@ -34,11 +34,11 @@ use Rattle.tss_protocol.specs.MainEvent.{has_no_task, has_no_object, is_drained,
 use Rattle.tss_protocol.specs.Result.{is_finished}
 use Rattle.tss_protocol.specs.UnitMachine.{is_enabled, IsEnabled, can_take}
 use Rattle.tss_locality.proofs.Flights.{record_in}
-use Rattle.tss_phases.specs.Phase.{Phase, Decoding, Left, record_phase, station_phase, is_ahead, look_ups, phase_of, is_decoded}
+use Rattle.tss_phases.specs.Phase.{Decoding, Left, record_phase, station_phase, is_ahead, look_ups, phase_of, is_decoded}
 use Rattle.tss_phases.proofs.PhaseLemmas.{phase_silent}
 use Rattle.tss_phases.proofs.Shown.{is_still}
 use Rattle.tss_phases.proofs.OrderlyLemmas.{decoding_stands, ahead_by_test, left_by_absence}
-use Rattle.tss_laws.specs.Readers.{Arrivals, Has}
+use Rattle.tss_laws.specs.Readers.{Arrivals}
 use Rattle.tss_laws.specs.Control.{HasGroundwork, IsControlled}
 use Rattle.tss_laws.proofs.EntriesNames.{name_decoded}
 use Rattle.tss_laws.proofs.ProgressChoice.{IsStuck, enabled_or_stuck}
@@ -145,7 +145,8 @@ module _ (m : Machine) (all ts : List Task) (g : Arrivals) (S : State) (ground :
     none_followed : (v : OpName) (y : Version) (f : Follow) → get S.versions v ≡ Some y → y.successor ≡ Some f → ⊥
     none_followed v y f there next =
         none_behind m all ts g S ground control quiet v y f there next
-        (produced_when_left m all ts g S ground control quiet v y there (version_left v y there)) (readers_gone v y there)
+        (produced_when_left m all ts g S ground control quiet v y there (version_left v y there))
+        (readers_gone v y there)
 
     last_of : (v : OpName) (y : Version) → get S.versions v ≡ Some y → (f : Option Follow) → y.successor ≡ f
         → y.successor ≡ None

@@ -1,8 +1,7 @@
 -- The operands of a finished task have let go, whatever event happens.
-use Rattle.std.proofs.Common.{◌≡◌, ◌≢◌, ℕ, Bool, true, false, List, [], ◌∷◌, Option, Some, None, refl, sym, ap, ◌∙◌, subst, inl, inr, true≢false}
+use Rattle.std.proofs.Common.{◌≡◌, ℕ, Bool, true, false, List, [], ◌∷◌, Option, Some, None, refl, sym, ap, ◌∙◌, subst, inl, inr, true≢false}
 use Rattle.std.specs.Prelude.{slice_get, if◌then◌else◌}
 use Rattle.std.specs.FinMap.{get, insert}
-use Rattle.std.proofs.lemmas.Option.{none-some, same_Some}
 use Rattle.tss_base.specs.declared.operand.OpName.{OpName}
 use Rattle.tss_base.specs.declared.operand.Operand.{Operand}
 use Rattle.tss_base.specs.declared.operand.Task.{Task}
@@ -19,18 +18,17 @@ use Rattle.tss_protocol.specs.State.{State, OperandState, Flying, Busy}
 use Rattle.tss_protocol.specs.Stations.{operand_at, first_stage, entered, flight_after_take, is_complete, awaited, task_after_ready, woken_by, woken_in}
 use Rattle.tss_protocol.specs.UnitMachine.{without, can_take, is_enabled, IsEnabled, ready_message_taken, after_take, start_task, after_start, after_event}
 use Rattle.tss_protocol.specs.Workers.{can_finish}
-use Rattle.tss_locality.proofs.KeptStages.{StagesKept, ChangesNoStage, StagesKept-after_event}
+use Rattle.tss_locality.proofs.KeptStages.{ChangesNoStage, StagesKept-after_event}
 use Rattle.tss_locality.proofs.LeftFields.{Leaves-after_event}
 use Rattle.tss_phases.specs.Phase.{Phase, Ahead, Decoding, Sent, Waiting, Told, Ready, Releasing, Leaving, Promised, Left, phase_of}
 use Rattle.tss_phases.specs.Forward.{may_follow}
-use Rattle.tss_phases.specs.Orderly.{AreOrderly, KeepsOrder, FinishesReady}
+use Rattle.tss_phases.specs.Orderly.{AreOrderly, KeepsOrder}
 use Rattle.tss_phases.proofs.ForwardPhases.{GoesOnFrom}
 use Rattle.tss_phases.proofs.ForwardEvents.{forward-after_event}
-use Rattle.tss_phases.proofs.FinishEvent.{finished_task, flight-finish, phase_of-finish, phase_of-finish-other}
-use Rattle.tss_phases.proofs.LeavingTasks.{remaining_beside}
-use Rattle.tss_phases.proofs.Records.{task_of_record, record_beside_put}
+use Rattle.tss_phases.proofs.FinishEvent.{finished_task, flight-finish, phase_of-finish}
+use Rattle.tss_phases.proofs.Records.{record_beside_put}
 use Rattle.tss_phases.proofs.Tests.{something}
-use Rattle.tss_laws.specs.Runners.{IsAtStage, is_late}
+use Rattle.tss_laws.specs.Runners.{is_late}
 use Rattle.tss_laws.proofs.FrontLemmas.{ComeFrom, all_come, KeepsFront, KeepsFront-after_event}
 use Rattle.tss_laws.proofs.PlaceLemmas.{beside_remaining}
 use Rattle.tss_laws.proofs.StageLemmas.{waiting≢finished, queued≢finished, running≢finished}

@@ -1,11 +1,11 @@
 -- A decode of the oldest task in flight of a quiet state finds room: the entries and places of its bank go to other
 -- operands of the task, no two to one.
-use Rattle.std.proofs.Common.{◌≡◌, ◌≢◌, ℕ, suc, ◌+◌, ◌<◌, ◌≤◌, ◌⊎◌, Bool, true, false, List, length, Option, Some, None, refl, sym, ap, ◌∙◌, subst, inl, inr, arith, true≢false}
-use Rattle.std.specs.Prelude.{◌==◌, slice_get, map, nat_le, is_some, is_none}
+use Rattle.std.proofs.Common.{◌≡◌, ◌≢◌, ℕ, ◌+◌, ◌≤◌, Bool, true, false, List, length, Some, None, refl, sym, ap, ◌∙◌, subst, inl, inr, arith, true≢false}
+use Rattle.std.specs.Prelude.{◌==◌, slice_get, is_some, is_none}
 use Rattle.std.specs.declared.cmp.Ordering.{Ordering}
 use Rattle.std.specs.Ordering.{nat_cmp}
 use Rattle.std.specs.FinMap.{FinMap, get, insert, remove, len}
-use Rattle.std.proofs.lemmas.Bool.{cases_Bool, lt-leb}
+use Rattle.std.proofs.lemmas.Bool.{lt-leb}
 use Rattle.std.proofs.lemmas.Bool.Decides.{nat_tests}
 use Rattle.std.proofs.lemmas.List.{length-map}
 use Rattle.std.proofs.lemmas.Option.{none-some, same_Some, slice_get_within}
@@ -17,14 +17,14 @@ use Rattle.tss_base.specs.declared.machine.Machine.{Machine}
 use Rattle.tss_base.specs.declared.event.Event.TheVariants as event
 use Rattle.tss_base.specs.Machine.{IsAdmissible}
 use Rattle.tss_maps.specs.Below.{all_below}
-use Rattle.tss_maps.specs.Sums.{one_if, sum_of, count_of}
-use Rattle.tss_maps.proofs.Keys.{IsKeyOrder, nat_order, name_order, decide_key}
+use Rattle.tss_maps.specs.Sums.{one_if, count_of}
+use Rattle.tss_maps.proofs.Keys.{IsKeyOrder, nat_order, name_order}
 use Rattle.tss_maps.proofs.Changes.{at_inserted, beside_inserted, beside_removed, decide_get}
 use Rattle.tss_maps.proofs.Entries.{get-all_below, len-all_below, len_removed, map_induction}
 use Rattle.tss_maps.proofs.Sums.{sum_empty, sum_added}
 use Rattle.tss_protocol.specs.Names.{operand_name, bank_of}
 use Rattle.tss_protocol.specs.State.{State, OperandState, Flying, Entry, Version}
-use Rattle.tss_protocol.specs.Renaming.{Fill, entries_in, places_in, fill_of, EntriesFull, VersionsFull, wait_or, decode_wait}
+use Rattle.tss_protocol.specs.Renaming.{entries_in, places_in, fill_of, EntriesFull, VersionsFull, wait_or, decode_wait}
 use Rattle.tss_protocol.specs.UnitMachine.{tables_of, is_enabled, can_decode_message}
 use Rattle.tss_phases.specs.Phase.{look_ups}
 use Rattle.tss_phases.proofs.OrderlyLemmas.{decoding_stands}

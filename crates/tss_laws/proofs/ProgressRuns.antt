@@ -1,13 +1,11 @@
 -- Progress of every run, where each event keeps the groups of the control.
-use Rattle.std.proofs.Common.{◌≡◌, List, Some, sym, ◌∙◌}
+use Rattle.std.proofs.Common.{sym, ◌∙◌}
 use Rattle.std.specs.Ordering.{nat_cmp}
-use Rattle.std.specs.FinMap.{get, get-empty}
+use Rattle.std.specs.FinMap.{get-empty}
 use Rattle.std.proofs.lemmas.Option.{none-some}
-use Rattle.tss_base.specs.declared.machine.Machine.{Machine}
 use Rattle.tss_base.specs.declared.event.Event.{Event}
 use Rattle.tss_base.specs.Image.{ImageState}
-use Rattle.tss_protocol.specs.State.{State, initial_state}
-use Rattle.tss_protocol.specs.Run.{IsRun}
+use Rattle.tss_protocol.specs.State.{initial_state}
 use Rattle.tss_protocol.specs.Needs.{round_of}
 use Rattle.tss_phases.proofs.OrderlyEvents.{orderly_at_first}
 use Rattle.tss_laws.specs.Progress.{EnabledLaw}
@@ -44,11 +42,11 @@ module _ (kept : (e : Event) → AreGroupsKept e) where
   pub enabled_of_runs : EnabledLaw
   enabled_of_runs m i es S accepted fit run =
       let h = ground_of_runs CanProgress CanProgress-after_event
-          (λ m i. (
-            IsControlled-bare (initial_state i) (IsBare-initial_state i) no_arrivals (orderly_at_first i),
-            let_go_at_first i,
-            HasBuffers-initial_state i,
-          )) m i es S run in
+      (λ m i. (
+        IsControlled-bare (initial_state i) (IsBare-initial_state i) no_arrivals (orderly_at_first i),
+        let_go_at_first i,
+        HasBuffers-initial_state i,
+      )) m i es S run in
       let all = spawned_tasks m i es in
       let ts = round_of m (initial_state i) es in
       goes_on m all ts (arrivals_from m (initial_state i) no_arrivals es) S (has_groundwork m all ts S h.0) h.1.0 h.1.1

@@ -1,21 +1,17 @@
 -- A settle loses no buffer: what a version held is held by a version after it, or by a message that a version is gone.
-use Rattle.std.proofs.Common.{◌≡◌, ◌≢◌, ℕ, ◌⊎◌, Bool, true, false, List, [], ◌∷◌, Option, Some, None, refl, sym, ap, ◌∙◌, subst, inl, inr}
-use Rattle.std.specs.FinMap.{get, insert, remove}
+use Rattle.std.proofs.Common.{◌≡◌, ◌≢◌, ◌⊎◌, false, List, [], ◌∷◌, Option, Some, None, refl, sym, ap, ◌∙◌, subst, inl, inr}
+use Rattle.std.specs.FinMap.{get, insert}
 use Rattle.std.proofs.lemmas.Option.{none-some, same_Some}
-use Rattle.tss_base.specs.declared.range.Range.{Range}
 use Rattle.tss_base.specs.declared.operand.OpName.{OpName}
 use Rattle.tss_base.specs.declared.operand.Task.{Task}
-use Rattle.tss_base.specs.declared.machine.Machine.{Machine}
-use Rattle.tss_base.specs.declared.event.How.{How}
 use Rattle.tss_base.specs.declared.event.How.TheVariants.{Beside, Over}
 use Rattle.tss_base.specs.declared.event.Follow.{Follow}
 use Rattle.tss_base.specs.Names.{Named}
 use Rattle.tss_maps.proofs.Keys.{name_order, decide_key}
-use Rattle.tss_maps.proofs.Changes.{at_inserted, beside_inserted, beside_removed, decide_get}
-use Rattle.tss_protocol.specs.Mail.{StorageName, Home, Buffer, OpenContents, GoneContents, Message, Ready, Mail, posted_all}
+use Rattle.tss_maps.proofs.Changes.{at_inserted, beside_inserted}
+use Rattle.tss_protocol.specs.Mail.{StorageName, Buffer, OpenContents, GoneContents, Mail, posted_all}
 use Rattle.tss_protocol.specs.State.{State, Version}
-use Rattle.tss_protocol.specs.Versions.{Versioned, put_version, drop_version, version_changed, change_version, change_named, ready_with, buffer_of, died, followed_by, unlinked, settle_over, settle_asking, sending, unchanged, settled, followed}
-use Rattle.tss_phases.specs.Settling.{GivesWay}
+use Rattle.tss_protocol.specs.Versions.{Versioned, put_version, ready_with, buffer_of, died, unlinked, settle_over, settle_asking, sending, settled, followed}
 use Rattle.tss_laws.specs.Chains.{HasChains}
 use Rattle.tss_laws.specs.Entries.{HasRetirement}
 use Rattle.tss_laws.proofs.PlainLemmas.{name_apart}
@@ -24,7 +20,7 @@ use Rattle.tss_laws.proofs.UnlinkedVersions.{GaveWay, bridged, gave_way_beside, 
 use Rattle.tss_laws.proofs.ChainsSettled.{chains_next, chains_own}
 use Rattle.tss_laws.proofs.ChainsReleased.{others_written}
 use Rattle.tss_laws.proofs.ChainsRegistered.{linked_to}
-use Rattle.tss_laws.proofs.ChainsOpen.{following, at_followed, behind_followed, beside_followed, others_followed}
+use Rattle.tss_laws.proofs.ChainsOpen.{following, at_followed, behind_followed, others_followed}
 
 -- ---- who holds a buffer
 
@@ -111,12 +107,15 @@ module _ (vs : Named Version) (v : OpName) (can : CanSettle vs v) (m : Mail)
       s : OpName
       s = o.follow.version
 
+      after : Version
+      after = (can.next o.version o.gives.there o.follow o.gives.next).0.0
+
       gones : GoneHolds (insert m.gones v (record { object = o.version.object; buffer = None; retired = false })) n
           → GoneHolds (posted_all m (settle_over vs v o.version s).sent).gones n
       gones h = subst (λ gs. GoneHolds gs n) (sym (told_gones s s o.version.storage _)) h
 
       by : GaveWay vs (settle_over vs v o.version s).part v o.version s
-          (record (moved_up o.version (can.next o.version o.gives.there o.follow o.gives.next).0.0) { storage = o.version.storage })
+          (record (moved_up o.version after) { storage = o.version.storage })
           → HoldsIn vs m.gones n → After (settle_over vs v o.version s)
       by w (inr h) = inr (gones (gone_before _ o.version o.gives.there h))
       by w (inl h) = elim (decide_key name_order h.0 v) [
@@ -161,7 +160,8 @@ module _ (vs : Named Version) (v : OpName) (can : CanSettle vs v) (m : Mail)
       left = record { object = p.version.object; buffer = buffer_of p.version.storage; retired = false }
 
       gones : GoneHolds (insert m.gones v left) n
-          → GoneHolds (posted_all m (sending (died v p.version.object (buffer_of p.version.storage) ∷ []) p.on).sent).gones n
+          → GoneHolds
+          (posted_all m (sending (died v p.version.object (buffer_of p.version.storage) ∷ []) p.on).sent).gones n
       gones h = subst (λ gs. GoneHolds gs n) (sym (next_gones us s p.on _ p.rest)) h
 
       moved : GaveWay vs us v p.version s (moved_up p.version p.next) → (q : OpName) (y : Version)
@@ -179,8 +179,12 @@ module _ (vs : Named Version) (v : OpName) (can : CanSettle vs v) (m : Mail)
       by w (inl h) = elim (decide_key name_order h.0 v) [
         | inl is ↦
             let one = same_Some h.1 p.version (sym h.2 ∙ ap (get vs) is ∙ p.gives.there) in
-            inr (gones (v, left, at_inserted name_order m.gones v left,
-              ap buffer_of (ap (λ (x : Version). x.storage) (sym one) ∙ h.3)))
+            inr (gones (
+              v,
+              left,
+              at_inserted name_order m.gones v left,
+              ap buffer_of (ap (λ (x : Version). x.storage) (sym one) ∙ h.3),
+            ))
         | inr far ↦ inl (next_holds us s p.on p.rest (moved w h.0 h.1 h.2 h.3 far))
       ]
 
@@ -214,7 +218,7 @@ can_settle_written ts S chains retirement v x y there after before = record {
       let g = chains_next ts S chains v x there f follows in
       let next = (chains.linked v x there).followed f follows in
       let one = same_Some next.version u
-          (sym next.there ∙ sym (beside_inserted name_order S.versions v y f.version g.1) ∙ at) in
+      (sym next.there ∙ sym (beside_inserted name_order S.versions v y f.version g.1) ∙ at) in
       sym (ap (λ (u : Version). u.storage) one)
       ∙ (chains.storages f.version next.version next.there).over.1 (v, x, f, next.back, there, follows, over);
 }
@@ -245,7 +249,7 @@ can_settle_followed ts S chains retirement o c f opening follows fresh u there =
   free = λ z g y e to over at.
       let same = follow z e g to in
       let one = same_Some (following c f) y (sym (at_followed S.versions o c f apart)
-          ∙ ap (get (followed S.versions o c f)) (ap (λ (g : Follow). g.version) same) ∙ at) in
+      ∙ ap (get (followed S.versions o c f)) (ap (λ (g : Follow). g.version) same) ∙ at) in
       ap (λ (y : Version). y.storage) (sym one)
       ∙ stored (ap (λ (g : Follow). g.how) same ∙ over);
 }
