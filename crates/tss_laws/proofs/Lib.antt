@@ -205,6 +205,9 @@ pub mod BoundRuns
 pub mod WaitsLaw
 pub mod WaitsRuns
 pub mod HoldersNacked
+pub mod ProgressHolders
+pub mod ProgressTableBuffers
+pub mod ProgressVersionBuffers
 pub mod ProgressBuffers
 pub mod ProgressRuns
 pub mod HoldersReleases
