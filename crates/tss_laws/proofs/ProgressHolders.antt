@@ -38,6 +38,7 @@ use Rattle.tss_laws.proofs.JointLemmas.{posted_all-append}
 use Rattle.tss_laws.proofs.HeldEvents.{HoldsNothing, posted_all-nothing, decodes_nothing}
 use Rattle.tss_laws.proofs.ProgressDrained.{HasBuffers}
 use Rattle.tss_laws.proofs.ProgressSettled.{VersionHolds, GoneHolds, HoldsIn, put_holds, CanSettle, settled_holds, can_settle_written, can_settle_followed}
+
 -- ---- who holds a buffer
 
 -- an open does

@@ -72,7 +72,7 @@ module _ (m : Machine) (all ts : List Task) (g : Arrivals) (S : State) (ground :
       let fresh = refused_before b e y entry there base sent y.refused refl in
       let two = and_from y.produced (y.released == y.registered) produced same in
       let three = and_from (y.produced && (y.released == y.registered)) (is_none y.predecessor) two
-          (ap is_none oldest) in
+      (ap is_none oldest) in
       let four = and_from (y.produced && (y.released == y.registered) && is_none y.predecessor) (is_none y.asked) three
       (ap is_none (nobody_asks m all ts g S ground control (calm_of S quiet) e.latest y there)) in
       true≢false (sym (and_from (y.produced && (y.released == y.registered) && is_none y.predecessor && is_none y.asked)
