@@ -219,3 +219,4 @@ pub mod CalmStates
 pub mod BuffersSettled
 pub mod HoldersOpened
 pub mod HoldersOpen
+pub mod HoldersReleased
