@@ -1,44 +1,32 @@
 -- Each held buffer is that of an open under way, of a version, of one that is gone with its message under way, or of
 -- one that is copied home. Every event keeps this.
-use Rattle.std.proofs.Common.{◌≡◌, ℕ, ◌+◌, ◌⊎◌, Bool, true, false, List, [], ◌∷◌, ◌++◌, Option, Some, None, refl, sym, ap, ◌∙◌, subst, inl, inr, true≢false}
-use Rattle.std.specs.Prelude.{not, is_some}
-use Rattle.std.specs.FinMap.{get, insert, remove, get-empty}
+use Rattle.std.proofs.Common.{◌≡◌, ℕ, ◌+◌, Bool, true, false, List, Option, Some, None, refl, sym, ap, ◌∙◌, inl, inr, true≢false}
+use Rattle.std.specs.Prelude.{is_some}
+use Rattle.std.specs.FinMap.{get, remove, get-empty}
 use Rattle.std.proofs.lemmas.Bool.{and_parts}
 use Rattle.std.proofs.lemmas.Option.{none-some, same_Some}
 use Rattle.tss_base.specs.declared.operand.OpName.{OpName}
-use Rattle.tss_base.specs.declared.operand.Mode.{Mode}
-use Rattle.tss_base.specs.declared.operand.Mode.TheVariants.{Input, Output, Inout}
-use Rattle.tss_base.specs.declared.operand.Operand.{Operand}
 use Rattle.tss_base.specs.declared.operand.Task.{Task}
 use Rattle.tss_base.specs.declared.machine.Machine.{Machine}
 use Rattle.tss_base.specs.declared.event.Event.{Event}
 use Rattle.tss_base.specs.declared.event.Event.TheVariants as event
-use Rattle.tss_base.specs.declared.event.How.{How}
-use Rattle.tss_base.specs.declared.event.How.TheVariants.{Beside, Over}
-use Rattle.tss_base.specs.declared.event.Follow.{Follow}
-use Rattle.tss_base.specs.Names.{Named, Numbered, name_cmp}
+use Rattle.tss_base.specs.Names.{name_cmp}
 use Rattle.tss_base.specs.Image.{ImageState}
 use Rattle.tss_maps.proofs.Keys.{nat_order, name_order, decide_key}
-use Rattle.tss_maps.proofs.Changes.{at_inserted, beside_inserted, from_inserted, beside_removed, from_removed}
-use Rattle.tss_model.specs.Access.{operands_of}
-use Rattle.tss_model.specs.MainStep.{MainState, Call, main_call}
+use Rattle.tss_maps.proofs.Changes.{at_inserted, beside_inserted, beside_removed, from_removed}
 use Rattle.tss_protocol.specs.Names.{bank_of}
-use Rattle.tss_protocol.specs.Mail.{StorageName, Home, Buffer, Source, OpenContents, ReleaseContents, IdleContents, GoneContents, Message, Bye, Mail, posted, posted_all, taken}
-use Rattle.tss_protocol.specs.State.{State, Flying, Busy, Entry, Version, CopyState, initial_state}
-use Rattle.tss_protocol.specs.Renaming.{takes_buffer, buffers_after_decode, live_message, decode_message, may_retire, idle_by, buffers_after_gone}
-use Rattle.tss_protocol.specs.Versions.{Versioned, put_version, version_changed, change_version, ready_with, first_version, new_version, followed, opened_how, opened_by, is_followable, enlisted, used_alone, used_behind, used_at, head_ready, produced_now, released_once, released_by, released_at, is_last, refused_once, nacked_at, retired, settled}
+use Rattle.tss_protocol.specs.Mail.{StorageName, Home, Buffer, GoneContents, posted_all, taken}
+use Rattle.tss_protocol.specs.State.{State, Version, CopyState, initial_state}
+use Rattle.tss_protocol.specs.Renaming.{buffers_after_gone}
+use Rattle.tss_protocol.specs.Versions.{retired}
 use Rattle.tss_protocol.specs.Buffers.{can_retire_from, sent_by_retire, new_copy, copies_after_retire, is_last_piece, piece_len, copies_after_copy, sent_by_copy}
-use Rattle.tss_protocol.specs.MainEvent.{call_next, main_by, after_call}
-use Rattle.tss_protocol.specs.UnitMachine.{IsEnabled, is_enabled, after_event, without, after_take, can_open_message, decode_message_taken, open_message_taken, use_message_taken, ready_message_taken, link_message_taken, after_start, start_task, after_exec, after_finish, release_message_taken, bye_message_taken, idle_message_taken, can_retire, retire_version, after_copy, gone_message_taken}
+use Rattle.tss_protocol.specs.MainEvent.{call_next}
+use Rattle.tss_protocol.specs.UnitMachine.{IsEnabled, is_enabled, after_event, without, can_retire, retire_version, after_copy, gone_message_taken}
 use Rattle.tss_laws.specs.Readers.{Arrivals}
 use Rattle.tss_laws.specs.Control.{HasGroundwork, IsControlled}
-use Rattle.tss_laws.proofs.SentLemmas.{AllSent, AllSent-append, settled-later, posted_all-later, after_ready-all, after_link-all, flight_after_finish-all}
 use Rattle.tss_laws.proofs.PlainLemmas.{name_apart, none_from_test}
-use Rattle.tss_laws.proofs.JointLemmas.{posted_all-append}
-use Rattle.tss_laws.proofs.HeldEvents.{HoldsNothing, posted_all-nothing, decodes_nothing}
 use Rattle.tss_laws.proofs.ProgressDrained.{HasBuffers}
-use Rattle.tss_laws.proofs.ProgressSettled.{VersionHolds, GoneHolds, HoldsIn, put_holds, CanSettle, settled_holds, can_settle_written, can_settle_followed}
-use Rattle.tss_laws.proofs.ProgressHolders.{OpenHolds, CopyHolds, Holder, Held, same_buffer, no_home, sent_nothing, settle_holder, settled_after, ready_nothing, head_nothing, change_holds, first_stored}
+use Rattle.tss_laws.proofs.ProgressHolders.{Holder, Held, same_buffer, no_home}
 use Rattle.tss_laws.proofs.ProgressTableBuffers.{buffers_main, buffers_take, buffers_ready, buffers_link, buffers_bye, buffers_start, buffers_exec, buffers_finish, buffers_idle, buffers_decode}
 use Rattle.tss_laws.proofs.ProgressVersionBuffers.{buffers_open, buffers_use, buffers_release, nacked_holder}
 
