@@ -117,7 +117,6 @@ pub mod ReadersRetire
 pub mod ChainsRetired
 pub mod EntriesOfVersions
 pub mod EntriesGranted
-pub mod GroundworkEvents
 pub mod HoldersMoves
 pub mod ReadersWakes
 pub mod HoldersFrames
@@ -220,3 +219,5 @@ pub mod BuffersSettled
 pub mod HoldersOpened
 pub mod HoldersOpen
 pub mod HoldersReleased
+pub mod HoldersEvents
+pub mod GroundworkControl
