@@ -1,18 +1,20 @@
 -- Progress of every run, where each event keeps the groups of the control.
-use Rattle.std.proofs.Common.{sym, ◌∙◌}
+use Rattle.std.proofs.Common.{◌≡◌, List, Some, sym, ◌∙◌}
 use Rattle.std.specs.Ordering.{nat_cmp}
 use Rattle.std.specs.FinMap.{get-empty}
 use Rattle.std.proofs.lemmas.Option.{none-some}
+use Rattle.tss_base.specs.declared.machine.Machine.{Machine}
 use Rattle.tss_base.specs.declared.event.Event.{Event}
 use Rattle.tss_base.specs.Image.{ImageState}
-use Rattle.tss_protocol.specs.State.{initial_state}
+use Rattle.tss_protocol.specs.State.{State, initial_state}
+use Rattle.tss_protocol.specs.Run.{IsRun}
 use Rattle.tss_protocol.specs.Needs.{round_of}
 use Rattle.tss_phases.proofs.OrderlyEvents.{orderly_at_first}
 use Rattle.tss_laws.specs.Progress.{EnabledLaw}
 use Rattle.tss_laws.specs.Tasks.{spawned_tasks}
 use Rattle.tss_laws.specs.Readers.{arrivals_from, no_arrivals}
 use Rattle.tss_laws.specs.Control.{IsControlled}
-use Rattle.tss_laws.proofs.GroundworkRuns.{RoundFact, IsKeptOnGround, has_groundwork, ground_of_runs}
+use Rattle.tss_laws.proofs.GroundworkRuns.{RoundFact, IsKeptOnGround, ground_of_runs, HasGroundwork-Run}
 use Rattle.tss_laws.proofs.GroundworkEmpty.{IsControlled-bare, IsBare-initial_state}
 use Rattle.tss_laws.proofs.GroundworkJoin.{AreGroupsKept, IsControlled-event}
 use Rattle.tss_laws.proofs.ProgressPhases.{HasLetGo}
@@ -38,16 +40,21 @@ module _ (kept : (e : Event) → AreGroupsKept e) where
         HasBuffers-after_event m all ts g S ground h.0 h.2 e on,
       )
 
-  -- so a run that isn't over can go on
-  pub enabled_of_runs : EnabledLaw
-  enabled_of_runs m i es S accepted fit run =
-      let h = ground_of_runs CanProgress CanProgress-after_event
+  -- so it holds in every run
+  pub can_progress_of_runs : (m : Machine) (i : ImageState) (es : List Event) (S : State) → IsRun m i es S
+      → CanProgress m (spawned_tasks m i es) (round_of m (initial_state i) es)
+      (arrivals_from m (initial_state i) no_arrivals es) S
+  can_progress_of_runs m i es S run =
+      (ground_of_runs CanProgress CanProgress-after_event
       (λ m i. (
         IsControlled-bare (initial_state i) (IsBare-initial_state i) no_arrivals (orderly_at_first i),
         let_go_at_first i,
         HasBuffers-initial_state i,
-      )) m i es S run in
-      let all = spawned_tasks m i es in
-      let ts = round_of m (initial_state i) es in
-      goes_on m all ts (arrivals_from m (initial_state i) no_arrivals es) S (has_groundwork m all ts S h.0) h.1.0 h.1.1
-      h.1.2 fit
+      )) m i es S run).1
+
+  -- and a run that isn't over can go on
+  pub enabled_of_runs : EnabledLaw
+  enabled_of_runs m i es S accepted fit run =
+      let h = can_progress_of_runs m i es S run in
+      goes_on m (spawned_tasks m i es) (round_of m (initial_state i) es)
+      (arrivals_from m (initial_state i) no_arrivals es) S (HasGroundwork-Run m i es S run) h.0 h.1 h.2 fit
