@@ -19,18 +19,17 @@ use Rattle.tss_laws.proofs.HoldersEvents.{keeps_holders}
 use Rattle.tss_laws.proofs.GroundworkJoin.{IsGroupKept, AreGroupsKept, controlled_of_runs}
 
 -- each event keeps each group
-pub keeps_groups : ((o : OpName) → IsGroupKept (event.Release o) HasHolders) → (e : Event) → AreGroupsKept e
-keeps_groups release e = record {
+pub keeps_groups : (e : Event) → AreGroupsKept e
+keeps_groups e = record {
   order = λ m all ts g S ground h on. keeps_order m all ts g S ground h e;
   chains = keeps_chains e;
   entries = keeps_entries e;
   retirement = keeps_retirement e;
   readers = keeps_readers e;
-  holders = keeps_holders release e;
+  holders = keeps_holders e;
 }
 
 -- so every run is controlled
-pub IsControlled-Run : ((o : OpName) → IsGroupKept (event.Release o) HasHolders)
-    → (m : Machine) (i : ImageState) (es : List Event) (S : State) → IsRun m i es S
+pub IsControlled-Run : (m : Machine) (i : ImageState) (es : List Event) (S : State) → IsRun m i es S
     → IsControlled (round_of m (initial_state i) es) (arrivals_from m (initial_state i) no_arrivals es) S
-IsControlled-Run release = controlled_of_runs (keeps_groups release)
+IsControlled-Run = controlled_of_runs keeps_groups

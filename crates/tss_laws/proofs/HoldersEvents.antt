@@ -11,6 +11,7 @@ use Rattle.tss_laws.proofs.HoldersFinished.{HasHolders-finish}
 use Rattle.tss_laws.proofs.HoldersRetired.{HasHolders-retire}
 use Rattle.tss_laws.proofs.HoldersNacked.{HasHolders-nack}
 use Rattle.tss_laws.proofs.HoldersOpen.{HasHolders-open}
+use Rattle.tss_laws.proofs.HoldersReleased.{HasHolders-release}
 use Rattle.tss_laws.proofs.HoldersUsed.{HasHolders-use}
 use Rattle.tss_laws.proofs.HoldersReady.{HasHolders-ready}
 use Rattle.tss_laws.proofs.HoldersLink.{HasHolders-link}
@@ -18,23 +19,23 @@ use Rattle.tss_laws.proofs.GroundworkJoin.{IsGroupKept, AreGroupsKept}
 use Rattle.tss_laws.proofs.GroundworkMain.{keeps_main}
 
 -- each event does
-pub keeps_holders : ((o : OpName) → IsGroupKept (event.Release o) HasHolders) → (e : Event) → IsGroupKept e HasHolders
-keeps_holders release event.Main m all ts g S ground h on order = keeps_main.holders m all ts g S ground h on order
-keeps_holders release event.Take m all ts g S ground h on order = HasHolders-take m all ts g S ground h on
-keeps_holders release (event.Decode o) m all ts g S ground h on order = HasHolders-decode m all ts g S ground h o on
-keeps_holders release (event.Ack o) m all ts g S ground h on order = HasHolders-ack m all ts g S ground h o on
-keeps_holders release (event.Open o) m all ts g S ground h on order = HasHolders-open m all ts g S ground h o on
-keeps_holders release (event.Use o) m all ts g S ground h on order = HasHolders-use m all ts g S ground h o on
-keeps_holders release (event.Ready o) m all ts g S ground h on order =
+pub keeps_holders : (e : Event) → IsGroupKept e HasHolders
+keeps_holders event.Main m all ts g S ground h on order = keeps_main.holders m all ts g S ground h on order
+keeps_holders event.Take m all ts g S ground h on order = HasHolders-take m all ts g S ground h on
+keeps_holders (event.Decode o) m all ts g S ground h on order = HasHolders-decode m all ts g S ground h o on
+keeps_holders (event.Ack o) m all ts g S ground h on order = HasHolders-ack m all ts g S ground h o on
+keeps_holders (event.Open o) m all ts g S ground h on order = HasHolders-open m all ts g S ground h o on
+keeps_holders (event.Use o) m all ts g S ground h on order = HasHolders-use m all ts g S ground h o on
+keeps_holders (event.Ready o) m all ts g S ground h on order =
     HasHolders-ready m all ts g S ground h o on order
-keeps_holders release (event.Link o) m all ts g S ground h on order = HasHolders-link m all ts g S ground h o on order
-keeps_holders release (event.Start w) m all ts g S ground h on order = HasHolders-start m all ts g S ground h w on
-keeps_holders release (event.Exec w) m all ts g S ground h on order = HasHolders-exec m all ts g S ground h w on
-keeps_holders release (event.Finish w) m all ts g S ground h on order = HasHolders-finish m all ts g S ground h w on
-keeps_holders release (event.Release o) m all ts g S ground h on order = release o m all ts g S ground h on order
-keeps_holders release (event.Bye o) m all ts g S ground h on order = HasHolders-bye m all ts g S ground h o on
-keeps_holders release (event.Idle v) m all ts g S ground h on order = HasHolders-idle m all ts g S ground h v on
-keeps_holders release (event.Nack v) m all ts g S ground h on order = HasHolders-nack m all ts g S ground h v on
-keeps_holders release (event.Retire v) m all ts g S ground h on order = HasHolders-retire m all ts g S ground h v on
-keeps_holders release (event.Copy b) m all ts g S ground h on order = HasHolders-copy m all ts g S ground h b on
-keeps_holders release (event.Gone v) m all ts g S ground h on order = HasHolders-gone m all ts g S ground h v on
+keeps_holders (event.Link o) m all ts g S ground h on order = HasHolders-link m all ts g S ground h o on order
+keeps_holders (event.Start w) m all ts g S ground h on order = HasHolders-start m all ts g S ground h w on
+keeps_holders (event.Exec w) m all ts g S ground h on order = HasHolders-exec m all ts g S ground h w on
+keeps_holders (event.Finish w) m all ts g S ground h on order = HasHolders-finish m all ts g S ground h w on
+keeps_holders (event.Release o) m all ts g S ground h on order = HasHolders-release m all ts g S ground h o on
+keeps_holders (event.Bye o) m all ts g S ground h on order = HasHolders-bye m all ts g S ground h o on
+keeps_holders (event.Idle v) m all ts g S ground h on order = HasHolders-idle m all ts g S ground h v on
+keeps_holders (event.Nack v) m all ts g S ground h on order = HasHolders-nack m all ts g S ground h v on
+keeps_holders (event.Retire v) m all ts g S ground h on order = HasHolders-retire m all ts g S ground h v on
+keeps_holders (event.Copy b) m all ts g S ground h on order = HasHolders-copy m all ts g S ground h b on
+keeps_holders (event.Gone v) m all ts g S ground h on order = HasHolders-gone m all ts g S ground h v on
