@@ -14,11 +14,9 @@ use Rattle.tss_laws.specs.Control.{HasGroundwork, IsControlled}
 use Rattle.tss_laws.proofs.EntriesQuietEvents.{HasEntries-quiet, HasRetirement-quiet}
 use Rattle.tss_laws.proofs.EntriesDecode.{HasEntries-decode}
 use Rattle.tss_laws.proofs.RetirementDecode.{HasRetirement-decode}
-use Rattle.tss_laws.proofs.EntriesOpen.{HasEntries-open}
-use Rattle.tss_laws.proofs.RetirementOpen.{HasRetirement-open}
+use Rattle.tss_laws.proofs.EntriesOpen.{HasEntries-open, HasRetirement-open}
 use Rattle.tss_laws.proofs.EntriesUse.{HasEntries-use, HasRetirement-use}
-use Rattle.tss_laws.proofs.EntriesRelease.{HasEntries-release}
-use Rattle.tss_laws.proofs.RetirementReleased.{HasRetirement-release}
+use Rattle.tss_laws.proofs.EntriesRelease.{HasEntries-release, HasRetirement-release}
 use Rattle.tss_laws.proofs.EntriesIdle.{HasEntries-idle, HasRetirement-idle}
 use Rattle.tss_laws.proofs.EntriesNack.{HasEntries-nack, HasRetirement-nack}
 use Rattle.tss_laws.proofs.EntriesRetire.{HasEntries-retire, HasRetirement-retire}
@@ -89,7 +87,8 @@ keeps_retirement event.Take m all ts g S ground k on order = HasRetirement-quiet
 keeps_retirement (event.Decode o) m all ts g S ground k on order =
     HasRetirement-decode m all ts S ground k.orderly k.entries o on k.retirement
 keeps_retirement (event.Ack o) m all ts g S ground k on order = HasRetirement-quiet m S (event.Ack o) tt k.retirement
-keeps_retirement (event.Open o) m all ts g S ground k on order = HasRetirement-open m all ts g S ground k o on
+keeps_retirement (event.Open o) m all ts g S ground k on order =
+    HasRetirement-open m all ts g S ground k o on (after m all ts g S ground k (event.Open o) on order)
 keeps_retirement (event.Use o) m all ts g S ground k on order = HasRetirement-use m all ts g S ground k o on
 keeps_retirement (event.Ready o) m all ts g S ground k on order =
     HasRetirement-quiet m S (event.Ready o) tt k.retirement
@@ -99,7 +98,8 @@ keeps_retirement (event.Start w) m all ts g S ground k on order =
 keeps_retirement (event.Exec w) m all ts g S ground k on order = HasRetirement-quiet m S (event.Exec w) tt k.retirement
 keeps_retirement (event.Finish w) m all ts g S ground k on order =
     HasRetirement-quiet m S (event.Finish w) tt k.retirement
-keeps_retirement (event.Release o) m all ts g S ground k on order = HasRetirement-release m all ts g S ground k o
+keeps_retirement (event.Release o) m all ts g S ground k on order =
+    HasRetirement-release m all ts g S ground k o on (after m all ts g S ground k (event.Release o) on order)
 keeps_retirement (event.Bye o) m all ts g S ground k on order = HasRetirement-quiet m S (event.Bye o) tt k.retirement
 keeps_retirement (event.Idle v) m all ts g S ground k on order = HasRetirement-idle m all ts g S ground k v on
 keeps_retirement (event.Nack v) m all ts g S ground k on order =

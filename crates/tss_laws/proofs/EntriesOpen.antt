@@ -19,7 +19,7 @@ use Rattle.tss_phases.specs.Phase.{phase_of, is_decoded}
 use Rattle.tss_phases.specs.Orderly.{AreOrderly}
 use Rattle.tss_phases.proofs.Tests.{something}
 use Rattle.tss_laws.specs.Chains.{HasChains}
-use Rattle.tss_laws.specs.Entries.{HasEntries}
+use Rattle.tss_laws.specs.Entries.{HasEntries, HasRetirement}
 use Rattle.tss_laws.specs.Readers.{Arrivals}
 use Rattle.tss_laws.specs.Control.{HasGroundwork, IsControlled}
 use Rattle.tss_laws.proofs.SentLemmas.{AllSent, AllSent-append}
@@ -33,7 +33,8 @@ use Rattle.tss_laws.proofs.EntriesRegistered.{entries_registered, opened_decoded
 use Rattle.tss_laws.proofs.EntriesQuiet.{mail_posted_all}
 use Rattle.tss_laws.proofs.EntriesUse.{ready_quiet}
 use Rattle.tss_laws.proofs.EntriesSettleCases.{IsOfSettle, KeepsSettled, posted_all_settled, ready_of_settle, settles_with}
-use Rattle.tss_laws.proofs.RetirementWritten.{entries_then}
+use Rattle.tss_laws.proofs.RetirementWritten.{AfterSettle, entries_then, retirement_then}
+use Rattle.tss_laws.proofs.RetirementOpen.{nacks_ready, quiet_first, retires_added, sound_opened}
 
 module _ (m : Machine) (all ts : List Task) (g : Arrivals) (S : State) (ground : HasGroundwork m all ts S)
     (h : IsControlled ts g S) (o : OpName) (c : OpenContents) (opening : get S.mail.opens o ≡ Some c) where
@@ -70,21 +71,25 @@ module _ (m : Machine) (all ts : List Task) (g : Arrivals) (S : State) (ground :
     abbrev left : Mail
     left = taken S.mail (event.Open o)
 
-    open_first : AreOrderly T → HasEntries ts T
+    open_first : AreOrderly T → HasEntries ts T × HasRetirement T
     open_first after =
         let q = mail_posted_all left (ready_with o o c.storage) (ready_quiet o o c.storage) in
         let mail : T.mail ≡ posted_all left (ready_with o o c.storage) = λ i. (first_state i).mail in
         let registers : Registers S T o c first =
         registers_first m all ts g S ground h o c opening T to (λ i. (first_state i).versions)
         (ap (λ (m : Mail). m.opens) mail ∙ q.opens) (ap (λ (m : Mail). m.uses) mail ∙ q.uses) in
-        entries_registered ts S T h.chains h.entries o c first registers
-        (record {
-          copies = λ i. (first_state i).copies;
-          retires = ap (λ (m : Mail). m.retires) mail ∙ q.retires;
-          gones = ap (λ (m : Mail). m.gones) mail ∙ q.gones;
-          entries = λ i. (first_state i).entries;
-        })
-        no_retire (event_decodes_none after)
+        let quiet = quiet_first o c c.operand.mode in (
+          entries_registered ts S T h.chains h.entries o c first registers
+              (record {
+                copies = λ i. (first_state i).copies;
+                retires = ap (λ (m : Mail). m.retires) mail ∙ q.retires;
+                gones = ap (λ (m : Mail). m.gones) mail ∙ q.gones;
+                entries = λ i. (first_state i).entries;
+              })
+              no_retire (event_decodes_none after),
+          retires_added S T h.retirement o first (λ i. (first_state i).versions) quiet.0 quiet.1 quiet.2
+              (λ i. (first_state i).entries) (ap (λ (m : Mail). m.nacks) mail ∙ nacks_ready left o o c.storage),
+        )
 
   -- ---- it follows another
 
@@ -117,7 +122,8 @@ module _ (m : Machine) (all ts : List Task) (g : Arrivals) (S : State) (ground :
     u_decodes_none after q p among e = same_decoded q ∙ event_decodes_none after q p among e
 
     behind : (after : AreOrderly T) (ms : List Message) → AllSent (IsOfSettle f.version) ms
-        → T ≡ with_versioned (without S (event.Open o)) (sending ms (settled U.versions f.version)) → HasEntries ts T
+        → T ≡ with_versioned (without S (event.Open o)) (sending ms (settled U.versions f.version))
+        → HasEntries ts T × HasRetirement T
     behind after ms news is =
         let d = settled U.versions f.version in
         let w = settles_with ts U u_chains f.version others in
@@ -125,21 +131,24 @@ module _ (m : Machine) (all ts : List Task) (g : Arrivals) (S : State) (ground :
         subst (KeepsSettled f.version U.mail) (sym (λ i. (is i).mail))
         (posted_all_settled f.version U.mail (ms ++ d.sent)
         (AllSent-append (IsOfSettle f.version) ms d.sent news w.sent)) in
-        entries_then ts U T f.version
-        (record {
+        let settles : AfterSettle ts U T f.version =
+        record {
           versions = λ i. (is i).versions;
           copies = λ i. (is i).copies;
           entries = λ i. (is i).entries;
           mail = kept;
           stays = (ground.places.versions f.version u at).2;
           decoded = u_decodes_none after;
-        })
-        u_chains others u_entries
+        } in (
+          entries_then ts U T f.version settles u_chains others u_entries,
+          retirement_then ts U T f.version settles u_chains others
+              (sound_opened m all ts g S ground h o c opening f to u at),
+        )
 
     how_state : T ≡ with_versioned (without S (event.Open o)) (opened_how S.versions o c f f.how)
     how_state = open_state ∙ ap (λ f. with_versioned (without S (event.Open o)) (opened_by S.versions o c f)) to
 
-    by_how : AreOrderly T → (how : How) → f.how ≡ how → HasEntries ts T
+    by_how : AreOrderly T → (how : How) → f.how ≡ how → HasEntries ts T × HasRetirement T
     by_how after Beside is =
         behind after (ready_with o o c.storage) (ready_of_settle f.version o o c.storage)
         (how_state ∙ ap (λ how. with_versioned (without S (event.Open o)) (opened_how S.versions o c f how)) is)
@@ -147,7 +156,8 @@ module _ (m : Machine) (all ts : List Task) (g : Arrivals) (S : State) (ground :
         behind after [] tt
         (how_state ∙ ap (λ how. with_versioned (without S (event.Open o)) (opened_how S.versions o c f how)) is)
 
-  by_follow : AreOrderly T → (f : Option Follow) → c.follows ≡ f → is_followable S.versions f ≡ true → HasEntries ts T
+  by_follow : AreOrderly T → (f : Option Follow) → c.follows ≡ f → is_followable S.versions f ≡ true
+      → HasEntries ts T × HasRetirement T
   by_follow after None to on = open_first to after
   by_follow after (Some f) to on =
       let u = something is_some (get S.versions f.version) refl on in
@@ -161,4 +171,12 @@ module _ (m : Machine) (all ts : List Task) (g : Arrivals) (S : State) (ground :
   unfolding is_enabled
   HasEntries-open on after =
       let c = something (can_open_message S) (get S.mail.opens o) refl on in
-      by_follow m all ts g S ground h o c.0 c.1 after c.0.follows refl (sym (ap (can_open_message S) c.1) ∙ on)
+      (by_follow m all ts g S ground h o c.0 c.1 after c.0.follows refl (sym (ap (can_open_message S) c.1) ∙ on)).0
+
+  -- asking and refusing after an open
+  pub HasRetirement-open : IsEnabled m S (event.Open o) → AreOrderly (after_event m S (event.Open o))
+      → HasRetirement (after_event m S (event.Open o))
+  unfolding is_enabled
+  HasRetirement-open on after =
+      let c = something (can_open_message S) (get S.mail.opens o) refl on in
+      (by_follow m all ts g S ground h o c.0 c.1 after c.0.follows refl (sym (ap (can_open_message S) c.1) ∙ on)).1

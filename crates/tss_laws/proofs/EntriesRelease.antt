@@ -20,20 +20,21 @@ use Rattle.tss_phases.specs.Orderly.{AreOrderly}
 use Rattle.tss_phases.proofs.Tests.{something}
 use Rattle.tss_laws.specs.Members.{operand_among}
 use Rattle.tss_laws.specs.Chains.{HasChains}
-use Rattle.tss_laws.specs.Entries.{IsLeaving, IsRetiring, HasEntries}
+use Rattle.tss_laws.specs.Entries.{IsLeaving, IsRetiring, HasEntries, HasRetirement}
 use Rattle.tss_laws.specs.Readers.{Arrivals}
 use Rattle.tss_laws.specs.Holders.{IsOwnOrRead}
 use Rattle.tss_laws.specs.Control.{HasGroundwork, IsControlled}
 use Rattle.tss_laws.proofs.SentLemmas.{AllSent, AllSent-append}
 use Rattle.tss_laws.proofs.ChainsAlike.{AreAlike}
 use Rattle.tss_laws.proofs.ChainsSettled.{HasChains-written}
-use Rattle.tss_laws.proofs.ChainsReleased.{others_written}
+use Rattle.tss_laws.proofs.ChainsReleased.{others_written, produced_like, released_like}
 use Rattle.tss_laws.proofs.ReleaseFacts.{Releases, releases_facts, released_fewer}
 use Rattle.tss_laws.proofs.EntriesFrames.{DecodesNoMore}
 use Rattle.tss_laws.proofs.EntriesDecoded.{later_decodes_none}
 use Rattle.tss_laws.proofs.EntriesWritten.{total_written, entries_written}
 use Rattle.tss_laws.proofs.EntriesSettleCases.{IsOfSettle, KeepsSettled, posted_all_settled, ready_of_settle, settles_with}
-use Rattle.tss_laws.proofs.RetirementWritten.{entries_then}
+use Rattle.tss_laws.proofs.EntriesSettled.{AsksSoundly}
+use Rattle.tss_laws.proofs.RetirementWritten.{AsksAlike, sound_written, AfterSettle, entries_then, retirement_then}
 
 -- what an event leaves that writes a version over and then settles it
 pub record WritesAndSettles (ts : List Task) (S T : State) (v : OpName) (y : Version) : Type 0 where
@@ -46,6 +47,7 @@ pub record WritesAndSettles (ts : List Task) (S T : State) (v : OpName) (y : Ver
 module _ (m : Machine) (all ts : List Task) (g : Arrivals) (S : State) (ground : HasGroundwork m all ts S)
     (h : IsControlled ts g S) (v : OpName) (x y : Version) (at : get S.versions v ≡ Some x) (like : AreAlike x y)
     (registered : y.registered ≡ x.registered)
+    (asks : AsksAlike x y)
     (awake : (e : Entry) → get S.entries x.object.base ≡ Some e → e.object ≡ x.object → e.retiring ≡ false)
     (T : State) (d : WritesAndSettles ts S T v y) where
   -- the state before the settle
@@ -75,39 +77,55 @@ module _ (m : Machine) (all ts : List Task) (g : Arrivals) (S : State) (ground :
       })
       awake
 
-  -- entries after it
-  pub entries_written_settled : HasEntries ts T
-  entries_written_settled =
-      entries_then ts U T v (record {
-        versions = d.versions;
-        copies = d.copies;
-        entries = d.entries;
-        mail = record {
-          opens = d.mail.opens;
-          uses = d.mail.uses;
-          nacks = d.mail.nacks;
-          retires = d.mail.retires;
-          back = d.mail.back;
-          still = d.mail.still;
-        };
-        stays = (ground.places.versions v x at).2;
-        decoded = d.decoded;
-      }) chains (others_written S h.retirement v y) entries
+  sound : AsksSoundly U
+  sound = sound_written S U v x y at asks refl refl refl (λ w n. (ground.asking.nacks w n).0) h.retirement
+
+  settles : AfterSettle ts U T v
+  settles = record {
+    versions = d.versions;
+    copies = d.copies;
+    entries = d.entries;
+    mail = record {
+      opens = d.mail.opens;
+      uses = d.mail.uses;
+      nacks = d.mail.nacks;
+      retires = d.mail.retires;
+      back = d.mail.back;
+      still = d.mail.still;
+    };
+    stays = (ground.places.versions v x at).2;
+    decoded = d.decoded;
+  }
+
+  -- entries after it, and asking and refusing
+  pub written_settled : HasEntries ts T × HasRetirement T
+  written_settled =
+      let others = others_written S h.retirement v y in (
+        entries_then ts U T v settles chains others entries,
+        retirement_then ts U T v settles chains others sound,
+      )
 
 -- ---- release
 
-produced_like : (x : Version) → (x.storage ≡ None → ⊥) → AreAlike x (produced_now x)
-produced_like x stored = record {
+produced_asks : (x : Version) → AsksAlike x (produced_now x)
+produced_asks x = record {
   object = refl;
-  storage = refl;
-  predecessor = refl;
-  successor = refl;
-  produced = λ e. absurd (stored e);
+  asked = refl;
+  refused = refl;
+  oldest = refl;
+  produced = λ p. refl;
+  released = omega arith;
 }
 
-released_like : (x : Version) (o : OpName) → AreAlike x (released_once x o)
-released_like x o =
-    record { object = refl; storage = refl; predecessor = refl; successor = refl; produced = λ e. refl }
+released_asks : (x : Version) (o : OpName) → AsksAlike x (released_once x o)
+released_asks x o = record {
+  object = refl;
+  asked = refl;
+  refused = refl;
+  oldest = refl;
+  produced = λ p. p;
+  released = omega arith;
+}
 
 head_of_settle : (v w : OpName) (x : Version) (head : Option OpName) → AllSent (IsOfSettle v) (head_ready w x head)
 head_of_settle v w x None = tt
@@ -178,7 +196,7 @@ module _ (m : Machine) (all ts : List Task) (g : Arrivals) (S : State) (ground :
       ∙ ap (λ x. with_versioned (without S (event.Release o)) (released_at S.versions o v c.producer x)) f.there
 
   module _ (after : AreOrderly T) (y : Version) (ms : List Message) (news : AllSent (IsOfSettle v) ms)
-      (like : AreAlike x y) (registered : y.registered ≡ x.registered)
+      (like : AreAlike x y) (registered : y.registered ≡ x.registered) (asks : AsksAlike x y)
       (is : T ≡ with_versioned (without S (event.Release o))
       (sending ms (settled (put_version S.versions v y) v))) where
     abbrev W : State
@@ -198,9 +216,9 @@ module _ (m : Machine) (all ts : List Task) (g : Arrivals) (S : State) (ground :
         (posted_all_settled v (taken S.mail (event.Release o)) (ms ++ d.sent)
         (AllSent-append (IsOfSettle v) ms d.sent news w.sent))
 
-    released_entries : HasEntries ts T
-    released_entries =
-        entries_written_settled m all ts g S ground h v x y f.there like registered awake T (record {
+    released : HasEntries ts T × HasRetirement T
+    released =
+        written_settled m all ts g S ground h v x y f.there like registered asks awake T (record {
           versions = λ i. (is i).versions;
           copies = λ i. (is i).copies;
           entries = λ i. (is i).entries;
@@ -215,14 +233,15 @@ module _ (m : Machine) (all ts : List Task) (g : Arrivals) (S : State) (ground :
           decoded = λ q p among e. later_decodes_none m all S h.orderly (event.Release o) refl after q e;
         })
 
-  release_by : AreOrderly T → (b : Bool) → c.producer ≡ b → HasEntries ts T
+  release_by : AreOrderly T → (b : Bool) → c.producer ≡ b → HasEntries ts T × HasRetirement T
   release_by after true is =
-      released_entries after (produced_now x) (head_ready v x x.head ++ Bye o false ∷ [])
+      released after (produced_now x) (head_ready v x x.head ++ Bye o false ∷ [])
       (AllSent-append (IsOfSettle v) (head_ready v x x.head) (Bye o false ∷ []) (head_of_settle v v x x.head) (tt, tt))
-      (produced_like x (λ e. none-some f.storage (sym e ∙ f.stored))) refl
+      (produced_like x (λ e. none-some f.storage (sym e ∙ f.stored))) refl (produced_asks x)
       (release_state ∙ ap (λ b. with_versioned (without S (event.Release o)) (released_by S.versions o v x b)) is)
   release_by after false is =
-      released_entries after (released_once x o) (Bye o (not (is_last o x.tail)) ∷ []) (tt, tt) (released_like x o) refl
+      released after (released_once x o) (Bye o (not (is_last o x.tail)) ∷ []) (tt, tt) (released_like x o) refl
+      (released_asks x o)
       (release_state ∙ ap (λ b. with_versioned (without S (event.Release o)) (released_by S.versions o v x b)) is)
 
 module _ (m : Machine) (all ts : List Task) (g : Arrivals) (S : State) (ground : HasGroundwork m all ts S)
@@ -233,4 +252,12 @@ module _ (m : Machine) (all ts : List Task) (g : Arrivals) (S : State) (ground :
   unfolding is_enabled
   HasEntries-release on after =
       let c = something is_some (get S.mail.releases o) refl on in
-      release_by m all ts g S ground h o c.0 c.1 after c.0.producer refl
+      (release_by m all ts g S ground h o c.0 c.1 after c.0.producer refl).0
+
+  -- asking and refusing after a release
+  pub HasRetirement-release : IsEnabled m S (event.Release o) → AreOrderly (after_event m S (event.Release o))
+      → HasRetirement (after_event m S (event.Release o))
+  unfolding is_enabled
+  HasRetirement-release on after =
+      let c = something is_some (get S.mail.releases o) refl on in
+      (release_by m all ts g S ground h o c.0 c.1 after c.0.producer refl).1

@@ -166,7 +166,6 @@ pub mod ReadersRelease
 pub mod HoldersUse
 pub mod HoldersUsed
 pub mod EntriesSettled
-pub mod RetirementSettled
 pub mod ReadersOpened
 pub mod ProgressLetGo
 pub mod RetirementWritten
@@ -180,7 +179,6 @@ pub mod BoundFlight
 pub mod BoundTables
 pub mod BoundStations
 pub mod HoldersPromises
-pub mod RetirementReleased
 pub mod ReadersFollowing
 pub mod ReadersOpen
 pub mod RetirementOpen
@@ -196,7 +194,6 @@ pub mod EntriesOpen
 pub mod EntriesEvents
 pub mod Values
 pub mod ProgressSettled
-pub mod EntriesRegistered
 pub mod BoundObjects
 pub mod BoundCopies
 pub mod BoundEvents
@@ -221,3 +218,4 @@ pub mod HoldersOpen
 pub mod HoldersReleased
 pub mod HoldersEvents
 pub mod GroundworkControl
+pub mod EntriesRegistered

@@ -1,38 +1,36 @@
--- Asking and refusing after an open.
-use Rattle.std.proofs.Common.{◌≡◌, ◌≢◌, ◌≤◌, ◌⊎◌, true, List, Option, Some, None, refl, sym, ap, ◌∙◌, subst, inl, inr, true≢false}
-use Rattle.std.specs.Prelude.{is_some}
-use Rattle.std.specs.FinMap.{get, remove}
+-- Asking and refusing where an open has been taken and its version is registered.
+use Rattle.std.proofs.Common.{◌≡◌, ◌≢◌, ℕ, ◌≤◌, ◌⊎◌, List, Option, Some, None, refl, sym, ap, ◌∙◌, subst, inl, inr}
+use Rattle.std.specs.FinMap.{get}
 use Rattle.std.proofs.lemmas.Option.{none-some, same_Some}
 use Rattle.tss_base.specs.declared.operand.OpName.{OpName}
 use Rattle.tss_base.specs.declared.operand.Mode.{Mode}
 use Rattle.tss_base.specs.declared.operand.Mode.TheVariants.{Input, Output, Inout}
 use Rattle.tss_base.specs.declared.operand.Task.{Task}
 use Rattle.tss_base.specs.declared.machine.Machine.{Machine}
-use Rattle.tss_base.specs.declared.event.Event.TheVariants as event
 use Rattle.tss_base.specs.declared.event.Follow.{Follow}
 use Rattle.tss_maps.proofs.Keys.{name_order, decide_key}
 use Rattle.tss_maps.proofs.Changes.{from_inserted}
-use Rattle.tss_protocol.specs.Mail.{OpenContents, taken}
+use Rattle.tss_protocol.specs.Mail.{StorageName, OpenContents, Mail, posted_all}
 use Rattle.tss_protocol.specs.State.{State, Version}
-use Rattle.tss_protocol.specs.Versions.{put_version, first_version, followed, settled, opened_by, after_open, is_followable}
-use Rattle.tss_protocol.specs.UnitMachine.{IsEnabled, is_enabled, can_open_message, after_event, with_versioned, without, open_message_taken}
+use Rattle.tss_protocol.specs.Versions.{ready_with, put_version, first_version}
 use Rattle.tss_laws.specs.Entries.{HasCause, IsSettled, HasRetirement}
 use Rattle.tss_laws.specs.Readers.{Arrivals}
 use Rattle.tss_laws.specs.Control.{HasGroundwork, IsControlled}
-use Rattle.tss_laws.proofs.SentLemmas.{posted_all-later, after_open-later}
-use Rattle.tss_laws.proofs.JointLemmas.{joint_open}
 use Rattle.tss_laws.proofs.RetirementFrames.{cause_same}
-use Rattle.tss_laws.proofs.RetirementSettled.{RetiresBut, HasRetirement-settled}
-use Rattle.tss_laws.proofs.RetirementReleased.{nacks_left, quiet_calm}
+use Rattle.tss_laws.specs.Asking.{AsksFor}
+use Rattle.tss_laws.proofs.EntriesSettled.{AsksSoundly}
 use Rattle.tss_laws.proofs.ChainsRegistered.{linked_to}
-use Rattle.tss_laws.proofs.ChainsOpened.{HasChains-registered}
-use Rattle.tss_laws.proofs.ChainsOpen.{following, at_followed, behind_followed, beside_followed, others_followed, registered_state, registers_behind, front_apart, fresh, part_how}
-use Rattle.tss_laws.proofs.ReleaseFacts.{released_few}
+use Rattle.tss_laws.proofs.ChainsOpen.{following, at_followed, behind_followed, beside_followed, registered_state, front_apart, fresh}
+
+-- a ready is no nack
+pub nacks_ready : (m : Mail) (o v : OpName) (s : Option StorageName) → (posted_all m (ready_with o v s)).nacks ≡ m.nacks
+nacks_ready m o v None = refl
+nacks_ready m o v (Some s) = refl
 
 -- ---- a version that is new
 
 -- one that follows nothing has nothing to say of asking
-quiet_first : (o : OpName) (c : OpenContents) (mode : Mode)
+pub quiet_first : (o : OpName) (c : OpenContents) (mode : Mode)
     → ((first_version o c.operand.object c.storage mode).asked ≡ None)
     × ((first_version o c.operand.object c.storage mode).refused ≡ None)
     × IsSettled (first_version o c.operand.object c.storage mode)
@@ -51,7 +49,7 @@ module _ (S T : State) (h : HasRetirement S) (o : OpName) (n : Version) (put : T
   added_from w t e = from_inserted name_order S.versions o n w t (sym (ap (λ m. get m w) put) ∙ e)
 
   -- asking and refusing with it
-  retires_added : HasRetirement T
+  pub retires_added : HasRetirement T
   retires_added = record {
     asked = λ w t count e asks. elim (added_from w t e) [
       | inl new ↦
@@ -109,9 +107,24 @@ module _ (m : Machine) (all ts : List Task) (g : Arrivals) (S : State) (ground :
       ])
     ]
 
-    -- all is right but that the one that is followed may not be settled
-    retires_opened : RetiresBut U f.version
-    retires_opened = record {
+    asks_still : (w : OpName) (count : ℕ) (x : Version) → get S.versions w ≡ Some x → x.asked ≡ Some count
+        → AsksFor U.versions w count
+    asks_still w count x e asks =
+        let far : w ≢ o = λ is.
+        none-some x (sym (fresh m all ts g S ground k o c opening) ∙ ap (λ q. get S.versions q) (sym is) ∙ e) in
+        elim (decide_key name_order w f.version) [
+          | inl is ↦
+              let same = same_Some u x (sym there ∙ ap (λ q. get S.versions q) (sym is) ∙ e) in (
+                linked_to o f u,
+                ap (λ q. get U.versions q) is ∙ behind_followed S.versions o c f apart u there,
+                ap (λ (z : Version). z.asked) same ∙ asks,
+              )
+          | inr other ↦ (x, beside_followed S.versions o c f apart w far other ∙ e, asks)
+        ]
+
+    -- each of them asks and was refused rightly
+    pub sound_opened : AsksSoundly U
+    sound_opened = record {
       asked = λ w t count e asks. elim (opened_from w t e) [
         | inl new ↦ absurd (none-some count (ap (λ (k : Version). k.asked) (sym new.1) ∙ asks))
         | inr (inl front) ↦
@@ -143,68 +156,7 @@ module _ (m : Machine) (all ts : List Task) (g : Arrivals) (S : State) (ground :
             (ap (λ q. get S.mail.nacks q) (sym front.0) ∙ n)))
         | inr (inr old) ↦ k.retirement.refusing w t count old asks n
       ];
-      calm = λ w t e quiet n. elim (opened_from w t e) [
-        | inl new ↦
-            let a = (ground.asking.nacks o (ap (λ q. get S.mail.nacks q) (sym new.0) ∙ n)).0 in
-            none-some a.1.0 (sym (fresh m all ts g S ground k o c opening) ∙ a.1.1)
-        | inr (inl front) ↦
-            quiet_calm m all ts S ground f.version u there (ap (λ (k : Version). k.asked) (sym front.1) ∙ quiet)
-            (ap (λ q. get S.mail.nacks q) (sym front.0) ∙ n)
-        | inr (inr old) ↦ quiet_calm m all ts S ground w t old quiet n
-      ];
-      others = others_followed S.versions o c f apart (λ q y e. k.retirement.settled q y e);
+      nacks = λ w n.
+          let a = (ground.asking.nacks w n).0 in
+          (a.0, asks_still w a.0 a.1.0 a.1.1 a.1.2);
     }
-
-    retires_behind : (T : State) → T.versions ≡ (settled (followed S.versions o c f) f.version).part
-        → T.mail.opens ≡ remove S.mail.opens o → T.mail.uses ≡ S.mail.uses → T.entries ≡ S.entries
-        → T.mail.nacks ≡ S.mail.nacks → HasRetirement T
-    retires_behind T part opens uses entries nacks =
-        HasRetirement-settled ts U T
-        (HasChains-registered ts S U k.chains o c (following c f)
-        (registers_behind m all ts g S ground k o c opening f to u there))
-        f.version retires_opened part opens uses
-        (λ y e.
-        subst (λ (z : Version). z.released ≤ z.registered)
-        (same_Some (linked_to o f u) y (sym (behind_followed S.versions o c f apart u there) ∙ e))
-        (released_few ts g S k.readers f.version u there))
-        entries nacks
-
-  retires_front : (T : State) (f : Follow) → c.follows ≡ Some f → (u : Option Version)
-      → get S.versions f.version ≡ u → is_some u ≡ true
-      → T.versions ≡ (opened_by S.versions o c c.follows).part → T.mail.opens ≡ remove S.mail.opens o
-      → T.mail.uses ≡ S.mail.uses → T.entries ≡ S.entries → T.mail.nacks ≡ S.mail.nacks → HasRetirement T
-  retires_front T f to None there on part opens uses entries nacks = absurd (true≢false (sym on))
-  retires_front T f to (Some u) there on part opens uses entries nacks =
-      retires_behind f to u there T
-      (part ∙ ap (λ s. (opened_by S.versions o c s).part) to ∙ part_how m all ts g S ground k o c opening f f.how)
-      opens uses entries nacks
-
-  retires_by : (T : State) (s : Option Follow) → c.follows ≡ s → is_followable S.versions s ≡ true
-      → T.versions ≡ (opened_by S.versions o c c.follows).part → T.mail.opens ≡ remove S.mail.opens o
-      → T.mail.uses ≡ S.mail.uses → T.entries ≡ S.entries → T.mail.nacks ≡ S.mail.nacks → HasRetirement T
-  retires_by T None to on part opens uses entries nacks =
-      let q = quiet_first o c c.operand.mode in
-      retires_added S T k.retirement o (first_version o c.operand.object c.storage c.operand.mode)
-      (part ∙ ap (λ s. (opened_by S.versions o c s).part) to) q.0 q.1 q.2 entries nacks
-  retires_by T (Some f) to on part opens uses entries nacks =
-      retires_front T f to (get S.versions f.version) refl on part opens uses entries nacks
-
-module _ (m : Machine) (all ts : List Task) (g : Arrivals) (S : State) (ground : HasGroundwork m all ts S)
-    (k : IsControlled ts g S) where
-  retires_open : (o : OpName) (c : Option OpenContents) → get S.mail.opens o ≡ c → can_open_message S c ≡ true
-      → HasRetirement (open_message_taken (without S (event.Open o)) o c)
-  retires_open o None e on = absurd (true≢false (sym on))
-  retires_open o (Some c) e on =
-      let d = after_open S.versions o c in
-      let mail = taken S.mail (event.Open o) in
-      let same = posted_all-later mail d.sent (after_open-later S.versions o c) in
-      let nacks =
-      joint_open (λ vs m. m.nacks ≡ S.mail.nacks) (nacks_left S.mail.nacks) S.versions mail o c
-      (λ x object quiet. refl) in
-      retires_by m all ts g S ground k o c e (with_versioned (without S (event.Open o)) d) c.follows refl on refl
-      same.opens same.uses refl nacks
-
-  -- open
-  pub HasRetirement-open : (o : OpName) → IsEnabled m S (event.Open o) → HasRetirement (after_event m S (event.Open o))
-  unfolding is_enabled after_event
-  HasRetirement-open o on = retires_open o (get S.mail.opens o) refl on
