@@ -219,3 +219,4 @@ pub mod HoldersReleased
 pub mod HoldersEvents
 pub mod GroundworkControl
 pub mod EntriesRegistered
+pub mod BuffersKept
