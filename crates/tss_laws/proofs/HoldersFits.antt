@@ -1,7 +1,6 @@
 -- What an operand holds, by what is looked up of it and the link that is under way for it.
-use Rattle.std.proofs.Common.{◌≡◌, ◌≢◌, ◌⊎◌, Bool, true, false, List, Option, Some, None, refl, sym, ap, ◌∙◌, subst, inl, inr, true≢false}
+use Rattle.std.proofs.Common.{◌≡◌, ◌⊎◌, Bool, true, false, List, Option, Some, None, sym, ap, ◌∙◌, subst, inl, inr}
 use Rattle.std.specs.FinMap.{get}
-use Rattle.std.proofs.lemmas.Option.{none-some, same_Some}
 use Rattle.tss_base.specs.declared.operand.OpName.{OpName}
 use Rattle.tss_base.specs.declared.operand.Operand.{Operand}
 use Rattle.tss_base.specs.declared.operand.Task.{Task}
@@ -10,14 +9,14 @@ use Rattle.tss_model.specs.Access.{writes}
 use Rattle.tss_protocol.specs.Mail.{Source, ReleaseContents}
 use Rattle.tss_protocol.specs.State.{State, OperandState, Version}
 use Rattle.tss_protocol.specs.Stations.{operand_at}
-use Rattle.tss_phases.specs.Phase.{Phase, Decoding, Sent, Waiting, Told, Ready, Releasing, Leaving, Promised, Left, LookUps, look_ups, phase_at, phase_of}
+use Rattle.tss_phases.specs.Phase.{Phase, Decoding, Sent, Waiting, Told, Ready, Releasing, Promised, Left, LookUps, look_ups, phase_at, phase_of}
 use Rattle.tss_phases.specs.Openers.{holds_version, version_opener}
 use Rattle.tss_phases.specs.Orderly.{IsOrderly, AreOrderly}
 use Rattle.tss_phases.proofs.PhaseLemmas.{phase_telling}
 use Rattle.tss_phases.proofs.OrderlyLemmas.{telling_stands}
 use Rattle.tss_laws.specs.Members.{operand_among}
 use Rattle.tss_laws.specs.Readers.{Arrivals, Has}
-use Rattle.tss_laws.specs.Holders.{IsTrue, link_fits, PromiseFits, HasLinks, HasHolders}
+use Rattle.tss_laws.specs.Holders.{IsTrue, link_fits, PromiseFits, HasHolders}
 use Rattle.tss_laws.specs.Runners.{HasRunners}
 
 -- the links of an operand with a record: whether it writes, what is looked up, the link under way, and the record

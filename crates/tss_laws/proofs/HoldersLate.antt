@@ -1,21 +1,15 @@
 -- An operand whose release has been sent is of a task that has finished, whatever event happens.
-use Rattle.std.proofs.Common.{◌≡◌, ◌≢◌, ℕ, suc, Bool, true, false, List, map, Option, Some, None, refl, sym, ap, ◌∙◌, subst, inl, inr, ◌⊎◌, arith, true≢false}
-use Rattle.std.specs.Prelude.{◌&&◌, not, slice_get, is_some, option_map}
-use Rattle.std.specs.FinMap.{get, insert}
-use Rattle.std.proofs.lemmas.Option.{none-some, same_Some, slice_get-map}
+use Rattle.std.proofs.Common.{◌≡◌, ◌≢◌, Bool, true, false, List, Option, Some, None, refl, sym, ap, ◌∙◌, true≢false}
+use Rattle.std.specs.Prelude.{slice_get, option_map}
+use Rattle.std.proofs.lemmas.Option.{none-some, slice_get-map}
 use Rattle.tss_base.specs.declared.operand.OpName.{OpName}
 use Rattle.tss_base.specs.declared.operand.Operand.{Operand}
-use Rattle.tss_base.specs.declared.operand.Task.{Task}
-use Rattle.tss_base.specs.declared.machine.Machine.{Machine}
-use Rattle.tss_base.specs.declared.event.Event.{Event}
-use Rattle.tss_base.specs.declared.event.Event.TheVariants as event
 use Rattle.tss_base.specs.declared.event.Stage.TheVariants as stage
-use Rattle.tss_maps.proofs.Keys.{nat_order, decide_key}
-use Rattle.tss_protocol.specs.State.{State, OperandState, Flying}
+use Rattle.tss_protocol.specs.State.{State, OperandState}
 use Rattle.tss_protocol.specs.Stations.{operand_at}
 use Rattle.tss_phases.specs.Phase.{Phase, Ahead, Decoding, Sent, Waiting, Told, Ready, Releasing, Leaving, Promised, Left, phase_of}
 use Rattle.tss_phases.specs.Told.{phase_told}
-use Rattle.tss_phases.specs.Leaving.{phase_linked, phase_parted}
+use Rattle.tss_phases.specs.Leaving.{phase_linked}
 use Rattle.tss_phases.proofs.Records.{operand_in, task_of_record}
 use Rattle.tss_laws.specs.Runners.{IsAtStage, is_late}
 use Rattle.tss_laws.proofs.FrontLemmas.{ComeFrom}

@@ -1,17 +1,15 @@
 -- No event but a finish lets an operand go that wasn't let go before.
-use Rattle.std.proofs.Common.{◌≡◌, ◌≢◌, ℕ, Bool, true, false, Some, None, refl, ap, ◌∙◌}
-use Rattle.std.specs.Prelude.{◌&&◌, not, is_some}
+use Rattle.std.proofs.Common.{◌≡◌, Bool, true, false, refl, ap, ◌∙◌}
+use Rattle.std.specs.Prelude.{is_some}
 use Rattle.std.specs.FinMap.{get}
 use Rattle.tss_base.specs.declared.operand.OpName.{OpName}
-use Rattle.tss_base.specs.declared.operand.Operand.{Operand}
 use Rattle.tss_base.specs.declared.machine.Machine.{Machine}
 use Rattle.tss_base.specs.declared.event.Event.TheVariants as event
-use Rattle.tss_protocol.specs.Mail.{Source, OpenContents, ReleaseContents, Message}
-use Rattle.tss_protocol.specs.State.{State, OperandState, Version}
-use Rattle.tss_protocol.specs.Stations.{operand_at, has_passed, sent_by_ready, sent_by_link}
-use Rattle.tss_protocol.specs.Versions.{after_open, after_use, after_release, after_nack}
+use Rattle.tss_protocol.specs.State.{State}
+use Rattle.tss_protocol.specs.Stations.{sent_by_ready, sent_by_link}
+use Rattle.tss_protocol.specs.Versions.{after_open, after_use, after_nack}
 use Rattle.tss_protocol.specs.UnitMachine.{is_enabled, IsEnabled, after_event, can_decode_message, can_open_message, can_use_message}
-use Rattle.tss_phases.specs.Phase.{Sent, Waiting, Ready, Releasing, Leaving, look_ups, phase_of}
+use Rattle.tss_phases.specs.Phase.{Sent, Waiting, Ready, Releasing, Leaving, look_ups}
 use Rattle.tss_phases.specs.Told.{tells, phase_told, WaitsIfTold}
 use Rattle.tss_phases.specs.Orderly.{AreOrderly, TellWaiting, OpensForWaiting, ReadiesWaiting, LinksWaiting, ReleasesRegistered}
 use Rattle.tss_phases.proofs.DecodeEvent.{phase_of-decode, phase_of-decode-other}

@@ -1,8 +1,8 @@
 -- What operands hold after a link: its operand holds it or has passed it on, and then the next one is told the same.
-use Rattle.std.proofs.Common.{◌≡◌, ◌≢◌, ◌⊎◌, ℕ, Bool, true, false, if◌then◌else◌, List, Option, Some, None, refl, sym, ap, ◌∙◌, subst, inl, inr, true≢false}
+use Rattle.std.proofs.Common.{◌≡◌, ◌≢◌, ℕ, Bool, true, false, if◌then◌else◌, List, Option, Some, None, refl, sym, ap, ◌∙◌, subst, inl, inr, true≢false}
 use Rattle.std.specs.Prelude.{is_some, slice_get}
 use Rattle.std.specs.FinMap.{get, insert, remove}
-use Rattle.std.proofs.lemmas.Option.{none-some, same_Some}
+use Rattle.std.proofs.lemmas.Option.{none-some}
 use Rattle.tss_base.specs.declared.operand.OpName.{OpName}
 use Rattle.tss_base.specs.declared.operand.Mode.{Mode}
 use Rattle.tss_base.specs.declared.operand.Mode.TheVariants.{Input, Output, Inout}
@@ -16,7 +16,7 @@ use Rattle.tss_maps.proofs.Changes.{at_removed, beside_removed}
 use Rattle.tss_model.specs.Access.{writes}
 use Rattle.tss_protocol.specs.Mail.{Source, StorageName, Message}
 use Rattle.tss_protocol.specs.State.{State, OperandState, Flying, Version, Outcome}
-use Rattle.tss_protocol.specs.Stations.{operand_at, operand_after_link, sent_by_link, is_gone, remaining_tasks}
+use Rattle.tss_protocol.specs.Stations.{operand_at, sent_by_link, is_gone, remaining_tasks}
 use Rattle.tss_protocol.specs.UnitMachine.{is_enabled, IsEnabled, after_event, with_flight, without, link_message_taken}
 use Rattle.tss_phases.specs.Phase.{Phase, Ahead, Decoding, Sent, Waiting, Told, Ready, Releasing, Leaving, Promised, Left, LookUps, look_ups, phase_at, phase_of, is_ahead}
 use Rattle.tss_phases.specs.Leaving.{phase_linked}
@@ -24,7 +24,7 @@ use Rattle.tss_phases.specs.Told.{tells, phase_told}
 use Rattle.tss_phases.specs.Openers.{produced_opener, open_opener, opener_by, version_opener}
 use Rattle.tss_phases.specs.Orderly.{IsOrderly, AreOrderly, LinksWaiting, TellWaiting}
 use Rattle.tss_phases.proofs.Received.{received_all}
-use Rattle.tss_phases.proofs.News.{AreNews, untold, told}
+use Rattle.tss_phases.proofs.News.{untold, told}
 use Rattle.tss_phases.proofs.Records.{record_put}
 use Rattle.tss_phases.proofs.PhaseLemmas.{same_station}
 use Rattle.tss_phases.proofs.LeavingTasks.{remaining_beside, done_from_test}
@@ -42,7 +42,7 @@ use Rattle.tss_laws.proofs.HoldersNext.{linking_waits}
 use Rattle.tss_laws.proofs.HoldersFits.{Holding, HoldsIn, HasOpened, HasCome}
 use Rattle.tss_laws.proofs.HoldersMoves.{TellsTrue, holding_news}
 use Rattle.tss_laws.proofs.HoldersTurns.{holding_remaining, holding_linked}
-use Rattle.tss_laws.proofs.HoldersFrames.{IsSameHolder, IsChangedHolder, holders_kept}
+use Rattle.tss_laws.proofs.HoldersFrames.{IsChangedHolder, holders_kept}
 use Rattle.tss_laws.proofs.HoldersKeepsOrder.{AreOrderly-controlled}
 use Rattle.tss_laws.proofs.HoldersRunnerEvents.{HasRunners-after_event}
 use Rattle.tss_laws.proofs.HoldersReady.{waiting_input, next_input, next_true, holds_after, named_operand}

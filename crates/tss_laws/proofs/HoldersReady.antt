@@ -2,7 +2,7 @@
 use Rattle.std.proofs.Common.{◌≡◌, ◌≢◌, ◌⊎◌, Bool, true, false, List, Option, Some, None, refl, sym, ap, ◌∙◌, subst, inl, inr, true≢false}
 use Rattle.std.specs.Prelude.{is_some}
 use Rattle.std.specs.FinMap.{get}
-use Rattle.std.proofs.lemmas.Option.{none-some, same_Some}
+use Rattle.std.proofs.lemmas.Option.{same_Some}
 use Rattle.tss_base.specs.declared.operand.OpName.{OpName}
 use Rattle.tss_base.specs.declared.operand.Mode.{Mode}
 use Rattle.tss_base.specs.declared.operand.Mode.TheVariants.{Input, Output, Inout}
@@ -13,15 +13,14 @@ use Rattle.tss_base.specs.declared.event.Event.TheVariants as event
 use Rattle.tss_base.specs.declared.event.LinkState.{LinkState}
 use Rattle.tss_base.specs.declared.event.LinkState.TheVariants as link
 use Rattle.tss_maps.proofs.Keys.{name_order, decide_key}
-use Rattle.tss_maps.proofs.Changes.{one_value}
 use Rattle.tss_model.specs.Access.{writes}
 use Rattle.tss_protocol.specs.Mail.{Source, StorageName, Message}
 use Rattle.tss_protocol.specs.State.{State, OperandState, Version}
 use Rattle.tss_protocol.specs.Stations.{operand_at, operand_after_ready, sent_by_ready}
 use Rattle.tss_protocol.specs.UnitMachine.{is_enabled, IsEnabled, after_event}
-use Rattle.tss_phases.specs.Phase.{Phase, Waiting, Told, Ready, Left, LookUps, look_ups, phase_at, phase_of}
+use Rattle.tss_phases.specs.Phase.{Waiting, Told, Ready, Left, LookUps, look_ups, phase_at, phase_of}
 use Rattle.tss_phases.specs.Told.{tells, WaitsIfTold}
-use Rattle.tss_phases.specs.Openers.{produced_opener, open_opener, opener_by, version_opener}
+use Rattle.tss_phases.specs.Openers.{open_opener, opener_by, version_opener}
 use Rattle.tss_phases.specs.Alone.{IsSilent}
 use Rattle.tss_phases.specs.Orderly.{IsUntold, IsOrderly, AreOrderly, ReadiesWaiting}
 use Rattle.tss_phases.proofs.Received.{received_all}
@@ -32,7 +31,7 @@ use Rattle.tss_phases.proofs.ReadyEvent.{news_ready, ready_tells, look_ups-ready
 use Rattle.tss_phases.proofs.ToldPhases.{not_told}
 use Rattle.tss_phases.proofs.OrderlyLemmas.{telling_stands}
 use Rattle.tss_phases.proofs.Tests.{something}
-use Rattle.tss_laws.specs.Members.{operand_among, IsOn}
+use Rattle.tss_laws.specs.Members.{operand_among}
 use Rattle.tss_laws.specs.Chains.{HasChains}
 use Rattle.tss_laws.specs.Readers.{Arrivals, Has, HasReaders}
 use Rattle.tss_laws.specs.Holders.{IsTrue, IsOwnOrRead, HasHolders}
@@ -49,7 +48,7 @@ use Rattle.tss_laws.proofs.HoldersRunnerEvents.{HasRunners-after_event}
 use Rattle.tss_laws.proofs.ReadersLinks.{links-ready}
 use Rattle.tss_laws.proofs.GroundworkSpawn.{among_object}
 use Rattle.tss_locality.specs.Objects.{HasObject}
-use Rattle.tss_locality.specs.Rounds.{object_in, IsRounded}
+use Rattle.tss_locality.specs.Rounds.{object_in}
 use Rattle.tss_locality.proofs.LeftFields.{Leaves-after_event}
 
 -- ---- who is told by a reader

@@ -1,6 +1,6 @@
 -- What operands hold after a release.
 use Rattle.std.proofs.Common.{◌≡◌, ◌≢◌, ◌⊎◌, suc, Bool, true, false, List, [], ◌∷◌, ◌++◌, Option, Some, None, refl, sym, ap, ◌∙◌, subst, inl, inr, true≢false}
-use Rattle.std.specs.Prelude.{not, is_some, ◌||◌}
+use Rattle.std.specs.Prelude.{is_some, ◌||◌}
 use Rattle.std.specs.FinMap.{get, len}
 use Rattle.std.proofs.lemmas.Option.{none-some, same_Some}
 use Rattle.tss_base.specs.declared.operand.OpName.{OpName}
@@ -17,7 +17,7 @@ use Rattle.tss_model.specs.Access.{writes}
 use Rattle.tss_protocol.specs.Mail.{Source, StorageName, ReleaseContents, Message, Decode, Ack, Open, Use, Ready, Link, Release, Bye, Idle, Nack, Retire, Gone}
 use Rattle.tss_protocol.specs.State.{State, OperandState, Version}
 use Rattle.tss_protocol.specs.Stations.{operand_at}
-use Rattle.tss_protocol.specs.Versions.{Versioned, ready_with, head_ready, put_version, released_by, released_at, settled}
+use Rattle.tss_protocol.specs.Versions.{Versioned, ready_with, head_ready, released_by, released_at, settled}
 use Rattle.tss_protocol.specs.UnitMachine.{is_enabled, IsEnabled, after_event, without, release_message_taken}
 use Rattle.tss_phases.specs.Phase.{Phase, Waiting, Told, Releasing, Leaving, Left, LookUps, look_ups, phase_at, phase_of}
 use Rattle.tss_phases.specs.Told.{is_ready_for, tells, WaitsIfTold, phase_told}
@@ -28,8 +28,8 @@ use Rattle.tss_phases.specs.Orderly.{IsInformed, IsOrderly, AreOrderly, Releases
 use Rattle.tss_phases.proofs.Received.{received_all}
 use Rattle.tss_phases.proofs.News.{AreNews, news_both, untold, told}
 use Rattle.tss_phases.proofs.SettlingLemmas.{name_from_test, settle_tells_successor}
-use Rattle.tss_phases.proofs.ToldPhases.{not_told, either_tells, first_tells, second_tells, bye_tells}
-use Rattle.tss_phases.proofs.ReleaseEvent.{version_released, versions_released, heads_told, bye_promised, sent_by_release, news_heads, news_released, release_sends_here, release_tells, look_ups-release-own, look_ups-release-other, releasing_before, phase_of-release, phase_of-release-other}
+use Rattle.tss_phases.proofs.ToldPhases.{not_told, second_tells, bye_tells}
+use Rattle.tss_phases.proofs.ReleaseEvent.{version_released, versions_released, heads_told, bye_promised, sent_by_release, news_heads, news_released, release_sends_here, release_tells, look_ups-release-own, look_ups-release-other, phase_of-release, phase_of-release-other}
 use Rattle.tss_phases.proofs.OrderlyLemmas.{releasing_stands}
 use Rattle.tss_phases.proofs.Tests.{something}
 use Rattle.tss_locality.proofs.LeftFields.{Leaves-after_event}
@@ -46,9 +46,8 @@ use Rattle.tss_laws.proofs.HoldersMoves.{TellsTrue, told_true, holding_told_by}
 use Rattle.tss_laws.proofs.HoldersLeaves.{holding_released}
 use Rattle.tss_laws.proofs.HoldersReady.{reader_operand, waiting_input}
 use Rattle.tss_laws.proofs.HoldersPromises.{promise_reader}
-use Rattle.tss_laws.proofs.HoldersThinned.{StaysHeld}
-use Rattle.tss_laws.proofs.HoldersSettled.{HeldAlike, stays_alike, from_alike, HasGone, HasTaken, TellsOwn, SettlesHeld}
-use Rattle.tss_laws.proofs.HoldersReleases.{z_parts, release_settles, not_linked, none_waits_by, not_needed_by, over_storeless, stays_or_gone}
+use Rattle.tss_laws.proofs.HoldersSettled.{stays_alike, from_alike, TellsOwn, SettlesHeld}
+use Rattle.tss_laws.proofs.HoldersReleases.{z_parts, release_settles, not_linked, none_waits_by, not_needed_by, stays_or_gone}
 use Rattle.tss_laws.proofs.HoldersKeepsOrder.{AreOrderly-controlled, keeps_order}
 use Rattle.tss_laws.proofs.HoldersRunnerEvents.{HasRunners-after_event}
 

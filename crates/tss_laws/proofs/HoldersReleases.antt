@@ -1,11 +1,10 @@
 -- What a release leaves of versions for those who hold them: where its version goes, nobody else needs it.
-use Rattle.std.proofs.Common.{◌≡◌, ◌≢◌, ◌⊎◌, ◌≤◌, ℕ, suc, Bool, true, false, List, Option, Some, None, refl, sym, ap, ◌∙◌, subst, inl, inr, arith, true≢false}
+use Rattle.std.proofs.Common.{◌≡◌, ◌≢◌, ◌⊎◌, ◌≤◌, ℕ, Bool, true, false, List, Some, None, refl, sym, ap, ◌∙◌, subst, inl, inr, arith, true≢false}
 use Rattle.std.specs.FinMap.{get}
-use Rattle.std.proofs.lemmas.Option.{none-some, same_Some}
+use Rattle.std.proofs.lemmas.Option.{none-some}
 use Rattle.tss_base.specs.declared.operand.OpName.{OpName}
 use Rattle.tss_base.specs.declared.operand.Operand.{Operand}
 use Rattle.tss_base.specs.declared.operand.Task.{Task}
-use Rattle.tss_base.specs.declared.event.Follow.{Follow}
 use Rattle.tss_base.specs.Names.{Named}
 use Rattle.tss_maps.proofs.Keys.{name_order, decide_key}
 use Rattle.tss_maps.proofs.Changes.{at_inserted, beside_inserted, one_value}
@@ -14,8 +13,8 @@ use Rattle.tss_protocol.specs.Mail.{Source, ReleaseContents, Message}
 use Rattle.tss_protocol.specs.State.{State, Version}
 use Rattle.tss_protocol.specs.Versions.{Versioned, put_version, settled}
 use Rattle.tss_phases.specs.Phase.{Phase, Ahead, Decoding, Sent, Waiting, Told, Ready, Releasing, Leaving, Promised, Left, phase_of, has_released}
-use Rattle.tss_phases.specs.Openers.{holds_version, has_parted, version_opener}
-use Rattle.tss_phases.proofs.ReleaseEvent.{version_released, versions_released}
+use Rattle.tss_phases.specs.Openers.{holds_version, has_parted}
+use Rattle.tss_phases.proofs.ReleaseEvent.{version_released}
 use Rattle.tss_laws.specs.Members.{operand_among, total}
 use Rattle.tss_laws.specs.Readers.{Arrivals, Has}
 use Rattle.tss_laws.specs.Holders.{IsTrue, IsOwnOrRead}
@@ -27,12 +26,12 @@ use Rattle.tss_laws.proofs.ReadersSettled.{registered_in_total}
 use Rattle.tss_laws.proofs.ChainsSettled.{done_parts, chains_next}
 use Rattle.tss_laws.proofs.ChainsReleased.{others_written}
 use Rattle.tss_laws.proofs.SettleCases.{HasNext}
-use Rattle.tss_laws.proofs.HoldersNext.{WaitsBehind, linking_waits}
-use Rattle.tss_laws.proofs.HoldersFits.{Needs, HasCome}
+use Rattle.tss_laws.proofs.HoldersNext.{linking_waits}
+use Rattle.tss_laws.proofs.HoldersFits.{Needs}
 use Rattle.tss_laws.proofs.HoldersNeeded.{writer_parted}
 use Rattle.tss_laws.proofs.HoldersThinned.{StaysHeld}
 use Rattle.tss_laws.proofs.HoldersPromises.{others_released}
-use Rattle.tss_laws.proofs.HoldersSettled.{HeldAlike, AlikeAt, stays_alike, from_alike, HasGone, HasTaken, SettlesHeld, settles_held}
+use Rattle.tss_laws.proofs.HoldersSettled.{stays_alike, HasGone, HasTaken, SettlesHeld, settles_held}
 
 -- ---- phases
 

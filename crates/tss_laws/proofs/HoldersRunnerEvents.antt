@@ -17,16 +17,15 @@ use Rattle.tss_model.specs.Access.{operands_of}
 use Rattle.tss_protocol.specs.State.{State, OperandState, Flying, Busy}
 use Rattle.tss_protocol.specs.Stations.{operand_at, is_gone, remaining_tasks, new_operand, entered, flight_after_take}
 use Rattle.tss_protocol.specs.Workers.{can_finish}
-use Rattle.tss_protocol.specs.UnitMachine.{is_enabled, IsEnabled, after_event, after_take}
-use Rattle.tss_phases.specs.Phase.{Decoding, look_ups, phase_of}
-use Rattle.tss_phases.specs.Orderly.{AreOrderly, TakesSpawned, FinishesReady, KeepsOrder}
+use Rattle.tss_protocol.specs.UnitMachine.{is_enabled, IsEnabled, after_event}
+use Rattle.tss_phases.specs.Phase.{phase_of}
+use Rattle.tss_phases.specs.Orderly.{AreOrderly, FinishesReady, KeepsOrder}
 use Rattle.tss_phases.proofs.Records.{task_of_record, record_beside_put}
-use Rattle.tss_phases.proofs.LeavingTasks.{remaining_beside}
 use Rattle.tss_phases.proofs.MainEvent.{phase_of-main}
 use Rattle.tss_phases.proofs.TakeEvent.{phase_of-take, phase_of-take-other}
 use Rattle.tss_phases.proofs.QuietEvents.{phase_of-ack, phase_of-exec, phase_of-idle, phase_of-retire, phase_of-copy, phase_of-gone}
 use Rattle.tss_phases.proofs.StartEvent.{phase_of-start}
-use Rattle.tss_phases.proofs.FinishEvent.{finished_task, flight-finish, phase_of-finish-other}
+use Rattle.tss_phases.proofs.FinishEvent.{flight-finish, phase_of-finish-other}
 use Rattle.tss_phases.proofs.OrderlyDecode.{new_record}
 use Rattle.tss_phases.proofs.Tests.{something}
 use Rattle.tss_locality.proofs.LeftFields.{Leaves-after_event}
@@ -35,7 +34,7 @@ use Rattle.tss_laws.specs.Stages.{HasStages}
 use Rattle.tss_laws.specs.Runners.{IsAtStage, is_late, HasRunners}
 use Rattle.tss_laws.proofs.FrontLemmas.{ComeFrom, all_come, KeepsFront, KeepsFront-after_event}
 use Rattle.tss_laws.proofs.TakeLemmas.{TakesTask, takes_take}
-use Rattle.tss_laws.proofs.HoldersStages.{StayFinished, RunsOn, runs_on}
+use Rattle.tss_laws.proofs.HoldersStages.{RunsOn, runs_on}
 use Rattle.tss_laws.proofs.HoldersLate.{NoLater, late_same, late_kept}
 use Rattle.tss_laws.proofs.HoldersLater.{later-decode, later-open, later-use, later-ready, later-link, later-release, later-bye, later-nack}
 

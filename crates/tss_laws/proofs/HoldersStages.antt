@@ -1,5 +1,5 @@
 -- Every event leaves tasks that are queued or run in flight at that stage, and one that has finished stays so.
-use Rattle.std.proofs.Common.{◌≡◌, ℕ, suc, Bool, true, false, if◌then◌else◌, List, ◌∷◌, Option, Some, None, refl, sym, ap, ◌∙◌, subst, inl, inr, arith, true≢false}
+use Rattle.std.proofs.Common.{◌≡◌, ℕ, Bool, true, false, if◌then◌else◌, List, ◌∷◌, Option, Some, None, refl, sym, ap, ◌∙◌, subst, inl, inr, arith, true≢false}
 use Rattle.std.specs.Prelude.{is_some}
 use Rattle.std.specs.FinMap.{get, insert, remove}
 use Rattle.std.proofs.lemmas.Option.{none-some, same_Some}
@@ -18,9 +18,8 @@ use Rattle.tss_phases.specs.Phase.{look_ups}
 use Rattle.tss_phases.specs.Orderly.{AreOrderly}
 use Rattle.tss_phases.proofs.Records.{operand_in}
 use Rattle.tss_phases.proofs.OrderlyLemmas.{telling_stands}
-use Rattle.tss_laws.specs.Tasks.{TasksFact, taken_by, HasTaskNumbers, spawned_after_event}
+use Rattle.tss_laws.specs.Tasks.{HasTaskNumbers, spawned_after_event}
 use Rattle.tss_laws.specs.Stages.{HasStages}
-use Rattle.tss_laws.specs.Runners.{IsAtStage, HasRunners}
 use Rattle.tss_laws.proofs.FrontLemmas.{KeepsFront}
 use Rattle.tss_laws.proofs.SpawnLemmas.{SpawnsOne}
 use Rattle.tss_laws.proofs.TakeLemmas.{TakesTask}

@@ -1,9 +1,8 @@
 -- Whom an open, a release and a nack tell: operands that wait, beside the one that opens.
-use Rattle.std.proofs.Common.{◌≡◌, ◌≢◌, ◌<◌, ℕ, zero, suc, Bool, true, false, List, Option, Some, None, refl, sym, ap, ◌∙◌, subst, inl, inr, arith, true≢false}
+use Rattle.std.proofs.Common.{◌≡◌, ◌≢◌, ℕ, zero, suc, true, List, Option, Some, None, refl, sym, ap, ◌∙◌, subst, inl, inr, arith, true≢false}
 use Rattle.std.specs.FinMap.{get, len}
 use Rattle.std.proofs.lemmas.Option.{none-some, same_Some}
 use Rattle.tss_base.specs.declared.operand.OpName.{OpName}
-use Rattle.tss_base.specs.declared.operand.Operand.{Operand}
 use Rattle.tss_base.specs.declared.operand.Task.{Task}
 use Rattle.tss_base.specs.declared.event.How.{How}
 use Rattle.tss_base.specs.declared.event.How.TheVariants.{Beside, Over}
@@ -11,21 +10,20 @@ use Rattle.tss_base.specs.declared.event.Follow.{Follow}
 use Rattle.tss_base.specs.Names.{Named}
 use Rattle.tss_maps.proofs.Keys.{name_order}
 use Rattle.tss_maps.proofs.Changes.{at_inserted, beside_inserted, decide_get, one_value}
-use Rattle.tss_protocol.specs.Mail.{OpenContents, ReleaseContents}
+use Rattle.tss_protocol.specs.Mail.{OpenContents}
 use Rattle.tss_protocol.specs.State.{State, Version}
-use Rattle.tss_protocol.specs.Versions.{put_version, may_die, version_changed, new_version, followed, after_open, after_release, after_nack, refused_once, unlinked}
+use Rattle.tss_protocol.specs.Versions.{put_version, may_die, version_changed, new_version, followed, after_nack, refused_once, unlinked}
 use Rattle.tss_phases.specs.Phase.{Phase, Ahead, Decoding, Sent, Waiting, Told, Ready, Releasing, Leaving, Promised, Left, phase_of}
 use Rattle.tss_phases.specs.Told.{tells}
-use Rattle.tss_phases.specs.Openers.{is_waiting, opener_by, open_opener, version_opener}
-use Rattle.tss_phases.specs.Orderly.{TellWaiting, OpensForWaiting, ReleasesRegistered}
-use Rattle.tss_phases.specs.Settling.{GivesWay, TakesOver, GoesOn, SettleTells}
+use Rattle.tss_phases.specs.Openers.{is_waiting, opener_by}
+use Rattle.tss_phases.specs.Orderly.{TellWaiting, OpensForWaiting}
+use Rattle.tss_phases.specs.Settling.{GivesWay, GoesOn, SettleTells}
 use Rattle.tss_phases.proofs.OpenEvent.{open_tells}
-use Rattle.tss_phases.proofs.ReleaseEvent.{version_released, versions_released, release_tells, release_sends_here}
 use Rattle.tss_phases.proofs.NackEvent.{nack_tells}
 use Rattle.tss_laws.specs.Chains.{HasChains}
 use Rattle.tss_laws.specs.Entries.{HasRetirement}
-use Rattle.tss_laws.specs.Readers.{Arrivals, HasReaders}
-use Rattle.tss_laws.specs.Holders.{IsTrue, HasHolders}
+use Rattle.tss_laws.specs.Readers.{Arrivals}
+use Rattle.tss_laws.specs.Holders.{HasHolders}
 use Rattle.tss_laws.proofs.SettleCases.{moved_up, at_changed, beside_changed, at_unlinked}
 
 -- a phase that waits by the test

@@ -1,27 +1,25 @@
 -- What an operand holds where it becomes ready, is linked, lets go, and has gone.
-use Rattle.std.proofs.Common.{◌≡◌, ◌≢◌, ◌⊎◌, ℕ, Bool, true, false, List, Option, Some, None, refl, sym, ap, ◌∙◌, subst, inl, inr, true≢false}
-use Rattle.std.specs.Prelude.{◌&&◌, not, if◌then◌else◌, slice_get}
+use Rattle.std.proofs.Common.{◌≡◌, ◌≢◌, ℕ, Bool, true, false, Option, Some, None, refl, sym, ap, ◌∙◌, subst, inl, inr, true≢false}
+use Rattle.std.specs.Prelude.{if◌then◌else◌, slice_get}
 use Rattle.std.specs.FinMap.{insert, remove}
 use Rattle.std.proofs.lemmas.Option.{none-some, same_Some}
 use Rattle.tss_base.specs.declared.operand.OpName.{OpName}
-use Rattle.tss_base.specs.declared.event.Farewell.{Farewell}
 use Rattle.tss_base.specs.declared.event.Farewell.TheVariants as farewell
 use Rattle.tss_base.specs.declared.event.LinkState.{LinkState}
 use Rattle.tss_base.specs.declared.event.LinkState.TheVariants as link
 use Rattle.tss_base.specs.Names.{Numbered}
-use Rattle.tss_protocol.specs.Mail.{Source, ReleaseContents}
+use Rattle.tss_protocol.specs.Mail.{Source}
 use Rattle.tss_protocol.specs.State.{OperandState, Flying}
-use Rattle.tss_protocol.specs.Stations.{operand_at, operand_after_ready, link_after_ready, operand_after_link, link_after_link, operand_after_bye, has_passed, is_gone, remaining_tasks}
+use Rattle.tss_protocol.specs.Stations.{operand_at, operand_after_ready, link_after_ready, operand_after_link, link_after_link, is_gone, remaining_tasks}
 use Rattle.tss_phases.specs.Phase.{Phase, Ahead, Decoding, Sent, Waiting, Told, Ready, Releasing, Leaving, Promised, Left, LookUps, absent_phase, station_phase, record_phase, phase_at}
 use Rattle.tss_phases.specs.Alone.{IsSilent, HasRecord}
-use Rattle.tss_phases.specs.Leaving.{phase_linked, phase_parted}
-use Rattle.tss_phases.specs.Orderly.{IsInformed, WasTold, FitsPhase, IsOrderly}
+use Rattle.tss_phases.specs.Leaving.{phase_linked}
+use Rattle.tss_phases.specs.Orderly.{IsInformed, FitsPhase, IsOrderly}
 use Rattle.tss_phases.proofs.Shown.{left_shows}
 use Rattle.tss_phases.proofs.Records.{record_put, record_removed}
 use Rattle.tss_phases.proofs.LeavingTasks.{done_from_test}
 use Rattle.tss_phases.proofs.LinkEvent.{record_linked, linked_station}
-use Rattle.tss_phases.proofs.ByeEvent.{record_parted}
-use Rattle.tss_phases.proofs.PhaseLemmas.{phase_silent, phase_releasing, phase_leaving, silent_station}
+use Rattle.tss_phases.proofs.PhaseLemmas.{phase_silent, silent_station}
 use Rattle.tss_phases.proofs.OrderlyLemmas.{leaving_stands}
 use Rattle.tss_phases.proofs.OrderlyRecords.{left_by_record}
 use Rattle.tss_laws.specs.Holders.{link_fits, PromiseFits}

@@ -1,35 +1,27 @@
 -- What operands hold after a use: its operand has come to the version and waits, or is told it, and the last reader may
 -- be linked to it.
-use Rattle.std.proofs.Common.{◌≡◌, ◌≢◌, ◌⊎◌, ◌<◌, ℕ, Bool, true, false, cond, List, [], ◌∷◌, Option, Some, None, refl, sym, ap, ◌∙◌, subst, inl, inr, arith, true≢false}
-use Rattle.std.specs.Prelude.{is_some}
-use Rattle.std.specs.FinMap.{get, insert}
-use Rattle.std.proofs.lemmas.Option.{none-some, same_Some}
+use Rattle.std.proofs.Common.{◌≡◌, ◌≢◌, ◌⊎◌, Bool, true, false, cond, List, ◌∷◌, Option, Some, None, refl, sym, ap, ◌∙◌, subst, inl, inr}
+use Rattle.std.specs.FinMap.{get}
+use Rattle.std.proofs.lemmas.Option.{same_Some}
 use Rattle.tss_base.specs.declared.operand.OpName.{OpName}
 use Rattle.tss_base.specs.declared.operand.Mode.{Mode}
-use Rattle.tss_base.specs.declared.operand.Mode.TheVariants.{Input}
 use Rattle.tss_base.specs.declared.operand.Operand.{Operand}
-use Rattle.tss_base.specs.declared.operand.Task.{Task}
 use Rattle.tss_base.specs.declared.machine.Machine.{Machine}
 use Rattle.tss_base.specs.declared.event.Event.TheVariants as event
-use Rattle.tss_base.specs.declared.event.LinkState.{LinkState}
-use Rattle.tss_base.specs.declared.event.LinkState.TheVariants as link
 use Rattle.tss_base.specs.Names.{Named}
 use Rattle.tss_maps.proofs.Keys.{name_order, decide_key}
-use Rattle.tss_maps.proofs.Changes.{at_inserted, beside_inserted, from_inserted}
+use Rattle.tss_maps.proofs.Changes.{at_inserted, beside_inserted}
 use Rattle.tss_model.specs.Access.{writes}
 use Rattle.tss_protocol.specs.Mail.{Source, StorageName, Message, posted_all}
-use Rattle.tss_protocol.specs.State.{State, OperandState, Version}
-use Rattle.tss_protocol.specs.Stations.{operand_at}
-use Rattle.tss_protocol.specs.Versions.{Versioned, put_version, enlisted, ready_with, used_alone, used_behind, used_at, can_use, after_use}
-use Rattle.tss_protocol.specs.UnitMachine.{is_enabled, IsEnabled, after_event, without, can_use_message, use_message_taken}
-use Rattle.tss_phases.specs.Phase.{Phase, Sent, Waiting, Told, LookUps, look_ups, phase_at, phase_of}
+use Rattle.tss_protocol.specs.State.{State, Version}
+use Rattle.tss_protocol.specs.Versions.{Versioned, put_version, enlisted, ready_with, used_alone, used_behind, used_at, after_use}
+use Rattle.tss_protocol.specs.UnitMachine.{after_event, without, use_message_taken}
+use Rattle.tss_phases.specs.Phase.{Phase, look_ups}
 use Rattle.tss_phases.specs.Openers.{open_opener, opener_by, version_opener}
-use Rattle.tss_phases.specs.Orderly.{IsOrderly, AreOrderly}
 use Rattle.tss_phases.proofs.Received.{own_name, received_all}
-use Rattle.tss_phases.proofs.UseEvent.{look_ups-use-own, look_ups-use-other}
-use Rattle.tss_laws.specs.Members.{operand_among}
+use Rattle.tss_phases.proofs.UseEvent.{look_ups-use-own}
 use Rattle.tss_laws.specs.Readers.{Arrivals, Has, set_arrivals}
-use Rattle.tss_laws.specs.Holders.{IsTrue, IsOwnOrRead, HasHolders}
+use Rattle.tss_laws.specs.Holders.{IsTrue, IsOwnOrRead}
 use Rattle.tss_laws.proofs.ReadersCome.{at_set, beside_set}
 
 -- ---- a version that is alike for its holders

@@ -1,5 +1,5 @@
 -- All that operands hold after a use.
-use Rattle.std.proofs.Common.{◌≡◌, ◌≢◌, ◌⊎◌, ◌<◌, ℕ, Bool, true, false, List, [], ◌∷◌, Option, Some, None, refl, sym, ap, ◌∙◌, subst, inl, inr, arith, true≢false}
+use Rattle.std.proofs.Common.{◌≡◌, ◌≢◌, Bool, true, false, List, [], ◌∷◌, Option, Some, None, refl, sym, ap, ◌∙◌, subst, inl, inr, arith, true≢false}
 use Rattle.std.specs.Prelude.{cond, is_some}
 use Rattle.std.specs.FinMap.{get}
 use Rattle.std.proofs.lemmas.Option.{none-some, same_Some}
@@ -16,7 +16,6 @@ use Rattle.tss_model.specs.Access.{writes}
 use Rattle.tss_protocol.specs.Mail.{Source, StorageName}
 use Rattle.tss_protocol.specs.State.{State, OperandState, Version}
 use Rattle.tss_protocol.specs.Stations.{operand_at}
-use Rattle.tss_protocol.specs.Versions.{put_version}
 use Rattle.tss_protocol.specs.UnitMachine.{is_enabled, IsEnabled, after_event, can_use_message}
 use Rattle.tss_phases.specs.Phase.{Phase, Ahead, Decoding, Sent, Waiting, Told, Ready, Releasing, Leaving, Promised, Left, LookUps, look_ups, phase_at, phase_of, has_released}
 use Rattle.tss_phases.specs.Alone.{IsSilent}
@@ -38,7 +37,7 @@ use Rattle.tss_laws.proofs.ReadersUse.{sent_link}
 use Rattle.tss_laws.proofs.HoldersFits.{Holding, LinksFit, HoldsIn, HasOpened, HasCome, holding_of, holding_mapped, holders_by}
 use Rattle.tss_laws.proofs.HoldersMoves.{holding_fresh, links_none}
 use Rattle.tss_laws.proofs.HoldersLeaves.{may_be_linked, holding_linking}
-use Rattle.tss_laws.proofs.HoldersUse.{IsHeldAlike, same_opener, UsedBy, used_facts, has_more, alike_used, true_used}
+use Rattle.tss_laws.proofs.HoldersUse.{same_opener, UsedBy, used_facts, has_more, alike_used, true_used}
 use Rattle.tss_laws.proofs.HoldersKeepsOrder.{AreOrderly-controlled}
 use Rattle.tss_laws.proofs.HoldersRunnerEvents.{HasRunners-after_event}
 
