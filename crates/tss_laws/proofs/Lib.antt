@@ -220,3 +220,4 @@ pub mod HoldersEvents
 pub mod GroundworkControl
 pub mod EntriesRegistered
 pub mod BuffersKept
+pub mod BuffersQuiet
