@@ -1,20 +1,19 @@
--- No false wait in every run, where each event keeps the control of the unit machine.
-use Rattle.tss_base.specs.declared.event.Event.{Event}
+-- No false wait in every run.
 use Rattle.tss_protocol.specs.State.{initial_state}
 use Rattle.tss_protocol.specs.Needs.{round_of}
 use Rattle.tss_laws.specs.Tasks.{spawned_tasks}
 use Rattle.tss_laws.specs.NoFalseWait.{QueuedLaw}
 use Rattle.tss_laws.specs.Readers.{arrivals_from, no_arrivals}
 use Rattle.tss_laws.proofs.GroundworkRuns.{HasGroundwork-Run}
-use Rattle.tss_laws.proofs.GroundworkJoin.{AreGroupsKept}
+use Rattle.tss_laws.proofs.GroundworkControl.{keeps_groups}
 use Rattle.tss_laws.proofs.ProgressRuns.{can_progress_of_runs}
 use Rattle.tss_laws.proofs.WaitsRising.{rising_of_runs}
 use Rattle.tss_laws.proofs.WaitsLaw.{no_false_wait}
 
 -- in every run no task waits needlessly
-pub queued_of_runs : ((e : Event) → AreGroupsKept e) → QueuedLaw
-queued_of_runs kept m i es S accepted fit run =
-    let h = can_progress_of_runs kept m i es S run in
+pub queued_of_runs : QueuedLaw
+queued_of_runs m i es S accepted fit run =
+    let h = can_progress_of_runs keeps_groups m i es S run in
     no_false_wait m (spawned_tasks m i es) (round_of m (initial_state i) es)
     (arrivals_from m (initial_state i) no_arrivals es) S (HasGroundwork-Run m i es S run) h.0 h.1
     (rising_of_runs m i es S run)

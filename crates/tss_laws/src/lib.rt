@@ -10,6 +10,7 @@ ghost use Rattle.tss_laws.specs.Openings.{OpeningsLaw};
 ghost use Rattle.tss_laws.specs.Tables.{TablesLaw};
 ghost use Rattle.tss_laws.specs.Asking.{AskingLaw};
 ghost use Rattle.tss_laws.specs.Held.{HeldPlacesLaw};
+ghost use Rattle.tss_laws.specs.NoFalseWait.{QueuedLaw};
 ghost use Rattle.tss_laws.specs.UseCounts.{ReadersLaw};
 ghost use Rattle.tss_laws.specs.MessageCounts.{MessagesLaw};
 ghost use Rattle.tss_laws.specs.MainInOrder.{MainInOrderLaw, MainCutOffLaw, MainStoresLaw};
@@ -78,6 +79,14 @@ pub fn asking()
 /// object.
 pub fn held_places()
     ensures { HeldPlacesLaw }
+{}
+
+/// No task waits needlessly. Where no message is under way, each task in flight runs or has finished, or is in the ready
+/// queue, or needs a task that hasn't finished: by the operands of the tasks spawned before it since the last barrier,
+/// an input needs the last that writes its object, an inout that one and those that read the object since, and an output
+/// none.
+pub fn no_false_wait()
+    ensures { QueuedLaw }
 {}
 
 /// Neither an entry of a renaming table nor a version counts more readers than a run may have operands.

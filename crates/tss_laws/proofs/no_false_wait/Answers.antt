@@ -1,0 +1,5 @@
+use Rattle.tss_laws.proofs.WaitsRuns.{queued_of_runs}
+use Rattle.tss_laws.proofs.no_false_wait.Goals as goal
+
+pub returns : goal.returns
+returns c = queued_of_runs
