@@ -13,6 +13,7 @@ ghost use Rattle.tss_laws.specs.Held.{HeldPlacesLaw};
 ghost use Rattle.tss_laws.specs.NoFalseWait.{QueuedLaw};
 ghost use Rattle.tss_laws.specs.UseCounts.{ReadersLaw};
 ghost use Rattle.tss_laws.specs.MessageCounts.{MessagesLaw};
+ghost use Rattle.tss_laws.specs.Progress.{EnabledLaw, FinishedLaw};
 ghost use Rattle.tss_laws.specs.MainInOrder.{MainInOrderLaw, MainCutOffLaw, MainStoresLaw};
 
 /// Spawned tasks are numbered from 1 in their order, at most as many as there may be, and each with at most as many
@@ -111,4 +112,11 @@ pub fn main_event()
     ensures in_order { MainInOrderLaw }
     ensures cut_off { MainCutOffLaw }
     ensures stores { MainStoresLaw }
+{}
+
+/// No run gets stuck: in a state that isn't finished some event is enabled, so the run can go on. In a finished state,
+/// which is drained and has main's ending or a task's trap, no event is enabled.
+pub fn progress()
+    ensures enabled { EnabledLaw }
+    ensures finished { FinishedLaw }
 {}
