@@ -8,12 +8,12 @@ ghost use Rattle.tss_laws.specs.Stages.{StagesLaw};
 ghost use Rattle.tss_laws.specs.Names.{NamesLaw};
 ghost use Rattle.tss_laws.specs.Openings.{OpeningsLaw};
 ghost use Rattle.tss_laws.specs.Tables.{TablesLaw};
+ghost use Rattle.tss_laws.specs.Progress.{EnabledLaw, FinishedLaw};
 ghost use Rattle.tss_laws.specs.Asking.{AskingLaw};
 ghost use Rattle.tss_laws.specs.Held.{HeldPlacesLaw};
 ghost use Rattle.tss_laws.specs.NoFalseWait.{QueuedLaw};
 ghost use Rattle.tss_laws.specs.UseCounts.{ReadersLaw};
 ghost use Rattle.tss_laws.specs.MessageCounts.{MessagesLaw};
-ghost use Rattle.tss_laws.specs.Progress.{EnabledLaw, FinishedLaw};
 ghost use Rattle.tss_laws.specs.MainInOrder.{MainInOrderLaw, MainCutOffLaw, MainStoresLaw};
 
 /// Spawned tasks are numbered from 1 in their order, at most as many as there may be, and each with at most as many
@@ -69,6 +69,13 @@ pub fn tables()
     ensures { TablesLaw }
 {}
 
+/// No run gets stuck: in a state that isn't finished some event is enabled, so the run can go on. In a finished state,
+/// which is drained and has main's ending or a task's trap, no event is enabled.
+pub fn progress()
+    ensures enabled { EnabledLaw }
+    ensures finished { FinishedLaw }
+{}
+
 /// A version that asks whether it may retire has exactly one message of this under way: that it asks, with its object
 /// and the number of its readers, that it may not, or that it may. No other version has any.
 pub fn asking()
@@ -112,11 +119,4 @@ pub fn main_event()
     ensures in_order { MainInOrderLaw }
     ensures cut_off { MainCutOffLaw }
     ensures stores { MainStoresLaw }
-{}
-
-/// No run gets stuck: in a state that isn't finished some event is enabled, so the run can go on. In a finished state,
-/// which is drained and has main's ending or a task's trap, no event is enabled.
-pub fn progress()
-    ensures enabled { EnabledLaw }
-    ensures finished { FinishedLaw }
 {}

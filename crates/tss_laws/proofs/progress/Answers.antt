@@ -1,13 +1,11 @@
 -- A state that isn't finished has an enabled event, and a finished one has none.
 use Rattle.tss_laws.proofs.progress.Goals as goal
 use Rattle.tss_laws.proofs.GroundworkControl.{keeps_groups}
-use Rattle.tss_laws.proofs.HoldersReleased.{HasHolders-release}
 use Rattle.tss_laws.proofs.ProgressFinished.{finished_of_runs}
 use Rattle.tss_laws.proofs.ProgressRuns.{enabled_of_runs}
 
 pub returns-clause-enabled : goal.returns-clause-enabled
-returns-clause-enabled c =
-    enabled_of_runs (keeps_groups (λ o m all ts g S ground h on order. HasHolders-release m all ts g S ground h o on))
+returns-clause-enabled c = enabled_of_runs keeps_groups
 
 pub returns-clause-finished : goal.returns-clause-finished
 returns-clause-finished c = finished_of_runs
