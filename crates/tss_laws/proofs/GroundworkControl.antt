@@ -11,6 +11,11 @@ use Rattle.tss_protocol.specs.Run.{IsRun}
 use Rattle.tss_laws.specs.Readers.{arrivals_from, no_arrivals}
 use Rattle.tss_laws.specs.Holders.{HasHolders}
 use Rattle.tss_laws.specs.Control.{IsControlled}
+use Rattle.tss_laws.specs.Controlled.{RoundLaw, ControlLaw, OneMessageLaw, SizesLaw}
+use Rattle.tss_laws.specs.Tasks.{spawned_tasks}
+use Rattle.tss_laws.proofs.TableLemmas.{tables_of_runs}
+use Rattle.tss_laws.proofs.MessageCounts.{few_messages, few_ready}
+use Rattle.tss_laws.proofs.GroundworkRuns.{HasGroundwork-Run}
 use Rattle.tss_laws.proofs.HoldersKeepsOrder.{keeps_order}
 use Rattle.tss_laws.proofs.ChainsEvents.{keeps_chains}
 use Rattle.tss_laws.proofs.EntriesEvents.{keeps_entries, keeps_retirement}
@@ -33,3 +38,36 @@ keeps_groups e = record {
 pub IsControlled-Run : (m : Machine) (i : ImageState) (es : List Event) (S : State) → IsRun m i es S
     → IsControlled (round_of m (initial_state i) es) (arrivals_from m (initial_state i) no_arrivals es) S
 IsControlled-Run = controlled_of_runs keeps_groups
+
+-- ---- laws
+
+-- the round is known
+pub round_of_runs : RoundLaw
+round_of_runs m i es S accepted admissible run = (HasGroundwork-Run m i es S run).known
+
+-- the state is controlled
+pub control_of_runs : ControlLaw
+control_of_runs m i es S accepted admissible run = IsControlled-Run m i es S run
+
+-- no operand has two messages
+pub one_message_of_runs : OneMessageLaw
+one_message_of_runs m i es S accepted admissible run o = ((IsControlled-Run m i es S run).orderly o).alone
+
+-- the counts stay within their sizes
+pub sizes_of_runs : SizesLaw
+sizes_of_runs m i es S accepted admissible run =
+    let all = spawned_tasks m i es in
+    let ts = round_of m (initial_state i) es in
+    let g = arrivals_from m (initial_state i) no_arrivals es in
+    let ground = HasGroundwork-Run m i es S run in
+    let h = IsControlled-Run m i es S run in
+    let tables = tables_of_runs m i es S accepted admissible run in
+    record {
+      messages = few_messages m admissible all ts g S ground h tables.slots tables.versions;
+      slots = tables.slots;
+      ready = few_ready m admissible all ts g S ground h tables.slots tables.versions;
+      workers = tables.workers;
+      entries = tables.entries;
+      versions = tables.versions;
+      buffers = tables.buffers;
+    }

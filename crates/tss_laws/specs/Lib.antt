@@ -21,3 +21,4 @@ pub mod Control
 pub mod UseCounts
 pub mod MessageCounts
 pub mod Buffers
+pub mod Controlled

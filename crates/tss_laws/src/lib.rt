@@ -14,6 +14,7 @@ ghost use Rattle.tss_laws.specs.Held.{HeldPlacesLaw};
 ghost use Rattle.tss_laws.specs.NoFalseWait.{QueuedLaw};
 ghost use Rattle.tss_laws.specs.UseCounts.{ReadersLaw};
 ghost use Rattle.tss_laws.specs.MessageCounts.{MessagesLaw};
+ghost use Rattle.tss_laws.specs.Controlled.{RoundLaw, ControlLaw, OneMessageLaw, SizesLaw};
 ghost use Rattle.tss_laws.specs.MainInOrder.{MainInOrderLaw, MainCutOffLaw, MainStoresLaw};
 
 /// Spawned tasks are numbered from 1 in their order, at most as many as there may be, and each with at most as many
@@ -106,6 +107,29 @@ pub fn reader_counts()
 /// no more open, idle, nack, retire and gone messages than places of versions.
 pub fn message_counts()
     ensures { MessagesLaw }
+{}
+
+/// The tasks since the last barrier are among those spawned, and no two operands of one of them are on one object.
+pub fn round()
+    ensures { RoundLaw }
+{}
+
+/// The state is controlled: each operand is in order, the versions of an object stand in a chain with the opens and uses
+/// that are on their way, entries know the latest version and its readers, a version that asks to retire may do so unless
+/// there is a cause, the readers of a version wait for one another in the order in which they came, and each operand
+/// holds what its phase says.
+pub fn control()
+    ensures { ControlLaw }
+{}
+
+/// Of the decode, open, use, ready, release and bye of an operand at most one is under way.
+pub fn one_message()
+    ensures { OneMessageLaw }
+{}
+
+/// None of the seven counts ever exceeds its size.
+pub fn sizes()
+    ensures { SizesLaw }
 {}
 
 /// One event of main. Where main's registers, number of spawned tasks, epoch, pieces and ending are those of program
