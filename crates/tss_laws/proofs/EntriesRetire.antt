@@ -156,7 +156,7 @@ module _ (m : Machine) (all ts : List Task) (g : Arrivals) (S : State) (ground :
   retiring_own e same object r = record {
     leaving = inr (subst (IsGoingHome T e.object) (sym same) (subst (λ y. IsGoingHome T y v) object d.goes));
     last = λ y k there.
-        absurd (none-some tt (sym (at_removed name_order S.mail.retires v) 
+        absurd (none-some tt (sym (at_removed name_order S.mail.retires v)
         ∙ ap (get (remove S.mail.retires v)) (sym same)
         ∙ ap (λ m. get m e.latest) (sym d.retires) ∙ k));
     none = λ k w y.
@@ -193,7 +193,7 @@ module _ (m : Machine) (all ts : List Task) (g : Arrivals) (S : State) (ground :
             let a = r.asked w y count (before w y t) asks in
             record { produced = a.produced; oldest = a.oldest; released = a.released };
         refused = λ w y count t no_more. cause_same S T d.entries w y count
-        (r.refused w y count (before w y t) no_more);
+            (r.refused w y count (before w y t) no_more);
         refusing = λ w y count t asks nack.
             cause_same S T d.entries w y count
             (r.refusing w y count (before w y t) asks (ap (λ m. get m w) (sym d.nacks) ∙ nack));
@@ -257,7 +257,7 @@ module _ (m : Machine) (all ts : List Task) (S : State) (ground : HasGroundwork 
           inr (
             k.0,
             ap (λ m. get m w) home_gones ∙ beside_inserted name_order S.mail.gones v (retired x.object None) w apart
-            ∙ k.1,
+                ∙ k.1,
             k.2,
             k.3,
           )
