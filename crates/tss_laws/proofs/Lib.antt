@@ -221,3 +221,4 @@ pub mod GroundworkControl
 pub mod EntriesRegistered
 pub mod BuffersKept
 pub mod BuffersQuiet
+pub mod RoomySettle

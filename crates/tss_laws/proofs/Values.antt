@@ -13,7 +13,7 @@ use Rattle.tss_base.specs.declared.event.Stage.TheVariants as stage
 use Rattle.tss_base.specs.declared.machine.Machine.{Machine}
 use Rattle.tss_base.specs.Image.{ImageState}
 use Rattle.tss_model.specs.Memory.{bytes_of}
-use Rattle.tss_model.specs.Access.{writes}
+use Rattle.tss_model.specs.Access.{reads, writes}
 use Rattle.tss_model.specs.InOrder.{Started, started_at, end_of_started}
 use Rattle.tss_protocol.specs.Mail.{StorageName, Buffer, OpenContents, GoneContents}
 use Rattle.tss_protocol.specs.State.{State, Flying, Busy, Version, CopyState, HeldTrap}
@@ -124,9 +124,9 @@ IsRoomy m S b = m.limits.object_bytes ≤ length (buffer_bytes S.contents b)
 abbrev pub HasBegun : State → ℕ → Type 0
 HasBegun S n = (x : Flying) → get S.flight n ≡ Some x → (x.stage ≡ stage.Running) ⊎ (x.stage ≡ stage.Finished)
 
--- the buffer of a version is set: it is an inout's, or its task has begun
+-- the buffer of a version is set: its opener reads it, or has begun
 abbrev pub IsSet : List Task → State → OpName → Type 0
-IsSet ts S v = ((p : Operand) × (operand_among ts v ≡ Some p) × (p.mode ≡ Inout)) ⊎ HasBegun S v.task
+IsSet ts S v = ((p : Operand) × (operand_among ts v ≡ Some p) × (reads p.mode ≡ true)) ⊎ HasBegun S v.task
 
 -- buffers that are set have room: those of versions, and those that are copied home
 pub record HasRoom (m : Machine) (ts : List Task) (S : State) : Type 0 where
