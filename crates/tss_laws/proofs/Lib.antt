@@ -222,3 +222,5 @@ pub mod EntriesRegistered
 pub mod BuffersKept
 pub mod BuffersQuiet
 pub mod RoomySettle
+pub mod RoomyVersions
+pub mod RoomyStores
