@@ -1,6 +1,6 @@
 -- What operands hold after a release.
-use Rattle.std.proofs.Common.{◌≡◌, ◌≢◌, ◌⊎◌, suc, Bool, true, false, List, [], ◌∷◌, ◌++◌, Option, Some, None, refl, sym, ap, ◌∙◌, subst, inl, inr, true≢false}
-use Rattle.std.specs.Prelude.{is_some, ◌||◌}
+use Rattle.std.proofs.Common.{◌≡◌, ◌≢◌, ◌⊎◌, suc, Bool, true, false, List, ◌++◌, Option, Some, None, refl, sym, ap, ◌∙◌, subst, inl, inr, true≢false}
+use Rattle.std.specs.Prelude.{is_some}
 use Rattle.std.specs.FinMap.{get, len}
 use Rattle.std.proofs.lemmas.Option.{none-some, same_Some}
 use Rattle.tss_base.specs.declared.operand.OpName.{OpName}
@@ -14,20 +14,20 @@ use Rattle.tss_base.specs.Names.{Named}
 use Rattle.tss_maps.proofs.Keys.{name_order, decide_key}
 use Rattle.tss_maps.proofs.Changes.{at_inserted, beside_inserted, one_value}
 use Rattle.tss_model.specs.Access.{writes}
-use Rattle.tss_protocol.specs.Mail.{Source, StorageName, ReleaseContents, Message, Decode, Ack, Open, Use, Ready, Link, Release, Bye, Idle, Nack, Retire, Gone}
+use Rattle.tss_protocol.specs.Mail.{Source, StorageName, ReleaseContents, Message}
 use Rattle.tss_protocol.specs.State.{State, OperandState, Version}
 use Rattle.tss_protocol.specs.Stations.{operand_at}
 use Rattle.tss_protocol.specs.Versions.{Versioned, ready_with, head_ready, released_by, released_at, settled}
 use Rattle.tss_protocol.specs.UnitMachine.{is_enabled, IsEnabled, after_event, without, release_message_taken}
-use Rattle.tss_phases.specs.Phase.{Phase, Waiting, Told, Releasing, Leaving, Left, LookUps, look_ups, phase_at, phase_of}
-use Rattle.tss_phases.specs.Told.{is_ready_for, tells, WaitsIfTold, phase_told}
+use Rattle.tss_phases.specs.Phase.{Waiting, Told, Releasing, Leaving, Left, LookUps, look_ups, phase_at, phase_of}
+use Rattle.tss_phases.specs.Told.{tells, WaitsIfTold, phase_told}
 use Rattle.tss_phases.specs.Openers.{holds_version, produced_opener, open_opener, opener_by, version_opener}
 use Rattle.tss_phases.specs.Alone.{IsSilent}
 use Rattle.tss_phases.proofs.Shown.{waiting_shows}
 use Rattle.tss_phases.specs.Orderly.{IsInformed, IsOrderly, AreOrderly, ReleasesRegistered}
 use Rattle.tss_phases.proofs.Received.{received_all}
 use Rattle.tss_phases.proofs.News.{AreNews, news_both, untold, told}
-use Rattle.tss_phases.proofs.SettlingLemmas.{name_from_test, settle_tells_successor}
+use Rattle.tss_phases.proofs.SettlingLemmas.{settle_tells_successor}
 use Rattle.tss_phases.proofs.ToldPhases.{not_told, second_tells, bye_tells}
 use Rattle.tss_phases.proofs.ReleaseEvent.{version_released, versions_released, heads_told, bye_promised, sent_by_release, news_heads, news_released, release_sends_here, release_tells, look_ups-release-own, look_ups-release-other, phase_of-release, phase_of-release-other}
 use Rattle.tss_phases.proofs.OrderlyLemmas.{releasing_stands}
@@ -44,72 +44,19 @@ use Rattle.tss_laws.proofs.ReleaseFacts.{Releases, releases_facts}
 use Rattle.tss_laws.proofs.HoldersFits.{Holding, LinksFit, HoldsIn, HasOpened, HasCome, Needs, holding_of, holding_mapped, holders_by}
 use Rattle.tss_laws.proofs.HoldersMoves.{TellsTrue, told_true, holding_told_by}
 use Rattle.tss_laws.proofs.HoldersLeaves.{holding_released}
+use Rattle.tss_laws.proofs.HoldersNacked.{told_own, tells_true, waiting_opener, same_opener}
 use Rattle.tss_laws.proofs.HoldersReady.{reader_operand, waiting_input}
 use Rattle.tss_laws.proofs.HoldersPromises.{promise_reader}
-use Rattle.tss_laws.proofs.HoldersSettled.{stays_alike, from_alike, TellsOwn, SettlesHeld}
+use Rattle.tss_laws.proofs.HoldersSettled.{stays_alike, from_alike, SettlesHeld}
 use Rattle.tss_laws.proofs.HoldersReleases.{z_parts, release_settles, not_linked, none_waits_by, not_needed_by, stays_or_gone}
 use Rattle.tss_laws.proofs.HoldersKeepsOrder.{AreOrderly-controlled, keeps_order}
 use Rattle.tss_laws.proofs.HoldersRunnerEvents.{HasRunners-after_event}
 
--- ---- versions of operands that wait
-
+-- one that doesn't write is an input
 reads_input : (mode : Mode) → writes mode ≡ false → mode ≡ Input
 reads_input Input e = refl
 reads_input Output e = absurd (true≢false e)
 reads_input Inout e = absurd (true≢false e)
-
--- the version that one has opened that waits is open, without a storage
-pub waiting_version : (y : Version) (mode : Mode) → version_opener y mode Waiting ≡ true
-    → (y.produced ≡ false) × (y.storage ≡ None)
-waiting_version y mode e = by y.produced y.storage refl refl
-  where
-    produced : (mode : Mode) → produced_opener mode Waiting ≡ true → ⊥
-    produced Input e = true≢false (sym e)
-    produced Output e = true≢false (sym e)
-    produced Inout e = true≢false (sym e)
-
-    by : (b : Bool) (s : Option StorageName) → y.produced ≡ b → y.storage ≡ s → (y.produced ≡ false) × (y.storage ≡ None)
-    by true s eb es = absurd (produced mode (sym (ap (opener_by y mode Waiting) eb) ∙ e))
-    by false None eb es = (eb, es)
-    by false (Some s) eb es =
-        absurd (true≢false (sym e ∙ ap (opener_by y mode Waiting) eb ∙ ap (λ s. open_opener s Waiting) es))
-
--- ---- messages
-
--- facts of each message that say others
-pub each_sent : (P Q : Message → Type 0) → ((m : Message) → P m → Q m) → (ms : List Message) → AllSent P ms → AllSent Q ms
-each_sent P Q f [] a = tt
-each_sent P Q f (m ∷ ms) a = (f m a.0, each_sent P Q f ms a.1)
-
--- who is told by a settle has a version with a storage
-pub told_own : (us : Named Version) (ms : List Message) (q : OpName) → AllSent (TellsOwn us) ms → tells ms q ≡ true
-    → (z : Version) × (get us q ≡ Some z) × ((s : StorageName) × (z.storage ≡ Some s))
-told_own us [] q a e = absurd (true≢false (sym e))
-told_own us (m ∷ ms) q a e = by m a.0 (is_ready_for m q) refl e (told_own us ms q a.1)
-  where
-    false_true : false ≡ true → ⊥
-    false_true e = cc
-
-    one : (m : Message) → TellsOwn us m → is_ready_for m q ≡ true
-        → (z : Version) × (get us q ≡ Some z) × ((s : StorageName) × (z.storage ≡ Some s))
-    one (Ready o s) t e = (t.1.0, ap (get us) (name_from_test q o e) ∙ t.1.1, (s.storage, t.1.2))
-    one (Decode o operand) t e = absurd (false_true e)
-    one (Ack o) t e = absurd (false_true e)
-    one (Open o c) t e = absurd (false_true e)
-    one (Use o v) t e = absurd (false_true e)
-    one (Link o next) t e = absurd (false_true e)
-    one (Release o r) t e = absurd (false_true e)
-    one (Bye o b) t e = absurd (false_true e)
-    one (Idle v i) t e = absurd (false_true e)
-    one (Nack v) t e = absurd (false_true e)
-    one (Retire v) t e = absurd (false_true e)
-    one (Gone v g) t e = absurd (false_true e)
-
-    by : (m : Message) → TellsOwn us m → (b : Bool) → is_ready_for m q ≡ b → b || tells ms q ≡ true
-        → (tells ms q ≡ true → (z : Version) × (get us q ≡ Some z) × ((s : StorageName) × (z.storage ≡ Some s)))
-        → (z : Version) × (get us q ≡ Some z) × ((s : StorageName) × (z.storage ≡ Some s))
-    by m t true f e again = one m t f
-    by m t false f e again = again e
 
 module _ (m : Machine) (all ts : List Task) (g : Arrivals) (S : State) (ground : HasGroundwork m all ts S)
     (h : IsControlled ts g S) (o : OpName) (on : IsEnabled m S (event.Release o)) (c : ReleaseContents)
@@ -175,7 +122,7 @@ module _ (m : Machine) (all ts : List Task) (g : Arrivals) (S : State) (ground :
   not_waiting : phase_of S v ≡ Waiting → ⊥
   not_waiting e =
       let p = h.chains.opener v x k.there in
-      let w = waiting_version x p.0.mode (ap (version_opener x p.0.mode) (sym e) ∙ h.holders.openers v x p.0 k.there p.1) in
+      let w = waiting_opener x p.0.mode (ap (version_opener x p.0.mode) (sym e) ∙ h.holders.openers v x p.0 k.there p.1) in
       none-some k.storage (sym w.1 ∙ k.stored)
 
   -- where a version came from
@@ -370,44 +317,29 @@ module _ (m : Machine) (all ts : List Task) (g : Arrivals) (S : State) (ground :
       far : q ≢ v
       far f = not_waiting (ap (phase_of S) (sym f) ∙ w)
 
-      own_true : (a : OpName) (u : Source) → TellsOwn d.part (Ready a u) → q ≡ a → P u
-      own_true a u t same =
-          let at = ap (get d.part) same ∙ t.1.1 in
-          let b = came q far t.1.0 at in
+      own_true : (u : Source) (z : Version) → u.version ≡ q → get d.part q ≡ Some z → z.storage ≡ Some u.storage → P u
+      own_true u z is at stored =
+          let b = came q far z at in
           let on_it = h.chains.opener q b.0 b.1 in
-          let is = same_Some on_it.0 p (sym on_it.1 ∙ among) in
           record {
-            version = t.1.0;
-            there = ap (λ vs. get vs u.version) versions ∙ ap (get d.part) t.0 ∙ t.1.1;
-            object = b.2 ∙ sym on_it.2 ∙ ap (λ (p : Operand). p.object) is;
-            storage = t.1.2;
-            own = by (writes p.mode) refl (t.0 ∙ sym same) b.0 b.1;
+            version = z;
+            there = ap (λ vs. get vs u.version) versions ∙ ap (get d.part) is ∙ at;
+            object = b.2 ∙ sym on_it.2
+                ∙ ap (λ (p : Operand). p.object) (same_Some on_it.0 p (sym on_it.1 ∙ among));
+            storage = stored;
+            own = by (writes p.mode) refl b.0 b.1;
           }
         where
-          by : (b : Bool) → writes p.mode ≡ b → u.version ≡ q → (y : Version) → get S.versions q ≡ Some y
+          by : (b : Bool) → writes p.mode ≡ b → (y : Version) → get S.versions q ≡ Some y
               → IsOwnOrRead g q (writes p.mode) u.version
-          by true e f y z = subst (λ b. IsOwnOrRead g q b u.version) (sym e) f
-          by false e f y z =
-              absurd (waiting_input ts g S h.chains h.readers h.holders q w y z p among (reads_input p.mode e))
-
-      message_true : (a : Message) → TellsOwn d.part a → TellsTrue q P a
-      message_true (Ready a u) t = own_true a u t
-      message_true (Decode a operand) t = tt
-      message_true (Ack a) t = tt
-      message_true (Open a c) t = tt
-      message_true (Use a v) t = tt
-      message_true (Link a next) t = tt
-      message_true (Release a r) t = tt
-      message_true (Bye a b) t = tt
-      message_true (Idle a i) t = tt
-      message_true (Nack a) t = tt
-      message_true (Retire a) t = tt
-      message_true (Gone a u) t = tt
+          by true e y at = subst (λ b. IsOwnOrRead g q b u.version) (sym e) is
+          by false e y at =
+              absurd (waiting_input ts g S h.chains h.readers h.holders q w y at p among (reads_input p.mode e))
 
       all_true : AllSent (TellsTrue q P) (hs ++ d.sent)
       all_true =
           AllSent-append (TellsTrue q P) hs d.sent heads_true
-          (each_sent (TellsOwn d.part) (TellsTrue q P) message_true d.sent settles.sent)
+          (tells_true d.part q P d.sent settles.sent own_true)
 
     other_holds : HoldsIn g T q p
     other_holds =
@@ -438,17 +370,6 @@ module _ (m : Machine) (all ts : List Task) (g : Arrivals) (S : State) (ground :
             (λ f. absurd (none-some t.0 (sym silent ∙ f)))))
 
   -- ---- openers
-
-  -- a version that is alike for its opener
-  opener_alike : (y b : Version) (mode : Mode) (p : Phase) → y.produced ≡ b.produced → y.storage ≡ b.storage
-      → version_opener b mode p ≡ true → version_opener y mode p ≡ true
-  opener_alike y b mode p e f was =
-      same_opener_by b.produced refl
-    where
-      same_opener_by : (c : Bool) → b.produced ≡ c → version_opener y mode p ≡ true
-      same_opener_by true g = ap (opener_by y mode p) (e ∙ g) ∙ sym (ap (opener_by b mode p) g) ∙ was
-      same_opener_by false g =
-          ap (opener_by y mode p) (e ∙ g) ∙ ap (λ s. open_opener s p) f ∙ sym (ap (opener_by b mode p) g) ∙ was
 
   other_phase : (q : OpName) → q ≢ o → phase_of T q ≡ phase_told (tells (sent_by_release S.versions o v x c.producer) q) (phase_of S q)
   other_phase q apart = phase_of-release-other m S o c x there k.there q apart (told_waits q)
@@ -508,10 +429,12 @@ module _ (m : Machine) (all ts : List Task) (g : Arrivals) (S : State) (ground :
               ∙ ap (opener_by y p.mode Leaving) (n.2.produced ∙ ap (λ (y : Version). y.produced) z_is ∙ own_produced same)
               ∙ leaving_opens p.mode
           | inr apart ↦
-              opener_alike y x p.mode (phase_of T v)
-              (n.2.produced ∙ ap (λ (y : Version). y.produced) z_is ∙ reader_keeps apart c.producer refl)
-              (n.2.storage ∙ ap (λ (y : Version). y.storage) z_is ∙ (z_parts ts g S h o c k).1)
-              (by apart (tells (hs ++ d.sent) v) refl)
+              same_opener x y p.mode (phase_of T v) (record {
+                object = n.2.object ∙ ap (λ (y : Version). y.object) z_is ∙ (z_parts ts g S h o c k).0;
+                produced = n.2.produced ∙ ap (λ (y : Version). y.produced) z_is ∙ reader_keeps apart c.producer refl;
+                storage = n.2.storage ∙ ap (λ (y : Version). y.storage) z_is ∙ (z_parts ts g S h o c k).1;
+              })
+              ∙ by apart (tells (hs ++ d.sent) v) refl
         ]
   ]
     where
@@ -532,7 +455,7 @@ module _ (m : Machine) (all ts : List Task) (g : Arrivals) (S : State) (ground :
       let b = came w far y e in
       let apart : w ≢ o = λ f.
       no_own_version (λ g. far (f ∙ g)) b.0 (ap (get S.versions) (sym f) ∙ b.1) in
-      by apart b.0 b.1 b.3 b.4 (tells (hs ++ d.sent) w) refl
+      by apart b.0 b.1 b.2 b.3 b.4 (tells (hs ++ d.sent) w) refl
     where
       storage_none : (b : Version) → b.storage ≡ None → (y.storage ≡ b.storage) → (s : StorageName) → y.storage ≡ Some s → ⊥
       storage_none b n f s g = none-some s (sym n ∙ sym f ∙ g)
@@ -555,19 +478,19 @@ module _ (m : Machine) (all ts : List Task) (g : Arrivals) (S : State) (ground :
               let a = h.readers.versions v x k.there in
               sym (ap (λ b. head_of b (g v)) e) ∙ sym a.head ∙ head
 
-      by : w ≢ o → (b : Version) → get S.versions w ≡ Some b → y.produced ≡ b.produced
+      by : w ≢ o → (b : Version) → get S.versions w ≡ Some b → y.object ≡ b.object → y.produced ≡ b.produced
           → ((y.storage ≡ b.storage) ⊎ ((y.storage ≡ x.storage) × (tells d.sent w ≡ true))) → (t : Bool)
           → tells (hs ++ d.sent) w ≡ t → version_opener y p.mode (phase_of T w) ≡ true
-      by apart b at produced (inl storage) false t =
-          opener_alike y b p.mode (phase_of T w) produced storage
-          (ap (version_opener b p.mode)
+      by apart b at object produced (inl storage) false t =
+          same_opener b y p.mode (phase_of T w) (record { object = object; produced = produced; storage = storage })
+          ∙ ap (version_opener b p.mode)
           (other_phase w apart ∙ ap (λ b. phase_told b (phase_of S w)) (same_tells w ∙ t))
-          ∙ h.holders.openers w b p at among)
-      by apart b at produced (inr taken) false t =
+          ∙ h.holders.openers w b p at among
+      by apart b at object produced (inr taken) false t =
           absurd (true≢false (sym (second_tells hs d.sent w taken.1) ∙ t))
-      by apart b at produced storage true t =
+      by apart b at object produced storage true t =
           let wt = waits w t in
-          let n = waiting_version b p.mode (ap (version_opener b p.mode) (sym wt) ∙ h.holders.openers w b p at among) in
+          let n = waiting_opener b p.mode (ap (version_opener b p.mode) (sym wt) ∙ h.holders.openers w b p at among) in
           elim storage [
             | inr taken ↦
                 ap (version_opener y p.mode) (told_phase_now apart t)
@@ -576,10 +499,10 @@ module _ (m : Machine) (all ts : List Task) (g : Arrivals) (S : State) (ground :
             | inl same ↦ elim (release_tells S.versions o v x c.producer w (same_tells w ∙ t)) [
               | inl head ↦ absurd (head_input b at wt head.1)
               | inr settled_tells ↦
-                  let own = told_own d.part d.sent w settles.sent
+                  let own = told_own d.part w d.sent settles.sent
                   (settle_tells_successor (suc (len vs)) vs v w settled_tells) in
-                  let is = one_value d.part w y own.0 e own.1 in
-                  absurd (storage_none b n.1 same own.2.0 (ap (λ (y : Version). y.storage) is ∙ own.2.1))
+                  let is = one_value d.part w y own.1 e own.2 in
+                  absurd (storage_none b n.1 same own.0.storage (ap (λ (y : Version). y.storage) is ∙ own.3))
             ]
           ]
 
