@@ -1,5 +1,5 @@
 -- Progress of every run, where each event keeps the groups of the control.
-use Rattle.std.proofs.Common.{◌≡◌, List, Some, sym, ◌∙◌}
+use Rattle.std.proofs.Common.{List, sym, ◌∙◌}
 use Rattle.std.specs.Ordering.{nat_cmp}
 use Rattle.std.specs.FinMap.{get-empty}
 use Rattle.std.proofs.lemmas.Option.{none-some}
