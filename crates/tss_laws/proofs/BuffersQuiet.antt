@@ -69,7 +69,8 @@ HasBuffers-quiet m ts S h e q =
 
 -- ---- use
 
-ready_nothing : (o v : OpName) (s : Option StorageName) → AllSent HoldsNothing (ready_with o v s)
+-- a ready holds nothing
+pub ready_nothing : (o v : OpName) (s : Option StorageName) → AllSent HoldsNothing (ready_with o v s)
 ready_nothing o v None = tt
 ready_nothing o v (Some s) = (tt, tt)
 

@@ -224,3 +224,5 @@ pub mod BuffersQuiet
 pub mod RoomySettle
 pub mod RoomyVersions
 pub mod RoomyStores
+pub mod BuffersReleased
+pub mod BuffersOpened
