@@ -193,6 +193,8 @@ pub mod EntriesRelease
 pub mod EntriesOpen
 pub mod EntriesEvents
 pub mod Values
+pub mod SentUnretired
+pub mod ValuesReturns
 pub mod ProgressSettled
 pub mod BoundObjects
 pub mod BoundCopies
