@@ -14,6 +14,7 @@ use Rattle.tss_laws.specs.Control.{IsControlled}
 use Rattle.tss_laws.specs.Controlled.{RoundLaw, ControlLaw, OneMessageLaw, SizesLaw}
 use Rattle.tss_laws.specs.Tasks.{spawned_tasks}
 use Rattle.tss_laws.proofs.TableLemmas.{tables_of_runs}
+use Rattle.tss_laws.proofs.MessageLemmas.{messages_of_runs}
 use Rattle.tss_laws.proofs.MessageCounts.{few_messages, few_ready}
 use Rattle.tss_laws.proofs.GroundworkRuns.{HasGroundwork-Run}
 use Rattle.tss_laws.proofs.HoldersKeepsOrder.{keeps_order}
@@ -62,10 +63,11 @@ sizes_of_runs m i es S accepted admissible run =
     let ground = HasGroundwork-Run m i es S run in
     let h = IsControlled-Run m i es S run in
     let tables = tables_of_runs m i es S accepted admissible run in
+    let bounds = messages_of_runs m i es S accepted admissible run in
     record {
-      messages = few_messages m admissible all ts g S ground h tables.slots tables.versions;
+      messages = few_messages m i es all ts g S ground h bounds;
       slots = tables.slots;
-      ready = few_ready m admissible all ts g S ground h tables.slots tables.versions;
+      ready = few_ready m i es all ts g S ground h bounds;
       workers = tables.workers;
       entries = tables.entries;
       versions = tables.versions;
