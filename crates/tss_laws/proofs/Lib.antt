@@ -195,6 +195,8 @@ pub mod EntriesEvents
 pub mod Values
 pub mod SentUnretired
 pub mod ValuesReturns
+pub mod ValuesRetire
+pub mod ValuesGone
 pub mod ProgressSettled
 pub mod BoundObjects
 pub mod BoundCopies
