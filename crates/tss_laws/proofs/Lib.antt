@@ -230,3 +230,4 @@ pub mod RoomyVersions
 pub mod RoomyStores
 pub mod BuffersReleased
 pub mod BuffersOpened
+pub mod ChainsNumbers
