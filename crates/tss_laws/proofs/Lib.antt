@@ -156,6 +156,7 @@ pub mod HoldersLink
 pub mod HoldersNeeded
 pub mod ProgressFinished
 pub mod ProgressDrained
+pub mod ProgressGoesOn
 pub mod ReadersWritten
 pub mod EntriesWritten
 pub mod EntriesSettling
