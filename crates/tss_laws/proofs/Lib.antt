@@ -220,6 +220,8 @@ pub mod CalmStates
 pub mod BuffersSettled
 pub mod HoldersOpened
 pub mod HoldersOpen
+pub mod HoldersReleasing
+pub mod HoldersReleasedOpeners
 pub mod HoldersReleased
 pub mod HoldersEvents
 pub mod GroundworkControl
