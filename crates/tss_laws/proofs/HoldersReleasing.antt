@@ -119,8 +119,7 @@ module _ (m : Machine) (all ts : List Task) (g : Arrivals) (S : State) (ground :
     | inr t ↦
         let is = one_value d.part w y t.after e t.stands in
         let z_is = one_value vs v t.version _ t.there (at_inserted name_order S.versions v _) in
-        let stored = ap (λ (y : Version). y.storage) z_is ∙ (z_parts ts g S h o c k).1 in
-        (
+        let stored = ap (λ (y : Version). y.storage) z_is ∙ (z_parts ts g S h o c k).1 in (
           t.before,
           sym (beside_inserted name_order S.versions v _ w apart) ∙ t.was,
           ap (λ (y : Version). y.object) is ∙ t.object,
