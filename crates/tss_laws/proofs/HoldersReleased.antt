@@ -95,7 +95,8 @@ module _ (m : Machine) (all ts : List Task) (g : Arrivals) (S : State) (ground :
       by true f = links.writer (ap (λ (p : Operand). writes p.mode) same ∙ sym k.producer ∙ f)
       by false f =
           promise_reader ts (g v) S v x (h.readers.versions v x k.there) o
-          (subst (λ w. IsOwnOrRead g o w v) (sym k.producer ∙ f) k.own) k.phase (writes p.mode) r (kept m all ts g S ground h o on c there k) links
+          (subst (λ w. IsOwnOrRead g o w v) (sym k.producer ∙ f) k.own) k.phase (writes p.mode) r
+          (kept m all ts g S ground h o on c there k) links
 
   -- one that has a link to pass on reads, and its version stays
   own_stays : (next : OpName) → get S.mail.links o ≡ Some next → (p : Operand) → operand_among ts o ≡ Some p
@@ -118,7 +119,9 @@ module _ (m : Machine) (all ts : List Task) (g : Arrivals) (S : State) (ground :
       reads_by : (b : Bool) → writes p.mode ≡ b → writes p.mode ≡ false
       reads_by false f = f
       reads_by true f =
-          absurd (none-some next (sym (((holding_of ts g S h.holders o p e).links r (kept m all ts g S ground h o on c there k)).writer f).1 ∙ l))
+          absurd (none-some next
+          (sym (((holding_of ts g S h.holders o p e).links r (kept m all ts g S ground h o on c there k)).writer f).1
+          ∙ l))
 
   own_holds : (p : Operand) → operand_among ts o ≡ Some p → HoldsIn g T o p
   own_holds p e =
@@ -127,7 +130,9 @@ module _ (m : Machine) (all ts : List Task) (g : Arrivals) (S : State) (ground :
       (subst (λ l. Holding (IsTrue g T o p) (HasOpened T o) (HasCome g T o) (writes p.mode) l (get S.mail.links o))
       (sym (own_looked m all ts g S ground h o on c there k))
       (holding_mapped (IsTrue g S o p) (IsTrue g T o p) (HasOpened S o) (HasOpened T o) (HasCome g S o) (HasCome g T o)
-      (writes p.mode) own_look_ups (get S.mail.links o) (subst IsOrderly (own_looked m all ts g S ground h o on c there k) ((after m all ts g S ground h o on c there k) o))
+      (writes p.mode) own_look_ups (get S.mail.links o)
+      (subst IsOrderly (own_looked m all ts g S ground h o on c there k)
+      ((after m all ts g S ground h o on c there k) o))
       (λ s needs. elim needs [
         | inl holds ↦ λ t. absurd (true≢false (sym holds ∙ ap holds_version phase_now))
         | inr l ↦ own_stays l.0 l.1 p e s
@@ -135,11 +140,13 @@ module _ (m : Machine) (all ts : List Task) (g : Arrivals) (S : State) (ground :
       (λ w f. absurd (leaving_waits (sym phase_now ∙ f)))
       (λ w f. absurd (leaving_waits (sym phase_now ∙ f)))
       (holding_released (IsTrue g S o p) (HasOpened S o) (HasCome g S o) (writes p.mode) (look_ups S o)
-      (get S.mail.links o) (holding_of ts g S h.holders o p e) k.phase stands.0 r (kept m all ts g S ground h o on c there k) (bye_promised o x c.producer)
+      (get S.mail.links o) (holding_of ts g S h.holders o p e) k.phase stands.0 r
+      (kept m all ts g S ground h o on c there k) (bye_promised o x c.producer)
       (promise p e))))
     where
       phase_now : phase_at own_look_ups ≡ Leaving
-      phase_now = sym (ap phase_at (own_looked m all ts g S ground h o on c there k)) ∙ (now_leaving m all ts g S ground h o on c there k)
+      phase_now = sym (ap phase_at (own_looked m all ts g S ground h o on c there k))
+          ∙ (now_leaving m all ts g S ground h o on c there k)
 
       leaving_waits : Leaving ≡ Waiting → ⊥
       leaving_waits e = cc
@@ -152,7 +159,8 @@ module _ (m : Machine) (all ts : List Task) (g : Arrivals) (S : State) (ground :
 
     true_on : (s : Source) → Needs (phase_of S q) (get S.mail.links q) → IsTrue g S q p s → IsTrue g T q p s
     true_on s needs t =
-        elim (stays_or_gone ts g S h o c k d (settles m all ts g S ground h o on c there k) s.version t.version t.there) [
+        elim (stays_or_gone ts g S h o c k d
+        (settles m all ts g S ground h o on c there k) s.version t.version t.there) [
           | inl n ↦ record {
             version = n.0;
             there = ap (λ vs. get vs s.version) (versions m all ts g S ground h o on c there k) ∙ n.1;
@@ -233,7 +241,8 @@ module _ (m : Machine) (all ts : List Task) (g : Arrivals) (S : State) (ground :
           let on_it = h.chains.opener q b.0 b.1 in
           record {
             version = z;
-            there = ap (λ vs. get vs u.version) (versions m all ts g S ground h o on c there k) ∙ ap (get d.part) is ∙ at;
+            there = ap (λ vs. get vs u.version) (versions m all ts g S ground h o on c there k) ∙ ap (get d.part) is
+                ∙ at;
             object = b.2 ∙ sym on_it.2
                 ∙ ap (λ (p : Operand). p.object) (same_Some on_it.0 p (sym on_it.1 ∙ among));
             storage = stored;
@@ -253,8 +262,10 @@ module _ (m : Machine) (all ts : List Task) (g : Arrivals) (S : State) (ground :
 
     other_holds : HoldsIn g T q p
     other_holds =
-        subst (λ n. Holding P (HasOpened T q) (HasCome g T q) (writes p.mode) (look_ups T q) n) (sym ((same_link m all ts g S ground h o on c there k) q))
-        (subst (λ l. Holding P (HasOpened T q) (HasCome g T q) (writes p.mode) l (get S.mail.links q)) (sym ((looked m all ts g S ground h o on c there k) q apart))
+        subst (λ n. Holding P (HasOpened T q) (HasCome g T q) (writes p.mode) (look_ups T q) n)
+        (sym ((same_link m all ts g S ground h o on c there k) q))
+        (subst (λ l. Holding P (HasOpened T q) (HasCome g T q) (writes p.mode) l (get S.mail.links q))
+        (sym ((looked m all ts g S ground h o on c there k) q apart))
         (by (tells (hs ++ d.sent) q) refl))
       where
         was : HoldsIn g S q p
@@ -291,8 +302,10 @@ module _ (m : Machine) (all ts : List Task) (g : Arrivals) (S : State) (ground :
         a.0,
         ap (λ f. operand_at f q) flight_same ∙ a.1,
         λ left. elim (decide_key name_order q o) [
-          | inl same ↦ leaving_left (sym (now_leaving m all ts g S ground h o on c there k) ∙ ap (phase_of T) (sym same) ∙ left)
-          | inr apart ↦ not_left a.2 (tells (sent_by_release S.versions o v x c.producer) q) (sym ((other_phase m all ts g S ground h o on c there k) q apart) ∙ left)
+          | inl same ↦ leaving_left
+              (sym (now_leaving m all ts g S ground h o on c there k) ∙ ap (phase_of T) (sym same) ∙ left)
+          | inr apart ↦ not_left a.2 (tells (sent_by_release S.versions o v x c.producer) q)
+              (sym ((other_phase m all ts g S ground h o on c there k) q apart) ∙ left)
         ],
       )
     where
@@ -315,7 +328,8 @@ module _ (m : Machine) (all ts : List Task) (g : Arrivals) (S : State) (ground :
   pub holders_released : HasHolders ts g T
   holders_released =
       holders_by ts g T each_holds (openers m all ts g S ground h o on c there k) records
-      (HasRunners-after_event m all S ground.numbers ground.stages h.orderly h.holders.runners (event.Release o) on (order m all ts g S ground h o on c there k))
+      (HasRunners-after_event m all S ground.numbers ground.stages h.orderly h.holders.runners (event.Release o) on
+      (order m all ts g S ground h o on c there k))
 
 -- release
 pub HasHolders-release : (m : Machine) (all ts : List Task) (g : Arrivals) (S : State) → HasGroundwork m all ts S

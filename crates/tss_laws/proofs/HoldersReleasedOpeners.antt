@@ -82,7 +82,8 @@ module _ (m : Machine) (all ts : List Task) (g : Arrivals) (S : State) (ground :
           let has = subst (λ w. IsOwnOrRead g o w v) (sym k.producer ∙ e) k.own in
           let a = h.readers.versions v x k.there in
           let oldest = a.own (subst (λ q. Has q (g v)) (sym same) has) in
-          not_open x.produced refl (λ f. waits_clash (sym k.phase ∙ ap (phase_of S) (sym same) ∙ (a.first v oldest).1 f))
+          not_open x.produced refl
+          (λ f. waits_clash (sym k.phase ∙ ap (phase_of S) (sym same) ∙ (a.first v oldest).1 f))
         where
           not_open : (b : Bool) → x.produced ≡ b → (x.produced ≡ false → ⊥) → x.produced ≡ true
           not_open true f n = f
@@ -113,7 +114,8 @@ module _ (m : Machine) (all ts : List Task) (g : Arrivals) (S : State) (ground :
         elim (decide_key name_order v o) [
           | inl same ↦
               ap (version_opener y p.mode) (ap (phase_of T) same ∙ (now_leaving m all ts g S ground h o on c there k))
-              ∙ ap (opener_by y p.mode Leaving) (n.2.produced ∙ ap (λ (y : Version). y.produced) z_is ∙ own_produced same)
+              ∙ ap (opener_by y p.mode Leaving)
+              (n.2.produced ∙ ap (λ (y : Version). y.produced) z_is ∙ own_produced same)
               ∙ leaving_opens p.mode
           | inr apart ↦
               same_opener x y p.mode (phase_of T v) (record {
@@ -130,13 +132,16 @@ module _ (m : Machine) (all ts : List Task) (g : Arrivals) (S : State) (ground :
       reader_keeps apart false f = refl
 
       by : v ≢ o → (b : Bool) → tells (hs ++ d.sent) v ≡ b → version_opener x p.mode (phase_of T v) ≡ true
-      by apart true f = absurd ((not_waiting m all ts g S ground h o on c there k) ((waits m all ts g S ground h o on c there k) v f))
+      by apart true f = absurd
+          ((not_waiting m all ts g S ground h o on c there k) ((waits m all ts g S ground h o on c there k) v f))
       by apart false f =
           ap (version_opener x p.mode)
-          ((other_phase m all ts g S ground h o on c there k) v apart ∙ ap (λ b. phase_told b (phase_of S v)) ((same_tells m all ts g S ground h o on c there k) v ∙ f))
+          ((other_phase m all ts g S ground h o on c there k) v apart
+          ∙ ap (λ b. phase_told b (phase_of S v)) ((same_tells m all ts g S ground h o on c there k) v ∙ f))
           ∙ h.holders.openers v x p k.there among
 
-  opener_other : (w : OpName) → w ≢ v → (y : Version) (p : Operand) → get d.part w ≡ Some y → operand_among ts w ≡ Some p
+  opener_other : (w : OpName) → w ≢ v → (y : Version) (p : Operand) → get d.part w ≡ Some y
+      → operand_among ts w ≡ Some p
       → version_opener y p.mode (phase_of T w) ≡ true
   opener_other w far y p e among =
       let b = (came m all ts g S ground h o on c there k) w far y e in
@@ -144,12 +149,14 @@ module _ (m : Machine) (all ts : List Task) (g : Arrivals) (S : State) (ground :
       no_own_version (λ g. far (f ∙ g)) b.0 (ap (get S.versions) (sym f) ∙ b.1) in
       by apart b.0 b.1 b.2 b.3 b.4 (tells (hs ++ d.sent) w) refl
     where
-      storage_none : (b : Version) → b.storage ≡ None → (y.storage ≡ b.storage) → (s : StorageName) → y.storage ≡ Some s → ⊥
+      storage_none : (b : Version) → b.storage ≡ None → (y.storage ≡ b.storage) → (s : StorageName)
+          → y.storage ≡ Some s → ⊥
       storage_none b n f s g = none-some s (sym n ∙ sym f ∙ g)
 
       told_phase_now : w ≢ o → tells (hs ++ d.sent) w ≡ true → phase_of T w ≡ Told
       told_phase_now apart t =
-          (other_phase m all ts g S ground h o on c there k) w apart ∙ ap (λ b. phase_told b (phase_of S w)) ((same_tells m all ts g S ground h o on c there k) w ∙ t)
+          (other_phase m all ts g S ground h o on c there k) w apart
+          ∙ ap (λ b. phase_told b (phase_of S w)) ((same_tells m all ts g S ground h o on c there k) w ∙ t)
 
       head_input : (b : Version) → get S.versions w ≡ Some b → phase_of S w ≡ Waiting → x.head ≡ Some w → ⊥
       head_input b at wt head =
@@ -171,7 +178,8 @@ module _ (m : Machine) (all ts : List Task) (g : Arrivals) (S : State) (ground :
       by apart b at object produced (inl storage) false t =
           same_opener b y p.mode (phase_of T w) (record { object = object; produced = produced; storage = storage })
           ∙ ap (version_opener b p.mode)
-          ((other_phase m all ts g S ground h o on c there k) w apart ∙ ap (λ b. phase_told b (phase_of S w)) ((same_tells m all ts g S ground h o on c there k) w ∙ t))
+          ((other_phase m all ts g S ground h o on c there k) w apart
+          ∙ ap (λ b. phase_told b (phase_of S w)) ((same_tells m all ts g S ground h o on c there k) w ∙ t))
           ∙ h.holders.openers w b p at among
       by apart b at object produced (inr taken) false t =
           absurd (true≢false (sym (second_tells hs d.sent w taken.1) ∙ t))
@@ -183,7 +191,8 @@ module _ (m : Machine) (all ts : List Task) (g : Arrivals) (S : State) (ground :
                 ap (version_opener y p.mode) (told_phase_now apart t)
                 ∙ ap (opener_by y p.mode Told) (produced ∙ n.0)
                 ∙ ap (λ s. open_opener s Told) (taken.0 ∙ k.stored)
-            | inl same ↦ elim (release_tells S.versions o v x c.producer w ((same_tells m all ts g S ground h o on c there k) w ∙ t)) [
+            | inl same ↦ elim (release_tells S.versions o v x c.producer w
+                ((same_tells m all ts g S ground h o on c there k) w ∙ t)) [
               | inl head ↦ absurd (head_input b at wt head.1)
               | inr settled_tells ↦
                   let own = told_own d.part w d.sent (settles m all ts g S ground h o on c there k).sent

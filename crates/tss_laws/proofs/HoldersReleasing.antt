@@ -58,7 +58,8 @@ module _ (m : Machine) (all ts : List Task) (g : Arrivals) (S : State) (ground :
   pub settles : SettlesHeld vs v d
   settles = release_settles ts g S h o c k
 
-  released_part : (b : Bool) → (released_by S.versions o v x b).part ≡ (settled (versions_released S.versions o v x b) v).part
+  released_part : (b : Bool)
+      → (released_by S.versions o v x b).part ≡ (settled (versions_released S.versions o v x b) v).part
   released_part true = refl
   released_part false = refl
 
@@ -105,7 +106,8 @@ module _ (m : Machine) (all ts : List Task) (g : Arrivals) (S : State) (ground :
   pub not_waiting : phase_of S v ≡ Waiting → ⊥
   not_waiting e =
       let p = h.chains.opener v x k.there in
-      let w = waiting_opener x p.0.mode (ap (version_opener x p.0.mode) (sym e) ∙ h.holders.openers v x p.0 k.there p.1) in
+      let w = waiting_opener x p.0.mode
+          (ap (version_opener x p.0.mode) (sym e) ∙ h.holders.openers v x p.0 k.there p.1) in
       none-some k.storage (sym w.1 ∙ k.stored)
 
   -- where a version came from
@@ -151,7 +153,8 @@ module _ (m : Machine) (all ts : List Task) (g : Arrivals) (S : State) (ground :
   pub own_looked : look_ups T o ≡ own_look_ups
   own_looked =
       look_ups-release-own m S o c x there k.there
-      (not_told (sent_by_release S.versions o v x c.producer) o (look_ups S o) Releasing k.phase (λ e. cc) (told_waits o))
+      (not_told (sent_by_release S.versions o v x c.producer) o (look_ups S o) Releasing k.phase (λ e. cc)
+      (told_waits o))
 
   -- it is leaving
   pub now_leaving : phase_of T o ≡ Leaving
@@ -160,7 +163,8 @@ module _ (m : Machine) (all ts : List Task) (g : Arrivals) (S : State) (ground :
   -- ---- the others
 
   -- another operand is told, or stays as it was
-  pub other_phase : (q : OpName) → q ≢ o → phase_of T q ≡ phase_told (tells (sent_by_release S.versions o v x c.producer) q) (phase_of S q)
+  pub other_phase : (q : OpName) → q ≢ o
+      → phase_of T q ≡ phase_told (tells (sent_by_release S.versions o v x c.producer) q) (phase_of S q)
   other_phase q apart = phase_of-release-other m S o c x there k.there q apart (told_waits q)
 
   -- the bye tells nobody
