@@ -234,3 +234,4 @@ pub mod RoomyStores
 pub mod BuffersReleased
 pub mod BuffersOpened
 pub mod ChainsNumbers
+pub mod BuffersDecoded
