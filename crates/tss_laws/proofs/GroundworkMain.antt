@@ -37,7 +37,8 @@ use Rattle.tss_laws.proofs.GroundworkGrown.{IsControlled-longer}
 
 -- ---- the round
 
-module _ (m : Machine) (ts : List Task) (g : Arrivals) (S : State) (round : IsRounded S ts) (h : IsControlled ts g S) where
+module _ (m : Machine) (ts : List Task) (g : Arrivals) (S : State) (round : IsRounded S ts)
+    (h : IsControlled ts g S) where
   by_spawn : (x : Result Task ℕ)
       → spawn_of (spawn_call S.main.registers) S.home S.main.epoch m.limits S.main.spawned ≡ x
       → IsControlled (ts ++ option_to_list (spawn_on S.main x).1) g S

@@ -37,7 +37,8 @@ module _ (ts : List Task) (g : Arrivals) (S T : State) where
   abbrev pub ChangesHolders : Type 0
   ChangesHolders = (q : OpName) → IsSameHolder q ⊎ IsChangedHolder q
 
-module _ (ts : List Task) (g : Arrivals) (S T : State) (versions : T.versions ≡ S.versions) (orderly : AreOrderly S) where
+module _ (ts : List Task) (g : Arrivals) (S T : State) (versions : T.versions ≡ S.versions)
+    (orderly : AreOrderly S) where
   -- what it was told is still true
   pub true_kept : (o : OpName) (p : Operand) (s : Source) → IsTrue g S o p s → IsTrue g T o p s
   true_kept o p s t = record {

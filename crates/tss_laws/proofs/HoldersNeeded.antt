@@ -65,8 +65,8 @@ module _ (ts : List Task) (g : Arrivals) (S : State) (h : IsControlled ts g S) (
   writer_needs : (p : Operand) → operand_among ts v ≡ Some p → writes p.mode ≡ true
       → Needs (phase_of S v) (get S.mail.links v) → ⊥
   writer_needs p at writer (inl holds) =
-      parted_holds (phase_of S v) (writer_parted y p.mode (phase_of S v) produced writer (h.holders.openers v y p there at))
-      holds
+      parted_holds (phase_of S v)
+      (writer_parted y p.mode (phase_of S v) produced writer (h.holders.openers v y p there at)) holds
   writer_needs p at writer (inr linked) =
       let r = h.holders.records v linked.0 linked.1 in
       none-some linked.0 (sym ((h.holders.links v p r.0 at r.1).writer writer).1 ∙ linked.1)

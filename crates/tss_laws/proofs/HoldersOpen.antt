@@ -41,8 +41,9 @@ use Rattle.tss_laws.proofs.HoldersTold.{settle_tells_own}
 use Rattle.tss_laws.proofs.HoldersFits.{Needs, LinksFit, Holding, HasOpened, HasCome, HoldsIn, holding_of, holding_mapped, holders_by}
 use Rattle.tss_laws.proofs.HoldersMoves.{holding_fresh, links_none, holding_news}
 use Rattle.tss_laws.proofs.HoldersNeeded.{not_needed, none_waits}
-use Rattle.tss_laws.proofs.HoldersNacked.{tells_true, version_opener-from, opener_from, same_opener}
-use Rattle.tss_laws.proofs.HoldersOpened.{OpensHeld, opens_held}
+use Rattle.tss_laws.proofs.HoldersSent.{tells_true, version_opener-from, opener_from, same_opener}
+use Rattle.tss_laws.proofs.HoldersFirst.{OpensHeld}
+use Rattle.tss_laws.proofs.HoldersOpened.{opens_held}
 use Rattle.tss_laws.proofs.HoldersRunnerEvents.{HasRunners-after_event}
 use Rattle.tss_laws.proofs.HoldersKeepsOrder.{keeps_order, AreOrderly-controlled}
 
@@ -92,7 +93,9 @@ module _ (m : Machine) (all ts : List Task) (g : Arrivals) (S : State) (ground :
       by false e = e
       by true e = elim (open_tells S.versions o c q e) [
         | inl own ↦ absurd (apart own.0)
-        | inr t ↦ absurd (apart (settle_tells_own ts S h.chains o c opening t.0 t.1 (suc (len (followed S.versions o c t.0))) q t.2))
+        | inr t ↦
+            let n = suc (len (followed S.versions o c t.0)) in
+            absurd (apart (settle_tells_own ts S h.chains o c opening t.0 t.1 n q t.2))
       ]
 
   looked_other : (q : OpName) → q ≢ o → look_ups After q ≡ look_ups S q
@@ -196,7 +199,8 @@ module _ (m : Machine) (all ts : List Task) (g : Arrivals) (S : State) (ground :
   reader_told p at reads = elim held.own.state [
     | inl told ↦ told.0
     | inr open_yet ↦
-        absurd (true≢false (sym (ap writes open_yet.3) ∙ ap (λ (p : Operand). writes p.mode) (its_operand p at) ∙ reads))
+        absurd (true≢false
+        (sym (ap writes open_yet.3) ∙ ap (λ (p : Operand). writes p.mode) (its_operand p at) ∙ reads))
   ]
 
   holds_sent : (p : Operand) → operand_among ts o ≡ Some p
@@ -210,14 +214,15 @@ module _ (m : Machine) (all ts : List Task) (g : Arrivals) (S : State) (ground :
       let sent = phase_opening (look_ups S o) c stands.0.decoding opening in
       let links = (holding_of ts g S h.holders o p at).links r.kept r.there in
       let nothing = sent_nothing r.kept.link (ap (λ p. link_fits p r.kept.link) (sym sent) ∙ links.fits) in
-      let base = holding_fresh T OpenedOrTold (tells left.sent o ≡ true) w taken k r.kept r.there r.told stands.0.releasing
+      let base =
+      holding_fresh T OpenedOrTold (tells left.sent o ≡ true) w taken k r.kept r.there r.told stands.0.releasing
       stands.0.leaving (λ s e. absurd (none-some s (sym stands.0.telling ∙ e))) (λ x e. opened_or_told)
       (λ reads e. reader_told p at reads)
       (links_none T OpenedOrTold (tells left.sent o ≡ true) w taken k r.kept r.there r.told stands.0.releasing
       stands.0.leaving nothing (ap (λ p. link_fits p link.Nothing) waits) (links.early (inr sent))
       (λ e. waiting_promised (sym waits ∙ e))) in
-      holding_news T OpenedOrTold (tells left.sent o ≡ true) w taken k left.sent o (news_open S.versions o c) (λ t. waits)
-      (tells_true left.part o T left.sent held.sent (own_true p at)) base
+      holding_news T OpenedOrTold (tells left.sent o ≡ true) w taken k left.sent o (news_open S.versions o c)
+      (λ t. waits) (tells_true left.part o T left.sent held.sent (own_true p at)) base
     where
       waiting_promised : Waiting ≡ Promised → ⊥
       waiting_promised e = cc

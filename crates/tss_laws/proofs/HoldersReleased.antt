@@ -40,7 +40,7 @@ use Rattle.tss_laws.proofs.ReleaseFacts.{Releases, releases_facts}
 use Rattle.tss_laws.proofs.HoldersFits.{Holding, LinksFit, HoldsIn, HasOpened, HasCome, Needs, holding_of, holding_mapped, holders_by}
 use Rattle.tss_laws.proofs.HoldersMoves.{TellsTrue, told_true, holding_told_by}
 use Rattle.tss_laws.proofs.HoldersLeaves.{holding_released}
-use Rattle.tss_laws.proofs.HoldersNacked.{tells_true}
+use Rattle.tss_laws.proofs.HoldersSent.{tells_true}
 use Rattle.tss_laws.proofs.HoldersReady.{reader_operand, waiting_input}
 use Rattle.tss_laws.proofs.HoldersPromises.{promise_reader}
 use Rattle.tss_laws.proofs.HoldersSettled.{stays_alike}

@@ -29,7 +29,7 @@ use Rattle.tss_laws.specs.Holders.{IsOwnOrRead}
 use Rattle.tss_laws.specs.Control.{HasGroundwork, IsControlled}
 use Rattle.tss_laws.proofs.ReadersLists.{has_oldest}
 use Rattle.tss_laws.proofs.ReleaseFacts.{Releases}
-use Rattle.tss_laws.proofs.HoldersNacked.{told_own, waiting_opener, same_opener}
+use Rattle.tss_laws.proofs.HoldersSent.{told_own, waiting_opener, same_opener}
 use Rattle.tss_laws.proofs.HoldersReady.{reader_operand, waiting_input}
 use Rattle.tss_laws.proofs.HoldersSettled.{from_alike}
 use Rattle.tss_laws.proofs.HoldersReleases.{z_parts}

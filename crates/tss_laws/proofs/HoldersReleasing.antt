@@ -28,7 +28,7 @@ use Rattle.tss_laws.specs.Readers.{Arrivals}
 use Rattle.tss_laws.specs.Control.{HasGroundwork, IsControlled}
 use Rattle.tss_laws.proofs.ReadersLinks.{links-release}
 use Rattle.tss_laws.proofs.ReleaseFacts.{Releases}
-use Rattle.tss_laws.proofs.HoldersNacked.{waiting_opener}
+use Rattle.tss_laws.proofs.HoldersSent.{waiting_opener}
 use Rattle.tss_laws.proofs.HoldersSettled.{from_alike, SettlesHeld}
 use Rattle.tss_laws.proofs.HoldersReleases.{z_parts, release_settles}
 use Rattle.tss_laws.proofs.HoldersKeepsOrder.{AreOrderly-controlled, keeps_order}

@@ -1,5 +1,5 @@
--- What a settle leaves of versions: it changes no object and no produced bit. One version may go, which was done, and one
--- that is told may get the storage of that. All others keep their storages.
+-- What a settle leaves of versions: it changes no object and no produced bit. One version may go, which was done, and
+-- one that is told may get the storage of that. All others keep their storages.
 use Rattle.std.proofs.Common.{◌≡◌, ◌≢◌, ◌⊎◌, Bool, true, false, List, [], ◌∷◌, ◌++◌, Option, Some, None, refl, sym, ap, ◌∙◌, subst, inl, inr, true≢false}
 use Rattle.std.specs.Prelude.{◌||◌}
 use Rattle.std.specs.FinMap.{get, insert}
@@ -130,8 +130,8 @@ gone_unlinked vs v x s =
 alike_asking : (vs : Named Version) (v : OpName) (x : Version) (w : OpName) → get vs v ≡ Some x
     → AlikeAt vs (settle_asking vs v x).part w
 alike_asking vs v x w there =
-    changed_by (λ y. record y { asked = Some y.registered }) (λ y. record { object = refl; produced = refl; storage = refl })
-    vs v w (Some x) there
+    changed_by (λ y. record y { asked = Some y.registered })
+    (λ y. record { object = refl; produced = refl; storage = refl }) vs v w (Some x) there
 
 -- ---- a settle
 
@@ -224,8 +224,8 @@ module _ (vs : Named Version) (v : OpName) (x : Version) (f : Follow) (there : g
       done = done;
       gone = still_gone d.part (alike v);
     });
-    others = λ w other. inl (alike_after (get vs w) (get passed w) (get d.part w) (alike_beside vs v x f.version w other)
-        (alike w));
+    others = λ w other. inl (alike_after (get vs w) (get passed w) (get d.part w)
+        (alike_beside vs v x f.version w other) (alike w));
     sent = sent;
   }
 
@@ -301,7 +301,8 @@ settles_held vs v others next = elim (settle_cases vs v others next) [
       let n = next passed.version passed.gives.there passed.follow passed.gives.next in
       let us = unlinked vs v passed.version passed.follow.version in
       let gone = died v passed.version.object (buffer_of passed.version.storage) in
-      let by = held_passed vs v passed.version passed.follow passed.gives.there passed.gives.next passed.gives.done n.1 in
+      let by =
+          held_passed vs v passed.version passed.follow passed.gives.there passed.gives.next passed.gives.done n.1 in
       subst (SettlesHeld vs v) (sym passed.is)
       (elim passed.rest [
         | inl quiet ↦

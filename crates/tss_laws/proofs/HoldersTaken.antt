@@ -107,7 +107,8 @@ module _ (l : LookUps) (orderly : IsOrderly l) (early : is_early (phase_at l) �
 
 -- ---- openers
 
-no_opener_by : (y : Version) (mode : Mode) (p : Phase) → produced_opener mode p ≡ false → open_opener y.storage p ≡ false
+no_opener_by : (y : Version) (mode : Mode) (p : Phase) → produced_opener mode p ≡ false
+    → open_opener y.storage p ≡ false
     → (b : Bool) → opener_by y mode p b ≡ false
 no_opener_by y mode p produced opened true = produced
 no_opener_by y mode p produced opened false = opened

@@ -37,7 +37,7 @@ use Rattle.tss_laws.proofs.ReadersUse.{sent_link}
 use Rattle.tss_laws.proofs.HoldersFits.{Holding, LinksFit, HoldsIn, HasOpened, HasCome, holding_of, holding_mapped, holders_by}
 use Rattle.tss_laws.proofs.HoldersMoves.{holding_fresh, links_none}
 use Rattle.tss_laws.proofs.HoldersLeaves.{may_be_linked, holding_linking}
-use Rattle.tss_laws.proofs.HoldersNacked.{same_opener}
+use Rattle.tss_laws.proofs.HoldersSent.{same_opener}
 use Rattle.tss_laws.proofs.HoldersUse.{UsedBy, used_facts, has_more, alike_used, true_used}
 use Rattle.tss_laws.proofs.HoldersKeepsOrder.{AreOrderly-controlled}
 use Rattle.tss_laws.proofs.HoldersRunnerEvents.{HasRunners-after_event}

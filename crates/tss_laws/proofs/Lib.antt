@@ -205,6 +205,7 @@ pub mod BoundEvents
 pub mod BoundRuns
 pub mod WaitsLaw
 pub mod WaitsRuns
+pub mod HoldersSent
 pub mod HoldersNacked
 pub mod ProgressHolders
 pub mod ProgressTableBuffers
@@ -218,6 +219,7 @@ pub mod ChainsNewVersion
 pub mod ChainsOpened
 pub mod CalmStates
 pub mod BuffersSettled
+pub mod HoldersFirst
 pub mod HoldersOpened
 pub mod HoldersOpen
 pub mod HoldersReleasing

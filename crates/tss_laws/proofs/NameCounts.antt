@@ -154,7 +154,8 @@ module _ (many : NameTest → ℕ) (f : IsMeasure many) (few : (k : OpName) → 
       omega (arith, step, one, rest)
 
   -- and of several tasks no more than that for each
-  pub few_in_tasks : {X : Type 0} → (places : ℕ) (tasks : Numbered X) → many (in_tasks tasks places) ≤ len tasks * places
+  pub few_in_tasks : {X : Type 0} → (places : ℕ) (tasks : Numbered X)
+      → many (in_tasks tasks places) ≤ len tasks * places
   few_in_tasks {X} places =
       map_induction nat_order (λ tasks. many (in_tasks tasks places) ≤ len tasks * places)
       (let z = f.none (in_tasks (empty {X = X} {R = nat_cmp}) places)
