@@ -1,15 +1,12 @@
 -- Every run is controlled.
 use Rattle.std.proofs.Common.{List}
-use Rattle.tss_base.specs.declared.operand.OpName.{OpName}
 use Rattle.tss_base.specs.declared.machine.Machine.{Machine}
 use Rattle.tss_base.specs.declared.event.Event.{Event}
-use Rattle.tss_base.specs.declared.event.Event.TheVariants as event
 use Rattle.tss_base.specs.Image.{ImageState}
 use Rattle.tss_protocol.specs.State.{State, initial_state}
 use Rattle.tss_protocol.specs.Needs.{round_of}
 use Rattle.tss_protocol.specs.Run.{IsRun}
 use Rattle.tss_laws.specs.Readers.{arrivals_from, no_arrivals}
-use Rattle.tss_laws.specs.Holders.{HasHolders}
 use Rattle.tss_laws.specs.Control.{IsControlled}
 use Rattle.tss_laws.specs.Controlled.{RoundLaw, ControlLaw, OneMessageLaw, SizesLaw}
 use Rattle.tss_laws.specs.Tasks.{spawned_tasks}
@@ -22,7 +19,7 @@ use Rattle.tss_laws.proofs.ChainsEvents.{keeps_chains}
 use Rattle.tss_laws.proofs.EntriesEvents.{keeps_entries, keeps_retirement}
 use Rattle.tss_laws.proofs.ReadersEvents.{keeps_readers}
 use Rattle.tss_laws.proofs.HoldersEvents.{keeps_holders}
-use Rattle.tss_laws.proofs.GroundworkJoin.{IsGroupKept, AreGroupsKept, controlled_of_runs}
+use Rattle.tss_laws.proofs.GroundworkJoin.{AreGroupsKept, controlled_of_runs}
 
 -- each event keeps each group
 pub keeps_groups : (e : Event) → AreGroupsKept e

@@ -1,5 +1,5 @@
 -- A round with one more task: what its names have, and that the names in the machine are older.
-use Rattle.std.proofs.Common.{◌≡◌, ℕ, suc, ◌≤◌, ◌⊎◌, inl, inr, true, false, List, [], ◌∷◌, ◌++◌, Option, Some, None, refl, sym, arith, true≢false}
+use Rattle.std.proofs.Common.{◌≡◌, ℕ, suc, ◌≤◌, ◌⊎◌, inl, inr, true, List, [], ◌∷◌, ◌++◌, Option, Some, None, refl, arith}
 use Rattle.std.specs.Prelude.{nat_lt}
 use Rattle.std.proofs.lemmas.Bool.{or_parts, ltb-false}
 use Rattle.std.proofs.lemmas.Option.{none-some, same_Some}
@@ -13,8 +13,8 @@ use Rattle.tss_locality.specs.Agreement.{operand_in}
 use Rattle.tss_locality.specs.Objects.{HasObject}
 use Rattle.tss_locality.specs.Rounds.{object_or, object_in, IsRounded}
 use Rattle.tss_locality.proofs.Subjects.{arrival_task}
-use Rattle.tss_phases.specs.Phase.{Phase, Ahead, Decoding, Sent, Waiting, Told, Ready, Releasing, Leaving, Promised, Left, LookUps, inbox_has, look_ups, phase_of, is_decoded}
-use Rattle.tss_phases.specs.Orderly.{FitsPhase, AreOrderly}
+use Rattle.tss_phases.specs.Phase.{inbox_has, look_ups, phase_of, is_decoded}
+use Rattle.tss_phases.specs.Orderly.{AreOrderly}
 use Rattle.tss_laws.specs.Members.{first_there, operand_among, IsOn, IsWriterOn, NoWriterBetween}
 use Rattle.tss_laws.proofs.EntriesQuiet.{decoded_shows}
 use Rattle.tss_laws.proofs.GroundworkRounds.{found_among}

@@ -1,37 +1,21 @@
 -- What an open does to versions, and one that follows nothing.
-use Rattle.std.proofs.Common.{◌≡◌, ◌≢◌, ◌⊎◌, ℕ, ◌+◌, ◌≤◌, Bool, true, false, List, [], ◌∷◌, ◌++◌, Option, Some, None, refl, sym, ap, ◌∙◌, subst, inl, inr, true≢false, arith}
-use Rattle.std.specs.Prelude.{is_some}
-use Rattle.std.specs.FinMap.{get, contains_key}
-use Rattle.std.proofs.lemmas.Option.{none-some, same_Some}
+use Rattle.std.proofs.Common.{◌≡◌, ◌≢◌, ◌⊎◌, true, false, List, Option, Some, None, refl, sym, ap, ◌∙◌, inl, inr}
+use Rattle.std.specs.FinMap.{get}
+use Rattle.std.proofs.lemmas.Option.{none-some}
 use Rattle.tss_base.specs.declared.operand.OpName.{OpName}
 use Rattle.tss_base.specs.declared.operand.Mode.{Mode}
 use Rattle.tss_base.specs.declared.operand.Mode.TheVariants.{Input, Output, Inout}
-use Rattle.tss_base.specs.declared.operand.Operand.{Operand}
-use Rattle.tss_base.specs.declared.operand.Task.{Task}
-use Rattle.tss_base.specs.declared.machine.Machine.{Machine}
-use Rattle.tss_base.specs.declared.event.How.{How}
-use Rattle.tss_base.specs.declared.event.How.TheVariants.{Beside, Over}
-use Rattle.tss_base.specs.declared.event.Follow.{Follow}
 use Rattle.tss_base.specs.Names.{Named}
-use Rattle.tss_maps.proofs.Keys.{name_order, decide_key}
-use Rattle.tss_maps.proofs.Changes.{decide_get, at_inserted, beside_inserted}
-use Rattle.tss_protocol.specs.Mail.{StorageName, Home, Buffer, OpenContents, Message}
-use Rattle.tss_protocol.specs.State.{State, Version}
-use Rattle.tss_protocol.specs.Versions.{Versioned, sending, ready_with, put_version, new_version, first_version, followed, settled, opened_how, opened_by, after_open, is_followable}
+use Rattle.tss_maps.proofs.Keys.{name_order}
+use Rattle.tss_maps.proofs.Changes.{at_inserted, beside_inserted}
+use Rattle.tss_protocol.specs.Mail.{StorageName, Home, OpenContents, Message}
+use Rattle.tss_protocol.specs.State.{Version}
+use Rattle.tss_protocol.specs.Versions.{ready_with, put_version, first_version}
 use Rattle.tss_phases.specs.Told.{tells}
 use Rattle.tss_phases.proofs.SettlingLemmas.{ready_with_told}
-use Rattle.tss_phases.proofs.ToldPhases.{first_tells}
-use Rattle.tss_laws.specs.Members.{total, registered_of, opening_reader, uses_of}
-use Rattle.tss_laws.specs.Readers.{Arrivals}
-use Rattle.tss_laws.specs.Control.{HasGroundwork, IsControlled}
-use Rattle.tss_laws.proofs.SentLemmas.{AllSent, AllSent-append}
-use Rattle.tss_laws.proofs.SettleCases.{HasNext}
-use Rattle.tss_laws.proofs.ChainsRegistered.{link_to, linked_to}
-use Rattle.tss_laws.proofs.ChainsOpen.{following, at_followed, behind_followed, beside_followed, others_followed}
-use Rattle.tss_laws.proofs.ChainsSettled.{done_parts}
-use Rattle.tss_laws.proofs.HoldersSettled.{HeldAlike, HasGone, HasTaken, TellsOwn, SettlesHeld, settles_held, stays_alike, from_alike}
-use Rattle.tss_laws.proofs.HoldersThinned.{StaysHeld, IsSpent, ThinsHeld}
-use Rattle.tss_laws.proofs.HoldersSent.{told_own}
+use Rattle.tss_laws.proofs.SentLemmas.{AllSent}
+use Rattle.tss_laws.proofs.HoldersSettled.{HeldAlike, TellsOwn}
+use Rattle.tss_laws.proofs.HoldersThinned.{ThinsHeld}
 
 -- the new version: its operand is told its storage, or it has none yet
 pub record IsNewVersion (us : Named Version) (o : OpName) (c : OpenContents) (ms : List Message) : Type 0 where

@@ -1,12 +1,9 @@
 -- What operands hold after a nack: the version may go now, and its successor may be told its storage.
-use Rattle.std.proofs.Common.{◌≡◌, ◌≢◌, ◌⊎◌, ℕ, ◌+◌, ◌≤◌, Bool, true, false, List, [], ◌∷◌, Option, Some, None, refl, sym, ap, ◌∙◌, subst, inl, inr, true≢false, arith}
+use Rattle.std.proofs.Common.{◌≡◌, ◌≢◌, ◌⊎◌, ℕ, ◌+◌, ◌≤◌, Bool, true, false, List, Option, Some, None, refl, sym, ap, ◌∙◌, subst, inl, inr, true≢false, arith}
 use Rattle.std.specs.Prelude.{is_some}
 use Rattle.std.specs.FinMap.{get}
-use Rattle.std.proofs.lemmas.Bool.{or_cases}
 use Rattle.std.proofs.lemmas.Option.{none-some, same_Some}
 use Rattle.tss_base.specs.declared.operand.OpName.{OpName}
-use Rattle.tss_base.specs.declared.operand.Mode.{Mode}
-use Rattle.tss_base.specs.declared.operand.Mode.TheVariants.{Input, Output, Inout}
 use Rattle.tss_base.specs.declared.operand.Operand.{Operand}
 use Rattle.tss_base.specs.declared.operand.Task.{Task}
 use Rattle.tss_base.specs.declared.machine.Machine.{Machine}
@@ -15,31 +12,28 @@ use Rattle.tss_base.specs.Names.{Named}
 use Rattle.tss_maps.proofs.Keys.{name_order, decide_key}
 use Rattle.tss_maps.proofs.Changes.{at_inserted, beside_inserted}
 use Rattle.tss_model.specs.Access.{writes}
-use Rattle.tss_protocol.specs.Mail.{StorageName, Source, Message, Decode, Ack, Open, Use, Ready, Link, Release, Bye, Idle, Nack, Retire, Gone}
-use Rattle.tss_protocol.specs.State.{State, OperandState, Version}
+use Rattle.tss_protocol.specs.Mail.{StorageName, Source}
+use Rattle.tss_protocol.specs.State.{State, Version}
 use Rattle.tss_protocol.specs.Stations.{operand_at}
 use Rattle.tss_protocol.specs.Versions.{Versioned, put_version, refused_once, nacked_at, after_nack, settled}
 use Rattle.tss_protocol.specs.UnitMachine.{is_enabled, IsEnabled, after_event}
-use Rattle.tss_phases.specs.Phase.{Phase, Waiting, Told, Left, LookUps, look_ups, phase_at, phase_of}
-use Rattle.tss_phases.specs.Told.{is_ready_for, tells, phase_told}
-use Rattle.tss_phases.proofs.SettlingLemmas.{name_from_test}
-use Rattle.tss_phases.specs.Openers.{version_opener, opener_by, produced_opener, open_opener}
-use Rattle.tss_phases.specs.Orderly.{AreOrderly, KeepsOrder}
+use Rattle.tss_phases.specs.Phase.{Phase, Waiting, Told, Left, look_ups, phase_of}
+use Rattle.tss_phases.specs.Told.{tells, phase_told}
+use Rattle.tss_phases.specs.Openers.{version_opener}
 use Rattle.tss_phases.proofs.News.{untold}
 use Rattle.tss_phases.proofs.Received.{received_all}
 use Rattle.tss_phases.proofs.NackEvent.{news_nack, look_ups-nack, phase_of-nack}
 use Rattle.tss_locality.proofs.LeftFields.{Leaves-after_event}
-use Rattle.tss_laws.specs.Members.{operand_among, total, registered_of, opening_reader, uses_of}
+use Rattle.tss_laws.specs.Members.{operand_among, registered_of, opening_reader, uses_of}
 use Rattle.tss_laws.specs.Readers.{Arrivals}
 use Rattle.tss_laws.specs.Holders.{IsOwnOrRead, IsTrue, HasHolders}
 use Rattle.tss_laws.specs.Control.{HasGroundwork, IsControlled}
-use Rattle.tss_laws.proofs.SentLemmas.{AllSent}
 use Rattle.tss_laws.proofs.ReadersLinks.{links-nack}
 use Rattle.tss_laws.proofs.ChainsSettled.{with_versions, HasChains-written, done_parts, chains_next}
 use Rattle.tss_laws.proofs.ChainsReleased.{others_written, HasChains-nack}
 use Rattle.tss_laws.proofs.HoldersFits.{Holding, HasOpened, HasCome, HoldsIn, holding_mapped, holders_by}
-use Rattle.tss_laws.proofs.HoldersMoves.{TellsTrue, holding_news}
-use Rattle.tss_laws.proofs.HoldersSettled.{HeldAlike, AlikeAt, HasGone, HasTaken, TellsOwn, SettlesHeld, settles_held, stays_alike, from_alike}
+use Rattle.tss_laws.proofs.HoldersMoves.{holding_news}
+use Rattle.tss_laws.proofs.HoldersSettled.{HeldAlike, HasGone, HasTaken, SettlesHeld, settles_held, stays_alike, from_alike}
 use Rattle.tss_laws.proofs.HoldersThinned.{StaysHeld, IsSpent, ThinsHeld, holding_still}
 use Rattle.tss_laws.proofs.HoldersRunnerEvents.{HasRunners-after_event}
 use Rattle.tss_laws.proofs.HoldersKeepsOrder.{keeps_order, AreOrderly-controlled}

@@ -1,7 +1,7 @@
 -- A produced version whose readers have all released it is needed by nobody.
-use Rattle.std.proofs.Common.{◌≡◌, ◌≢◌, ◌⊎◌, ◌≤◌, Bool, true, false, List, Option, Some, None, refl, sym, ap, ◌∙◌, subst, inl, inr, true≢false}
+use Rattle.std.proofs.Common.{◌≡◌, ◌≢◌, ◌≤◌, Bool, true, false, List, Some, refl, sym, ap, ◌∙◌, subst, inl, inr, true≢false}
 use Rattle.std.specs.FinMap.{get}
-use Rattle.std.proofs.lemmas.Option.{none-some, same_Some}
+use Rattle.std.proofs.lemmas.Option.{none-some}
 use Rattle.tss_base.specs.declared.operand.OpName.{OpName}
 use Rattle.tss_base.specs.declared.operand.Mode.{Mode}
 use Rattle.tss_base.specs.declared.operand.Mode.TheVariants.{Input, Output, Inout}
@@ -17,7 +17,7 @@ use Rattle.tss_laws.specs.Readers.{Arrivals, Has}
 use Rattle.tss_laws.specs.Holders.{IsTrue, IsOwnOrRead}
 use Rattle.tss_laws.specs.Control.{IsControlled}
 use Rattle.tss_laws.proofs.ReadersStates.{no_link_left, all_have_gone}
-use Rattle.tss_laws.proofs.HoldersFits.{Needs, HasOpened, HasCome}
+use Rattle.tss_laws.proofs.HoldersFits.{Needs}
 
 -- ---- phases
 

@@ -1,12 +1,10 @@
 -- What an open leaves of versions: the new one, and the settle of the one that it follows.
-use Rattle.std.proofs.Common.{◌≡◌, ◌≢◌, ◌⊎◌, ℕ, ◌+◌, ◌≤◌, Bool, true, false, List, [], ◌∷◌, ◌++◌, Option, Some, None, refl, sym, ap, ◌∙◌, subst, inl, inr, true≢false, arith}
+use Rattle.std.proofs.Common.{◌≡◌, ◌≢◌, ◌⊎◌, ℕ, ◌+◌, ◌≤◌, Bool, true, false, List, ◌++◌, Option, Some, None, refl, sym, ap, ◌∙◌, subst, inl, inr, true≢false, arith}
 use Rattle.std.specs.Prelude.{is_some}
 use Rattle.std.specs.FinMap.{get, contains_key}
 use Rattle.std.proofs.lemmas.Option.{none-some, same_Some}
 use Rattle.tss_base.specs.declared.operand.OpName.{OpName}
-use Rattle.tss_base.specs.declared.operand.Mode.{Mode}
 use Rattle.tss_base.specs.declared.operand.Mode.TheVariants.{Input, Output, Inout}
-use Rattle.tss_base.specs.declared.operand.Operand.{Operand}
 use Rattle.tss_base.specs.declared.operand.Task.{Task}
 use Rattle.tss_base.specs.declared.machine.Machine.{Machine}
 use Rattle.tss_base.specs.declared.event.How.{How}
@@ -14,14 +12,14 @@ use Rattle.tss_base.specs.declared.event.How.TheVariants.{Beside, Over}
 use Rattle.tss_base.specs.declared.event.Follow.{Follow}
 use Rattle.tss_base.specs.Names.{Named}
 use Rattle.tss_maps.proofs.Keys.{name_order, decide_key}
-use Rattle.tss_maps.proofs.Changes.{decide_get, at_inserted, beside_inserted}
-use Rattle.tss_protocol.specs.Mail.{StorageName, Home, Buffer, OpenContents, Message}
+use Rattle.tss_maps.proofs.Changes.{decide_get}
+use Rattle.tss_protocol.specs.Mail.{StorageName, Buffer, OpenContents}
 use Rattle.tss_protocol.specs.State.{State, Version}
-use Rattle.tss_protocol.specs.Versions.{Versioned, sending, ready_with, put_version, new_version, first_version, followed, settled, opened_how, opened_by, after_open, is_followable}
+use Rattle.tss_protocol.specs.Versions.{Versioned, ready_with, followed, settled, opened_how, opened_by, after_open, is_followable}
 use Rattle.tss_phases.specs.Told.{tells}
 use Rattle.tss_phases.proofs.SettlingLemmas.{ready_with_told}
 use Rattle.tss_phases.proofs.ToldPhases.{first_tells}
-use Rattle.tss_laws.specs.Members.{total, registered_of, opening_reader, uses_of}
+use Rattle.tss_laws.specs.Members.{registered_of, opening_reader, uses_of}
 use Rattle.tss_laws.specs.Readers.{Arrivals}
 use Rattle.tss_laws.specs.Control.{HasGroundwork, IsControlled}
 use Rattle.tss_laws.proofs.SentLemmas.{AllSent, AllSent-append}
@@ -32,7 +30,7 @@ use Rattle.tss_laws.proofs.ChainsSettled.{done_parts}
 use Rattle.tss_laws.proofs.HoldersSettled.{HeldAlike, HasGone, HasTaken, TellsOwn, SettlesHeld, settles_held, stays_alike, from_alike}
 use Rattle.tss_laws.proofs.HoldersThinned.{StaysHeld, IsSpent, ThinsHeld}
 use Rattle.tss_laws.proofs.HoldersSent.{told_own}
-use Rattle.tss_laws.proofs.HoldersFirst.{IsNewVersion, OpensHeld, opens_first}
+use Rattle.tss_laws.proofs.HoldersFirst.{OpensHeld, opens_first}
 
 -- ---- one that follows another
 

@@ -1,24 +1,23 @@
 -- What a settle leaves of versions: it changes no object and no produced bit. One version may go, which was done, and
 -- one that is told may get the storage of that. All others keep their storages.
-use Rattle.std.proofs.Common.{◌≡◌, ◌≢◌, ◌⊎◌, Bool, true, false, List, [], ◌∷◌, ◌++◌, Option, Some, None, refl, sym, ap, ◌∙◌, subst, inl, inr, true≢false}
+use Rattle.std.proofs.Common.{◌≡◌, ◌≢◌, ◌⊎◌, true, false, List, [], ◌∷◌, Option, Some, None, refl, sym, ap, ◌∙◌, subst, inl, inr}
 use Rattle.std.specs.Prelude.{◌||◌}
 use Rattle.std.specs.FinMap.{get, insert}
-use Rattle.std.proofs.lemmas.Option.{none-some, same_Some}
-use Rattle.tss_base.specs.declared.range.Range.{Range}
+use Rattle.std.proofs.lemmas.Option.{none-some}
 use Rattle.tss_base.specs.declared.operand.OpName.{OpName}
 use Rattle.tss_base.specs.declared.event.How.TheVariants.{Over}
 use Rattle.tss_base.specs.declared.event.Follow.{Follow}
 use Rattle.tss_base.specs.Names.{Named}
 use Rattle.tss_maps.proofs.Keys.{name_order, decide_key}
 use Rattle.tss_maps.proofs.Changes.{at_inserted, beside_inserted, at_removed, beside_removed}
-use Rattle.tss_protocol.specs.Mail.{StorageName, Source, Message, Decode, Ack, Open, Use, Ready, Link, Release, Bye, Idle, Nack, Retire, Gone}
+use Rattle.tss_protocol.specs.Mail.{StorageName, Message, Decode, Ack, Open, Use, Ready, Link, Release, Bye, Idle, Nack, Retire, Gone}
 use Rattle.tss_protocol.specs.State.{Version}
-use Rattle.tss_protocol.specs.Versions.{Versioned, sending, died, buffer_of, ready_with, put_version, drop_version, change_version, version_changed, change_named, followed_by, unlinked, may_die, settle_over, settle_asking, unchanged, settled}
+use Rattle.tss_protocol.specs.Versions.{Versioned, sending, died, buffer_of, ready_with, drop_version, change_version, version_changed, change_named, followed_by, unlinked, may_die, settle_over, settle_asking, unchanged, settled}
 use Rattle.tss_protocol.specs.Names.{same_name}
 use Rattle.tss_phases.specs.Told.{tells}
 use Rattle.tss_phases.proofs.Received.{own_name}
 use Rattle.tss_laws.proofs.SentLemmas.{AllSent}
-use Rattle.tss_laws.proofs.SettleCases.{OthersSettled, HasNext, IsQuiet, Asks, IsTakenOver, IsPassedBy, SettleCase, moved_up, at_changed, beside_changed, settle_cases}
+use Rattle.tss_laws.proofs.SettleCases.{OthersSettled, HasNext, moved_up, at_changed, beside_changed, settle_cases}
 
 -- ---- versions that are alike
 

@@ -1,17 +1,16 @@
 -- How many there are of names that pass a test: at most one under each name, so at most one for each place of each task
 -- in flight.
-use Rattle.std.proofs.Common.{◌≡◌, ◌≢◌, ℕ, zero, suc, ◌+◌, ◌*◌, ◌<◌, ◌≤◌, ◌⊎◌, inl, inr, Bool, true, false, Option, Some, None, refl, sym, ap, ◌∙◌, arith, true≢false}
+use Rattle.std.proofs.Common.{◌≡◌, ◌≢◌, ℕ, zero, suc, ◌+◌, ◌*◌, ◌≤◌, ◌⊎◌, inl, inr, Bool, true, false, Option, Some, refl, sym, ap, ◌∙◌, arith, true≢false}
 use Rattle.std.specs.Prelude.{◌==◌, ◌&&◌, nat_lt, is_some}
-use Rattle.std.specs.declared.cmp.Ordering.{Ordering}
 use Rattle.std.specs.Ordering.{nat_cmp}
-use Rattle.std.specs.FinMap.{FinMap, empty, get, insert, remove, len, get-empty}
+use Rattle.std.specs.FinMap.{empty, get, insert, remove, len, get-empty}
 use Rattle.std.proofs.lemmas.Bool.{and_parts}
 use Rattle.std.proofs.lemmas.Bool.Decides.{nat_tests}
 use Rattle.std.proofs.lemmas.Option.{none-some}
 use Rattle.tss_base.specs.declared.operand.OpName.{OpName}
-use Rattle.tss_base.specs.Names.{Named, Numbered, name_cmp}
-use Rattle.tss_maps.specs.Sums.{one_if, sum_of, count_of}
-use Rattle.tss_maps.proofs.Keys.{IsKeyOrder, nat_order, name_order, decide_key}
+use Rattle.tss_base.specs.Names.{Named, Numbered}
+use Rattle.tss_maps.specs.Sums.{one_if, count_of}
+use Rattle.tss_maps.proofs.Keys.{nat_order, name_order, decide_key}
 use Rattle.tss_maps.proofs.Changes.{decide_get, beside_inserted, from_removed}
 use Rattle.tss_maps.proofs.Entries.{map_induction, len_added}
 use Rattle.tss_maps.proofs.Sums.{sum_at_most, sum_both, sum_removed, sum_none, count_none, count_all}
