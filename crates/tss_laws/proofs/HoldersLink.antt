@@ -196,7 +196,7 @@ module _ (m : Machine) (all ts : List Task) (g : Arrivals) (S : State) (ground :
         → Holding (IsTrue g S q p) (HasOpened S q) (HasCome g S q) (writes p.mode) (mid q) (get S.mail.links q)
     mid_holds q apart p was =
         let H : Option OperandState
-            → Type 0 = λ k. Holding (IsTrue g S q p) (HasOpened S q) (HasCome g S q) (writes p.mode)
+        → Type 0 = λ k. Holding (IsTrue g S q p) (HasOpened S q) (HasCome g S q) (writes p.mode)
         (record (look_ups S q) { station = k }) (get S.mail.links q) in
         elim (decide_key nat_order q.task o.task) [
           | inl same ↦

@@ -238,7 +238,7 @@ module _ (m : Machine) (all ts : List Task) (g : Arrivals) (S : State) (ground :
       holds = λ p e was.
           holds_after ts g S T versions after o p
           (record (look_ups S o) { telling = None; station = Some (operand_after_ready r s) })
-              (get S.mail.links o) looked
+          (get S.mail.links o) looked
           (same_link o)
           (holding_readied (IsTrue g S o p) (HasOpened S o) (HasCome g S o) (writes p.mode) (look_ups S o)
           (get S.mail.links o) was s there told_now stands.0 r kept stands.1.0.stays);

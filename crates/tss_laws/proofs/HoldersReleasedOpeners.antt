@@ -193,13 +193,13 @@ module _ (m : Machine) (all ts : List Task) (g : Arrivals) (S : State) (ground :
                 ∙ ap (λ s. open_opener s Told) (taken.0 ∙ k.stored)
             | inl same ↦ elim (release_tells S.versions o v x c.producer w
                 ((same_tells m all ts g S ground h o on c there k) w ∙ t)) [
-              | inl head ↦ absurd (head_input b at wt head.1)
-              | inr settled_tells ↦
-                  let own = told_own d.part w d.sent (settles m all ts g S ground h o on c there k).sent
-                  (settle_tells_successor (suc (len vs)) vs v w settled_tells) in
-                  let is = one_value d.part w y own.1 e own.2 in
-                  absurd (storage_none b n.1 same own.0.storage (ap (λ (y : Version). y.storage) is ∙ own.3))
-            ]
+                  | inl head ↦ absurd (head_input b at wt head.1)
+                  | inr settled_tells ↦
+                      let own = told_own d.part w d.sent (settles m all ts g S ground h o on c there k).sent
+                      (settle_tells_successor (suc (len vs)) vs v w settled_tells) in
+                      let is = one_value d.part w y own.1 e own.2 in
+                      absurd (storage_none b n.1 same own.0.storage (ap (λ (y : Version). y.storage) is ∙ own.3))
+                ]
           ]
 
   -- each agrees with its version

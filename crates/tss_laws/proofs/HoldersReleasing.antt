@@ -107,7 +107,7 @@ module _ (m : Machine) (all ts : List Task) (g : Arrivals) (S : State) (ground :
   not_waiting e =
       let p = h.chains.opener v x k.there in
       let w = waiting_opener x p.0.mode
-          (ap (version_opener x p.0.mode) (sym e) ∙ h.holders.openers v x p.0 k.there p.1) in
+      (ap (version_opener x p.0.mode) (sym e) ∙ h.holders.openers v x p.0 k.there p.1) in
       none-some k.storage (sym w.1 ∙ k.stored)
 
   -- where a version came from

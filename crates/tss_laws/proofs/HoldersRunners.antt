@@ -115,7 +115,7 @@ module _ (p : Standing) (h : Runs p) where
     still_at k s early a = elim (decide_key nat_order k n) [
       | inl is ↦
           let at = ap (λ (x : Flying). x.stage) (same_Some x a.0 (sym there ∙ ap (get p.flight) (sym is) ∙ a.1))
-              ∙ a.2 in
+          ∙ a.2 in
           subst (λ k. IsAtStage (remaining_tasks p.flight n y) k s) (sym is)
           (stage_stays p.flight n y s early (same ∙ at))
       | inr other ↦ stage_remaining p.flight n y k s other a

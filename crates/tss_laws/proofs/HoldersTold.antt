@@ -89,7 +89,7 @@ module _ (ts : List Task) (g : Arrivals) (S : State) (chains : HasChains ts S) (
         stops y k how gives =
             let n = (chains.linked v x there).followed h.follow to in
             let apart : s ≢ v = λ e. let a = n.younger in let b = ap (λ (o : OpName). o.task) e in omega
-                (arith, a, b) in
+            (arith, a, b) in
             let other : h.version.predecessor ≡ Some s → ⊥ =
             λ e. let c = ((chains.linked v x there).after s
             (sym before ∙ ap (λ (y : Version). y.predecessor) (sym is) ∙ e)).older in
@@ -128,7 +128,7 @@ module _ (ts : List Task) (S : State) (chains : HasChains ts S) (o : OpName) (c 
   apart_followed : f.version ≢ o
   apart_followed e =
       let a = ((chains.opens o c there).after f to).older in let b = ap (λ (o : OpName). o.task) e in omega
-          (arith, a, b)
+      (arith, a, b)
 
   at_followed : (x : Version) → get S.versions f.version ≡ Some x
       → get opened f.version ≡ Some (record x { successor = Some (record f { version = o }) })

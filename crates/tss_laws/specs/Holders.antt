@@ -1,5 +1,5 @@
--- What each operand of a round holds: the version that it was told, its link, and what its phase says of the version that
--- it has opened.
+-- What each operand of a round holds: the version that it was told, its link, and what its phase says of the version
+-- that it has opened.
 use Rattle.std.specs.Prelude.{◌≡◌, Bool, true, false, ◌⊎◌, List, Option, Some, None}
 use Rattle.std.specs.FinMap.{get}
 use Rattle.tss_base.specs.declared.operand.OpName.{OpName}
