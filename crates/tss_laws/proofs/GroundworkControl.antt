@@ -8,7 +8,8 @@ use Rattle.tss_protocol.specs.Needs.{round_of}
 use Rattle.tss_protocol.specs.Run.{IsRun}
 use Rattle.tss_laws.specs.Readers.{arrivals_from, no_arrivals}
 use Rattle.tss_laws.specs.Control.{IsControlled}
-use Rattle.tss_laws.specs.Controlled.{RoundLaw, ControlLaw, OneMessageLaw, SizesLaw}
+use Rattle.tss_laws.specs.Controlled.{RoundLaw, ControlLaw, OneMessageLaw}
+use Rattle.tss_laws.specs.Refinement.{SizesLaw}
 use Rattle.tss_laws.specs.Tasks.{spawned_tasks}
 use Rattle.tss_laws.proofs.TableLemmas.{tables_of_runs}
 use Rattle.tss_laws.proofs.MessageLemmas.{messages_of_runs}
