@@ -237,3 +237,4 @@ pub mod BuffersReleased
 pub mod BuffersOpened
 pub mod ChainsNumbers
 pub mod BuffersDecoded
+pub mod RoomyBegun
