@@ -238,3 +238,4 @@ pub mod BuffersOpened
 pub mod ChainsNumbers
 pub mod BuffersDecoded
 pub mod RoomyBegun
+pub mod RoomyStart
