@@ -239,3 +239,4 @@ pub mod ChainsNumbers
 pub mod BuffersDecoded
 pub mod RoomyBegun
 pub mod RoomyStart
+pub mod RoomyEvents

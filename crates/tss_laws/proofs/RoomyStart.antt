@@ -49,7 +49,7 @@ module _ (m : Machine) (all ts : List Task) (g : Arrivals) (S : State) (ground :
   -- ---- records
 
   -- the operand of a name in its task, where that is in flight
-  place_of : (v : OpName) (p : Operand) (x : Flying) → operand_among ts v ≡ Some p → get S.flight v.task ≡ Some x
+  pub place_of : (v : OpName) (p : Operand) (x : Flying) → operand_among ts v ≡ Some p → get S.flight v.task ≡ Some x
       → slice_get (operands_of x.task) v.place ≡ Some p
   place_of v p x among flies =
       let of = ground.known.operands v p among in
