@@ -240,3 +240,4 @@ pub mod BuffersDecoded
 pub mod RoomyBegun
 pub mod RoomyStart
 pub mod RoomyEvents
+pub mod BuffersEvents
