@@ -1,7 +1,7 @@
 -- The bytes of program order: what stands in each storage, at home, and on each worker, as far as program order starts the
 -- tasks.
 use Rattle.std.proofs.Common.{◌≡◌, ◌⊎◌, ℕ, ◌+◌, ◌<◌, ◌≤◌, Bool, true, false, List, length, take, Option, Some, None}
-use Rattle.std.specs.Prelude.{cond}
+use Rattle.std.specs.Prelude.{cond, slice_index}
 use Rattle.std.specs.FinMap.{get}
 use Rattle.tss_base.specs.declared.range.Range.{Range}
 use Rattle.tss_base.specs.declared.operand.OpName.{OpName}
@@ -12,7 +12,7 @@ use Rattle.tss_base.specs.declared.ending.Trap.{Trap}
 use Rattle.tss_base.specs.declared.event.Stage.TheVariants as stage
 use Rattle.tss_base.specs.declared.machine.Machine.{Machine}
 use Rattle.tss_base.specs.Image.{ImageState}
-use Rattle.tss_model.specs.Memory.{bytes_of}
+use Rattle.tss_model.specs.Memory.{byte_at, bytes_of}
 use Rattle.tss_model.specs.Access.{reads, writes}
 use Rattle.tss_model.specs.InOrder.{Started, started_at, end_of_started}
 use Rattle.tss_protocol.specs.Mail.{StorageName, Buffer, OpenContents, GoneContents}
@@ -87,14 +87,17 @@ pub record HasWorkers (m : Machine) (i : ImageState) (S : State) : Type 0 where
 
 -- ---- home
 
--- what is copied home, or has come there, is the value of the object's last version
+-- what is copied home, or has come there, is the value of the object's last version. The bytes that a copy has moved are
+-- at home
 pub record HasReturns (m : Machine) (i : ImageState) (ts : List Task) (S : State) : Type 0 where
   pub copied : (bank : ℕ) (c : CopyState) (p : Operand) (s : Started) → get S.copies bank ≡ Some c
-      → IsKnown m i ts c.version p s → IsGood m i s p → take c.object.len (buffer_bytes S.contents c.buffer) ≡ bytes_after m i s p
-  pub moved : (bank : ℕ) (c : CopyState) (p : Operand) (s : Started) → get S.copies bank ≡ Some c
-      → IsKnown m i ts c.version p s → IsGood m i s p → take c.moved (bytes_of S.home c.object) ≡ take c.moved (bytes_after m i s p)
-  pub gone : (v : OpName) (g : GoneContents) (p : Operand) (s : Started) → get S.mail.gones v ≡ Some g → g.retired ≡ true
-      → IsKnown m i ts v p s → IsGood m i s p → bytes_of S.home g.object ≡ bytes_after m i s p
+      → IsKnown m i ts c.version p s → IsGood m i s p
+      → take c.object.len (buffer_bytes S.contents c.buffer) ≡ bytes_after m i s p
+  pub within : (bank : ℕ) (c : CopyState) → get S.copies bank ≡ Some c → c.moved ≤ c.object.len
+  pub moved : (bank : ℕ) (c : CopyState) (k : ℕ) → get S.copies bank ≡ Some c → k < c.moved
+      → byte_at S.home (c.object.base + k) ≡ slice_index (buffer_bytes S.contents c.buffer) k
+  pub gone : (v : OpName) (g : GoneContents) (p : Operand) (s : Started) → get S.mail.gones v ≡ Some g
+      → g.retired ≡ true → IsKnown m i ts v p s → IsGood m i s p → bytes_of S.home g.object ≡ bytes_after m i s p
 
 -- an operand on an object is the first of it that isn't decoded
 pub record IsFirstAhead (ts : List Task) (S : State) (x : Range) (o : OpName) (p : Operand) : Type 0 where

@@ -9,7 +9,7 @@ use Rattle.tss_base.specs.declared.event.Event.TheVariants as event
 use Rattle.tss_base.specs.Image.{ImageState}
 use Rattle.tss_maps.proofs.Keys.{name_order}
 use Rattle.tss_maps.proofs.Changes.{from_removed, beside_removed}
-use Rattle.tss_model.specs.Memory.{bytes_of}
+use Rattle.tss_model.specs.Memory.{byte_at}
 use Rattle.tss_protocol.specs.Mail.{GoneContents, Mail, taken}
 use Rattle.tss_protocol.specs.State.{State, CopyState}
 use Rattle.tss_protocol.specs.Buffers.{buffer_bytes, contents_after_gone}
@@ -53,11 +53,11 @@ module _ (m : Machine) (all ts : List Task) (S : State) (ground : HasGroundwork 
             let old = (λ j. get (sym (λ j. (Leaves-after_event m S (event.Gone v) j).copies) j) bank) ∙ at in (
               old,
               ap (λ m. buffer_bytes m c.buffer) contents ∙ copied_bytes bank c old g.buffer refl,
-              ap (λ m. bytes_of m c.object) home,
+              λ a inside. ap (λ m. byte_at m a) home,
             );
         gones = λ w c at last. (
           (from_removed name_order S.mail.gones v w c (ap (λ m. get m w) (sym gones) ∙ at)).1,
-          ap (λ m. bytes_of m c.object) home,
+          λ a inside. ap (λ m. byte_at m a) home,
         );
       }
 

@@ -1,6 +1,6 @@
 -- What is brought home after a retire: the last version has the bytes that its operand leaves in program order.
-use Rattle.std.proofs.Common.{◌≡◌, ◌≢◌, ℕ, ◌⊎◌, Bool, true, false, List, [], ◌∷◌, take, Option, Some, None, refl, sym, ap, ◌∙◌, subst, inl, inr, true≢false}
-use Rattle.std.specs.Prelude.{is_some, ◌&&◌}
+use Rattle.std.proofs.Common.{◌≡◌, ℕ, ◌+◌, ◌<◌, ◌≤◌, ◌⊎◌, arith, Bool, true, false, List, [], ◌∷◌, take, Option, Some, None, refl, sym, ap, ◌∙◌, subst, inl, inr, true≢false}
+use Rattle.std.specs.Prelude.{is_some, slice_index}
 use Rattle.std.specs.FinMap.{get, insert}
 use Rattle.std.proofs.lemmas.Bool.{and_parts}
 use Rattle.std.proofs.lemmas.Option.{none-some, same_Some}
@@ -12,7 +12,7 @@ use Rattle.tss_base.specs.declared.event.Event.TheVariants as event
 use Rattle.tss_base.specs.Image.{ImageState}
 use Rattle.tss_maps.proofs.Keys.{nat_order, name_order, decide_key}
 use Rattle.tss_maps.proofs.Changes.{from_inserted, from_removed, beside_removed}
-use Rattle.tss_model.specs.Memory.{bytes_of}
+use Rattle.tss_model.specs.Memory.{byte_at, bytes_of}
 use Rattle.tss_model.specs.InOrder.{Started}
 use Rattle.tss_protocol.specs.Names.{bank_of}
 use Rattle.tss_protocol.specs.Mail.{StorageName, Home, Buffer, GoneContents, Mail, posted_all, taken}
@@ -26,6 +26,12 @@ use Rattle.tss_laws.specs.Readers.{Arrivals}
 use Rattle.tss_laws.specs.Control.{HasGroundwork, IsControlled}
 use Rattle.tss_laws.proofs.PlainLemmas.{some_unit}
 use Rattle.tss_laws.proofs.Values.{IsKnown, IsGood, bytes_after, content, HasStored, HasReturns}
+
+none_moved : (a n : ℕ) → a ≡ 0 → a ≤ n
+none_moved a n e = omega (arith, e)
+
+none_below : (k a : ℕ) → k < a → a ≡ 0 → ⊥
+none_below k a h e = omega (arith, h, e)
 
 module _ (m : Machine) (i : ImageState) (ts : List Task) (S : State) (stored : HasStored m i ts S)
     (h : HasReturns m i ts S) (v : OpName) (x : Version) (at : get S.versions v ≡ Some x)
@@ -76,14 +82,18 @@ module _ (m : Machine) (i : ImageState) (ts : List Task) (S : State) (stored : H
         ap (λ (c : CopyState). take c.object.len (buffer_bytes S.contents c.buffer)) new
         ∙ own (Buffer n) lies c.version (ap (λ (c : CopyState). c.version) new) p s known good
 
-    moved_by : (b : ℕ) (c : CopyState) (p : Operand) (s : Started)
+    within_by : (b : ℕ) (c : CopyState)
         → (get S.copies b ≡ Some c) ⊎ ((n : OpName) × (x.storage ≡ Some (Buffer n)) × (c ≡ new_copy v x.object n))
-        → IsKnown m i ts c.version p s → IsGood m i s p
-        → take c.moved (bytes_of S.home c.object) ≡ take c.moved (bytes_after m i s p)
-    moved_by b c p s (inl old) known good = h.moved b c p s old known good
-    moved_by b c p s (inr (n, lies, new)) known good =
-        let none = ap (λ (c : CopyState). c.moved) new in
-        ap (λ k. take k (bytes_of S.home c.object)) none ∙ ap (λ k. take k (bytes_after m i s p)) (sym none)
+        → c.moved ≤ c.object.len
+    within_by b c (inl old) = h.within b c old
+    within_by b c (inr (n, lies, new)) = none_moved c.moved c.object.len (ap (λ (c : CopyState). c.moved) new)
+
+    moved_by : (b : ℕ) (c : CopyState) (k : ℕ)
+        → (get S.copies b ≡ Some c) ⊎ ((n : OpName) × (x.storage ≡ Some (Buffer n)) × (c ≡ new_copy v x.object n))
+        → k < c.moved → byte_at S.home (c.object.base + k) ≡ slice_index (buffer_bytes S.contents c.buffer) k
+    moved_by b c k (inl old) small = h.moved b c k old small
+    moved_by b c k (inr (n, lies, new)) small =
+        absurd (none_below k c.moved small (ap (λ (c : CopyState). c.moved) new))
 
     gone_by : (w : OpName) (g : GoneContents) (p : Operand) (s : Started)
         → (get S.mail.gones w ≡ Some g) ⊎ ((x.storage ≡ Some Home) × (w ≡ v) × (g ≡ retired x.object None))
@@ -97,8 +107,11 @@ module _ (m : Machine) (i : ImageState) (ts : List Task) (S : State) (stored : H
       copied = λ b c p s there known good.
           ap (λ m. take c.object.len (buffer_bytes m c.buffer)) contents
           ∙ copied_by b c p s (copied_before b c there) known good;
-      moved = λ b c p s there known good.
-          ap (λ m. take c.moved (bytes_of m c.object)) home ∙ moved_by b c p s (copied_before b c there) known good;
+      within = λ b c there. within_by b c (copied_before b c there);
+      moved = λ b c k there small.
+          ap (λ m. byte_at m (c.object.base + k)) home
+          ∙ moved_by b c k (copied_before b c there) small
+          ∙ ap (λ m. slice_index (buffer_bytes m c.buffer) k) (sym contents);
       gone = λ w g p s there last known good.
           ap (λ m. bytes_of m g.object) home ∙ gone_by w g p s (gone_before w g there) last known good;
     }

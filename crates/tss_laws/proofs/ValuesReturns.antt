@@ -1,6 +1,9 @@
 -- What is copied home, or has come there: the events that leave it.
-use Rattle.std.proofs.Common.{◌≡◌, ℕ, Bool, true, false, List, [], ◌∷◌, take, Option, Some, None, refl, sym, ap, ◌∙◌}
+use Rattle.std.proofs.Common.{◌≡◌, ℕ, ◌+◌, ◌<◌, ◌≤◌, nat_le, nat_lt, Bool, true, false, List, [], ◌∷◌, take, Option, Some, None, refl, sym, ap, ◌∙◌, arith}
+use Rattle.std.specs.Prelude.{slice_index}
 use Rattle.std.specs.FinMap.{get}
+use Rattle.std.proofs.lemmas.Bool.{and_from, le-leb, lt-ltb}
+use Rattle.tss_base.specs.declared.range.Range.{Range}
 use Rattle.tss_base.specs.declared.operand.OpName.{OpName}
 use Rattle.tss_base.specs.declared.operand.Mode.{Mode}
 use Rattle.tss_base.specs.declared.operand.Mode.TheVariants.{Input, Output, Inout}
@@ -10,24 +13,43 @@ use Rattle.tss_base.specs.declared.machine.Machine.{Machine}
 use Rattle.tss_base.specs.declared.event.Event.{Event}
 use Rattle.tss_base.specs.declared.event.Event.TheVariants as event
 use Rattle.tss_base.specs.Image.{ImageState}
-use Rattle.tss_model.specs.Memory.{bytes_of}
+use Rattle.tss_base.specs.Range.{end_of}
+use Rattle.tss_model.specs.Memory.{byte_at, bytes_of, covers}
 use Rattle.tss_protocol.specs.Mail.{OpenContents, ReleaseContents, IdleContents, GoneContents, Mail, posted_all, taken}
 use Rattle.tss_protocol.specs.State.{State, Entry, CopyState}
 use Rattle.tss_protocol.specs.Renaming.{idle_by, may_retire, sent_by_decode, live_message, decode_message}
 use Rattle.tss_protocol.specs.Buffers.{buffer_bytes}
 use Rattle.tss_protocol.specs.UnitMachine.{IsEnabled, after_event, without, decode_message_taken, open_message_taken, use_message_taken, release_message_taken, idle_message_taken, nack_message_taken}
 use Rattle.tss_locality.proofs.LeftFields.{Leaves-after_event}
+use Rattle.tss_laws.proofs.FlatLoads.{same_bytes}
 use Rattle.tss_laws.proofs.EntriesQuiet.{IsQuietEvent, quiet_objects}
 use Rattle.tss_laws.proofs.SentUnretired.{IsUnretired, NoMoreRetired, posted_all_unretired, after_open_unretired, after_use_unretired, after_release_unretired, after_nack_unretired}
 use Rattle.tss_laws.proofs.Values.{HasReturns}
+
+-- home has the same bytes of an object
+abbrev pub SameAtHome : State → State → Range → Type 0
+SameAtHome S T x = (a : ℕ) → covers x a ≡ true → byte_at T.home a ≡ byte_at S.home a
+
+-- so all of them
+pub same_at_home : (S T : State) (x : Range) → SameAtHome S T x → bytes_of T.home x ≡ bytes_of S.home x
+same_at_home S T x same =
+    same_bytes (byte_at T.home) (byte_at S.home) x.base x.len
+    (λ a low high. same a
+    (and_from (nat_le x.base a) (nat_lt a (end_of x)) (le-leb x.base a low) (lt-ltb a (end_of x) high)))
 
 -- what is left
 pub record KeepsReturns (S T : State) : Type 0 where
   pub copies : (bank : ℕ) (c : CopyState) → get T.copies bank ≡ Some c
       → (get S.copies bank ≡ Some c) × (buffer_bytes T.contents c.buffer ≡ buffer_bytes S.contents c.buffer)
-      × (bytes_of T.home c.object ≡ bytes_of S.home c.object)
+      × SameAtHome S T c.object
   pub gones : (v : OpName) (g : GoneContents) → get T.mail.gones v ≡ Some g → g.retired ≡ true
-      → (get S.mail.gones v ≡ Some g) × (bytes_of T.home g.object ≡ bytes_of S.home g.object)
+      → (get S.mail.gones v ≡ Some g) × SameAtHome S T g.object
+
+-- an address of an object by its place
+place_inside : (x : Range) (k n : ℕ) → k < n → n ≤ x.len → covers x (x.base + k) ≡ true
+place_inside x k n low high =
+    and_from (nat_le x.base (x.base + k)) (nat_lt (x.base + k) (end_of x)) (le-leb x.base (x.base + k) (omega arith))
+    (lt-ltb (x.base + k) (end_of x) (omega (arith, low, high)))
 
 -- where it is left it is right
 pub returns_kept : (m : Machine) (i : ImageState) (ts : List Task) (S T : State) → KeepsReturns S T → HasReturns m i ts S
@@ -36,12 +58,15 @@ returns_kept m i ts S T k h = record {
   copied = λ bank c p s at known good.
       let o = k.copies bank c at in
       ap (take c.object.len) o.1 ∙ h.copied bank c p s o.0 known good;
-  moved = λ bank c p s at known good.
+  within = λ bank c at. h.within bank c (k.copies bank c at).0;
+  moved = λ bank c n at small.
       let o = k.copies bank c at in
-      ap (take c.moved) o.2 ∙ h.moved bank c p s o.0 known good;
+      o.2 (c.object.base + n) (place_inside c.object n c.moved small (h.within bank c o.0))
+      ∙ h.moved bank c n o.0 small
+      ∙ ap (λ bytes. slice_index bytes n) (sym o.1);
   gone = λ v g p s at last known good.
       let o = k.gones v g at last in
-      o.1 ∙ h.gone v g p s o.0 last known good;
+      same_at_home S T g.object o.1 ∙ h.gone v g p s o.0 last known good;
 }
 
 -- where copies, buffers and home are left, and nothing more has retired
@@ -51,9 +76,9 @@ returns_same S T copies contents home gones = record {
   copies = λ bank c at. (
     ap (λ m. get m bank) (sym copies) ∙ at,
     ap (λ m. buffer_bytes m c.buffer) contents,
-    ap (λ m. bytes_of m c.object) home,
+    λ a inside. ap (λ m. byte_at m a) home,
   );
-  gones = λ v g at last. (gones v g at last, ap (λ m. bytes_of m g.object) home);
+  gones = λ v g at last. (gones v g at last, λ a inside. ap (λ m. byte_at m a) home);
 }
 
 -- ---- events that leave copies, buffers and home
