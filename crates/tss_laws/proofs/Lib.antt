@@ -241,3 +241,4 @@ pub mod RoomyBegun
 pub mod RoomyStart
 pub mod RoomyEvents
 pub mod BuffersEvents
+pub mod StorageShares
