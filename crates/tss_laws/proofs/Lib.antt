@@ -242,3 +242,4 @@ pub mod RoomyStart
 pub mod RoomyEvents
 pub mod BuffersEvents
 pub mod StorageShares
+pub mod WorkersTold
