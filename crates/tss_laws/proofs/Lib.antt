@@ -198,6 +198,7 @@ pub mod SentUnretired
 pub mod ValuesReturns
 pub mod ValuesRetire
 pub mod ValuesGone
+pub mod ValuesCopy
 pub mod ProgressSettled
 pub mod BoundObjects
 pub mod BoundCopies

@@ -46,7 +46,7 @@ pub record KeepsReturns (S T : State) : Type 0 where
       → (get S.mail.gones v ≡ Some g) × SameAtHome S T g.object
 
 -- an address of an object by its place
-place_inside : (x : Range) (k n : ℕ) → k < n → n ≤ x.len → covers x (x.base + k) ≡ true
+pub place_inside : (x : Range) (k n : ℕ) → k < n → n ≤ x.len → covers x (x.base + k) ≡ true
 place_inside x k n low high =
     and_from (nat_le x.base (x.base + k)) (nat_lt (x.base + k) (end_of x)) (le-leb x.base (x.base + k) (omega arith))
     (lt-ltb (x.base + k) (end_of x) (omega (arith, low, high)))
