@@ -1,9 +1,11 @@
 -- Every event leaves room in the buffers that are set.
 use Rattle.std.proofs.Common.{◌≡◌, ◌≢◌, ◌⊎◌, inl, inr, ℕ, ◌≤◌, Bool, true, false, List, [], ◌∷◌, ◌++◌, length, Option, Some, None, refl, sym, ap, subst, ◌∙◌, arith}
-use Rattle.std.specs.Prelude.{◌&&◌, is_some, slice_get, option_to_list}
+use Rattle.std.specs.Prelude.{◌&&◌, ◌==◌, is_some, slice_get, option_to_list}
 use Rattle.std.specs.List.{list_any}
-use Rattle.std.specs.FinMap.{get, insert}
-use Rattle.std.proofs.lemmas.Bool.{and_parts}
+use Rattle.std.specs.FinMap.{get, insert, get-empty}
+use Rattle.std.specs.Ordering.{nat_cmp}
+use Rattle.std.proofs.lemmas.Bool.{and_parts, or_left}
+use Rattle.std.proofs.lemmas.Bool.Decides.{nat_tests}
 use Rattle.std.proofs.lemmas.Option.{none-some, same_Some}
 use Rattle.tss_base.specs.declared.operand.OpName.{OpName}
 use Rattle.tss_base.specs.declared.operand.Mode.{Mode}
@@ -16,13 +18,14 @@ use Rattle.tss_base.specs.declared.event.Event.{Event}
 use Rattle.tss_base.specs.declared.event.Event.TheVariants as event
 use Rattle.tss_base.specs.declared.event.Stage.TheVariants as stage
 use Rattle.tss_base.specs.declared.event.Follow.{Follow}
-use Rattle.tss_base.specs.Names.{Named, Numbered}
+use Rattle.tss_base.specs.Names.{Named, Numbered, name_cmp}
+use Rattle.tss_base.specs.Image.{ImageState}
 use Rattle.tss_maps.proofs.Keys.{nat_order, decide_key}
 use Rattle.tss_maps.proofs.Changes.{from_inserted, from_removed, beside_inserted}
 use Rattle.tss_model.specs.Access.{operands_of, reads, writes}
 use Rattle.tss_model.specs.MainStep.{Call, ExitCall, Spawn, Barrier, Print, Unknown, main_call}
 use Rattle.tss_protocol.specs.Mail.{StorageName, Home, Buffer, OpenContents, ReleaseContents, GoneContents}
-use Rattle.tss_protocol.specs.State.{State, Flying, Busy, Version, CopyState}
+use Rattle.tss_protocol.specs.State.{State, Flying, Busy, Version, CopyState, initial_state}
 use Rattle.tss_protocol.specs.Stations.{storages_of}
 use Rattle.tss_protocol.specs.Buffers.{buffer_bytes, copies_after_retire, new_copy, is_last_piece, copies_after_copy}
 use Rattle.tss_protocol.specs.MainEvent.{call_next}
@@ -287,3 +290,197 @@ module _ (m : Machine) (all ts : List Task) (g : Arrivals) (S : State) (ground :
   room-nack v =
       room_versions (after_event m S (event.Nack v)) refl refl refl
       (roomy_nacked (IsSet ts S) (IsRoomy m S) S.versions roomy_now v)
+
+  -- ---- retire and copy
+
+  there_tt : (x : Option (Unit {0})) → is_some x ≡ true → x ≡ Some tt
+  there_tt None e = absurd (cc)
+  there_tt (Some x) e = refl
+
+  -- a version that retires is produced
+  retires_produced : (v : OpName) (x : Version) → get S.mail.retires v ≡ Some tt → get S.versions v ≡ Some x
+      → x.produced ≡ true
+  retires_produced v x e there =
+      let asks = ground.asking.retires v e in
+      let same = same_Some asks.1.0 x (sym asks.1.1 ∙ there) in
+      (control.retirement.asked v x asks.0 there (ap (λ (z : Version). z.asked) (sym same) ∙ asks.1.2)).produced
+
+  copies_retired : (bank : ℕ) (v : OpName) (x : Version) → get S.versions v ≡ Some x → x.produced ≡ true
+      → (s : Option StorageName) → x.storage ≡ s → (k : ℕ) (c : CopyState)
+      → get (copies_after_retire S.copies bank v x.object s) k ≡ Some c → IsRoomy m S c.buffer
+  copies_retired bank v x there made None at k c e = room.copies k c e
+  copies_retired bank v x there made (Some Home) at k c e = room.copies k c e
+  copies_retired bank v x there made (Some (Buffer n)) at k c e =
+      elim (from_inserted nat_order S.copies bank (new_copy v x.object n) k c e) [
+        | inl new ↦
+            subst (λ (c : CopyState). IsRoomy m S c.buffer) (sym new.1) (roomy_now v x there n at (inr made))
+        | inr old ↦ room.copies k c old.1
+      ]
+
+  retired : (v : OpName) → get S.mail.retires v ≡ Some tt → (x : Option Version) → get S.versions v ≡ x
+      → HasRoom m ts (retire_version m (without S (event.Retire v)) v x)
+  retired v e None there = room_calm _ refl refl refl (begins_same S.flight)
+  retired v e (Some x) there =
+      room_with ts (retire_version m (without S (event.Retire v)) v (Some x))
+      (λ b long. long) (roomy_drop (IsSet ts S) (IsRoomy m S) S.versions v roomy_now)
+      (sets_before (retire_version m (without S (event.Retire v)) v (Some x)) (begins_same S.flight))
+      (copies_retired _ v x there (retires_produced v x e there) x.storage refl)
+
+  room-retire : (v : OpName) → IsEnabled m S (event.Retire v) → HasRoom m ts (after_event m S (event.Retire v))
+  unfolding is_enabled after_event
+  room-retire v on =
+      retired v (there_tt (get S.mail.retires v) (and_parts (is_some (get S.mail.retires v)) _ on).0)
+      (get S.versions v) refl
+
+  copies_copied : (bank : ℕ) (x : CopyState) → get S.copies bank ≡ Some x → (last : Bool) (k : ℕ) (c : CopyState)
+      → get (copies_after_copy S.copies bank x last) k ≡ Some c → IsRoomy m S c.buffer
+  copies_copied bank x there true k c e = room.copies k c (from_removed nat_order S.copies bank k c e).1
+  copies_copied bank x there false k c e = elim (from_inserted nat_order S.copies bank _ k c e) [
+    | inl new ↦ subst (λ (c : CopyState). IsRoomy m S c.buffer) (sym new.1) (room.copies bank x there)
+    | inr old ↦ room.copies k c old.1
+  ]
+
+  copied : (bank : ℕ) (x : Option CopyState) → get S.copies bank ≡ x → HasRoom m ts (after_copy S bank x)
+  copied bank None there = room_calm S refl refl refl (begins_same S.flight)
+  copied bank (Some x) there =
+      room_with ts (after_copy S bank (Some x)) (λ b long. long) roomy_now
+      (sets_before (after_copy S bank (Some x)) (begins_same S.flight))
+      (copies_copied bank x there (is_last_piece x))
+
+  room-copy : (bank : ℕ) → HasRoom m ts (after_event m S (event.Copy bank))
+  unfolding after_event
+  room-copy bank = copied bank (get S.copies bank) refl
+
+  -- ---- gone
+
+  -- the freed buffer is of no version
+  gone_apart : HasBuffers ts S → (v : OpName) (c : GoneContents) → get S.mail.gones v ≡ Some c → (w : OpName)
+      (y : Version) (b : OpName) → get S.versions w ≡ Some y → y.storage ≡ Some (Buffer b) → c.buffer ≡ Some b → ⊥
+  gone_apart buffers v c e w y b there stored freed =
+      let one = buffers.one v w b (inr (inr (inl (c, e, freed)))) (inr (inl (y, there, stored))) in
+      none-some c (sym (ground.places.versions w y there).2 ∙ ap (get S.mail.gones) (sym one) ∙ e)
+
+  gone_uncopied : HasBuffers ts S → (v : OpName) (c : GoneContents) → get S.mail.gones v ≡ Some c → (k : ℕ)
+      (x : CopyState) → get S.copies k ≡ Some x → c.buffer ≡ Some (x.buffer) → ⊥
+  gone_uncopied buffers v c e k x there freed =
+      let one = buffers.one v x.version x.buffer (inr (inr (inl (c, e, freed))))
+      (inr (inr (inr (k, x, there, refl, refl)))) in
+      (ground.places.gones v c e).1 (k, x, there, sym one)
+
+  left_roomy : (T : State) (b : OpName) → buffer_bytes T.contents b ≡ buffer_bytes S.contents b → IsRoomy m S b
+      → IsRoomy m T b
+  left_roomy T b same long = let e = ap (λ (bs : List ℕ). length bs) same in omega (arith, e, long)
+
+  gone : HasBuffers ts S → (v : OpName) (x : Option GoneContents) → get S.mail.gones v ≡ x
+      → HasRoom m ts (gone_message_taken (without S (event.Gone v)) v x)
+  gone buffers v None e = room_calm _ refl refl refl (begins_same S.flight)
+  gone buffers v (Some c) e =
+      let T = gone_message_taken (without S (event.Gone v)) v (Some c) in
+      record {
+        versions = λ w y b there stored set.
+            left_roomy T b (bytes_beside_gone S.contents c.buffer b (gone_apart buffers v c e w y b there stored))
+            (room.versions w y b there stored (sets_before T (begins_same S.flight) w set y there));
+        copies = λ k x there.
+            left_roomy T x.buffer (bytes_beside_gone S.contents c.buffer x.buffer (gone_uncopied buffers v c e k x there))
+            (room.copies k x there);
+      }
+
+  room-gone : HasBuffers ts S → (v : OpName) → HasRoom m ts (after_event m S (event.Gone v))
+  unfolding after_event
+  room-gone buffers v = gone buffers v (get S.mail.gones v) refl
+
+  -- ---- exec
+
+  executed : (w : ℕ) (b : Option Busy) → HasRoom m ts (after_exec m S w b)
+  executed w None = room_calm S refl refl refl (begins_same S.flight)
+  executed w (Some x) =
+      let T = after_exec m S w (Some x) in
+      room_with ts T
+      (λ b long. let e = size_executed S.code m.limits m.sizes.quantum x (stores_of S) b in omega (arith, e, long))
+      roomy_now (sets_before T (begins_same S.flight)) room.copies
+
+  room-exec : (w : ℕ) → HasRoom m ts (after_event m S (event.Exec w))
+  unfolding after_event
+  room-exec w = executed w (get S.workers w)
+
+  -- ---- start
+
+  module _ (w t : ℕ) (queue : List ℕ) (x : Flying) (flies : get S.flight t ≡ Some x) (queued : x.stage ≡ stage.Queued) where
+    -- no buffer gets shorter
+    long_started : (b : OpName) → IsRoomy m S b → IsRoomy m (start_task m S w t queue (Some x)) b
+    long_started b long = space_started m.limits (stores_of S) (operands_of x.task) (storages_of x) b long
+
+    output_made : (v : OpName) (y : Version) (p : Operand) (b : OpName) → get S.versions v ≡ Some y
+        → operand_among ts v ≡ Some p → y.storage ≡ Some (Buffer b) → v.task ≡ t → (mode : Mode) → p.mode ≡ mode
+        → IsRoomy m (start_task m S w t queue (Some x)) b
+    output_made v y p b there among stored own Input is =
+        long_started b (room.versions v y b there stored (inl (p, among, ap reads is)))
+    output_made v y p b there among stored own Output is =
+        let here = ap (get S.flight) own ∙ flies in
+        space_made m.limits (stores_of S) (operands_of x.task) (storages_of x) v.place p b
+        (place_of m all ts g S ground control v p x among here)
+        (queued_storage m all ts g S ground control v y p b x there among is stored here queued) (ap reads is)
+    output_made v y p b there among stored own Inout is =
+        long_started b (room.versions v y b there stored (inl (p, among, ap reads is)))
+
+    set_started : (v : OpName) (y : Version) (b : OpName) → get S.versions v ≡ Some y → y.storage ≡ Some (Buffer b)
+        → IsSet ts (start_task m S w t queue (Some x)) v → IsRoomy m (start_task m S w t queue (Some x)) b
+    set_started v y b there stored (inl p) = long_started b (room.versions v y b there stored (inl p))
+    set_started v y b there stored (inr begun) = elim (decide_key nat_order v.task t) [
+      | inl same ↦
+          let p = control.chains.opener v y there in
+          output_made v y p.0 b there p.1 stored same (p.0).mode refl
+      | inr apart ↦ long_started b (room.versions v y b there stored (inr (λ z at.
+          begun z (beside_inserted nat_order S.flight t (record x { stage = stage.Running }) v.task apart ∙ at))))
+    ]
+
+    room_started : HasRoom m ts (start_task m S w t queue (Some x))
+    room_started = record {
+      versions = set_started;
+      copies = λ k c e. long_started c.buffer (room.copies k c e);
+    }
+
+  starts : (w : ℕ) (queue : List ℕ) → S.queue ≡ queue → HasRoom m ts (after_start m S w queue)
+  starts w [] e = room_calm S refl refl refl (begins_same S.flight)
+  starts w (t ∷ queue) e =
+      let at = control.holders.runners.queued t
+      (ap (λ ns. list_any (λ k. k == t) ns) e ∙ or_left (t == t) (list_any (λ k. k == t) queue) (itself t)) in
+      subst (HasRoom m ts) (sym (ap (start_task m S w t queue) at.1)) (room_started w t queue at.0 at.1 at.2)
+    where
+      itself : (n : ℕ) → (n == n) ≡ true
+      itself n = grind (arith, nat_tests)
+
+  room-start : (w : ℕ) → HasRoom m ts (after_event m S (event.Start w))
+  unfolding after_event
+  room-start w = starts w S.queue refl
+
+  -- ---- all events
+
+  -- every event leaves room
+  pub HasRoom-after_event : HasBuffers ts S → (e : Event) → IsEnabled m S e
+      → HasRoom m (round_after_event m S ts e) (after_event m S e)
+  HasRoom-after_event buffers event.Main on = room-main
+  HasRoom-after_event buffers event.Take on = room-take
+  HasRoom-after_event buffers (event.Decode o) on = room-decode o
+  HasRoom-after_event buffers (event.Ack o) on = room-ack o
+  HasRoom-after_event buffers (event.Open o) on = room-open o
+  HasRoom-after_event buffers (event.Use o) on = room-use o
+  HasRoom-after_event buffers (event.Ready o) on = room-ready o
+  HasRoom-after_event buffers (event.Link o) on = room-link o
+  HasRoom-after_event buffers (event.Start w) on = room-start w
+  HasRoom-after_event buffers (event.Exec w) on = room-exec w
+  HasRoom-after_event buffers (event.Finish w) on = room-finish w
+  HasRoom-after_event buffers (event.Release o) on = room-release o
+  HasRoom-after_event buffers (event.Bye o) on = room-bye o
+  HasRoom-after_event buffers (event.Idle v) on = room-idle v
+  HasRoom-after_event buffers (event.Nack v) on = room-nack v
+  HasRoom-after_event buffers (event.Retire v) on = room-retire v on
+  HasRoom-after_event buffers (event.Copy b) on = room-copy b
+  HasRoom-after_event buffers (event.Gone v) on = room-gone buffers v
+
+-- at first there is no version and no copy
+pub HasRoom-initial_state : (m : Machine) (ts : List Task) (i : ImageState) → HasRoom m ts (initial_state i)
+HasRoom-initial_state m ts i = record {
+  versions = λ v y b e at set. absurd (none-some y (sym (get-empty name_cmp v) ∙ e));
+  copies = λ k c e. absurd (none-some c (sym (get-empty nat_cmp k) ∙ e));
+}
