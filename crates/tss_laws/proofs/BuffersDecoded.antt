@@ -1,7 +1,7 @@
 -- Holders of buffers after a decode: an output takes a buffer of its own name, which nobody had.
-use Rattle.std.proofs.Common.{◌≡◌, ◌≢◌, ◌⊎◌, inl, inr, ℕ, ◌≤◌, Bool, true, false, List, [], ◌∷◌, Option, Some, None, refl, sym, ap, ◌∙◌, subst, arith}
+use Rattle.std.proofs.Common.{◌≡◌, ◌≢◌, ◌⊎◌, inl, inr, ℕ, ◌≤◌, List, [], ◌∷◌, Option, Some, None, refl, sym, ap, ◌∙◌, arith}
 use Rattle.std.specs.FinMap.{get, insert}
-use Rattle.std.proofs.lemmas.Option.{none-some, same_Some}
+use Rattle.std.proofs.lemmas.Option.{none-some}
 use Rattle.tss_base.specs.declared.operand.OpName.{OpName}
 use Rattle.tss_base.specs.declared.operand.Mode.{Mode}
 use Rattle.tss_base.specs.declared.operand.Mode.TheVariants.{Input, Output, Inout}
@@ -10,15 +10,15 @@ use Rattle.tss_base.specs.declared.operand.Task.{Task}
 use Rattle.tss_base.specs.declared.machine.Machine.{Machine}
 use Rattle.tss_base.specs.declared.event.Event.TheVariants as event
 use Rattle.tss_base.specs.Names.{Named}
-use Rattle.tss_maps.proofs.Keys.{name_order, decide_key}
-use Rattle.tss_maps.proofs.Changes.{from_inserted, still_inserted, at_inserted, beside_inserted}
+use Rattle.tss_maps.proofs.Keys.{name_order}
+use Rattle.tss_maps.proofs.Changes.{from_inserted, at_inserted, beside_inserted}
 use Rattle.tss_protocol.specs.Names.{bank_of}
-use Rattle.tss_protocol.specs.Mail.{StorageName, Home, Buffer, OpenContents, Message, Open, Ack, posted_all, taken}
+use Rattle.tss_protocol.specs.Mail.{Home, Buffer, OpenContents, Message, Open, Ack, posted_all, taken}
 use Rattle.tss_protocol.specs.State.{State, Entry}
-use Rattle.tss_protocol.specs.Renaming.{takes_buffer, buffers_after_decode, opens_first, opens_over, opens_beside, live_message, decode_message}
-use Rattle.tss_protocol.specs.UnitMachine.{IsEnabled, after_event, without, decode_message_taken}
+use Rattle.tss_protocol.specs.Renaming.{takes_buffer, buffers_after_decode, opens_first, opens_over, live_message, decode_message}
+use Rattle.tss_protocol.specs.UnitMachine.{after_event, without, decode_message_taken}
 use Rattle.tss_laws.specs.Members.{operand_among}
-use Rattle.tss_laws.specs.Buffers.{OpenHas, VersionHas, GoneHas, CopyHas, HasBuffer, HasBuffers}
+use Rattle.tss_laws.specs.Buffers.{HasBuffer, HasBuffers}
 use Rattle.tss_laws.specs.Readers.{Arrivals}
 use Rattle.tss_laws.specs.Control.{HasGroundwork, IsControlled}
 use Rattle.tss_laws.proofs.EntriesNames.{decode_among}
@@ -133,7 +133,8 @@ module _ (m : Machine) (all ts : List Task) (g : Arrivals) (S : State) (ground :
   bank = bank_of m.sizes p.object
 
   live_by : (e : Entry) (mode : Mode)
-      → HasBuffers ts (Decoded (buffers_after_decode S.buffers o bank (takes_buffer (Some e) mode)) (live_message o p e mode))
+      → HasBuffers ts
+      (Decoded (buffers_after_decode S.buffers o bank (takes_buffer (Some e) mode)) (live_message o p e mode))
   live_by e Input = use_kept e
   live_by e Output = buffer_taken _ refl bank
   live_by e Inout =
@@ -141,7 +142,8 @@ module _ (m : Machine) (all ts : List Task) (g : Arrivals) (S : State) (ground :
       (λ w b n t f. f)
 
   entry_by : (entry : Option Entry)
-      → HasBuffers ts (Decoded (buffers_after_decode S.buffers o bank (takes_buffer entry p.mode)) (decode_message o p entry))
+      → HasBuffers ts
+      (Decoded (buffers_after_decode S.buffers o bank (takes_buffer entry p.mode)) (decode_message o p entry))
   entry_by None =
       buffers_kept ts S (Decoded S.buffers (opens_first o p)) h (open_passes _ (λ b f. home_apart b f))
       (λ w b n t f. f)

@@ -1,10 +1,10 @@
 -- Every event leaves one holder for each buffer, and so does every run.
-use Rattle.std.proofs.Common.{◌≡◌, inl, inr, ℕ, Bool, true, false, ◌&&◌, List, [], ◌∷◌, ◌++◌, append-nil, Option, Some, None, Result, Ok, Err, refl, sym, ap, ◌∙◌, subst}
+use Rattle.std.proofs.Common.{◌≡◌, inl, inr, ℕ, true, ◌&&◌, List, [], ◌∷◌, ◌++◌, append-nil, Option, Some, None, Result, Ok, Err, refl, sym, ◌∙◌, subst}
 use Rattle.std.specs.Prelude.{◌==◌, is_none, option_to_list}
 use Rattle.std.proofs.lemmas.Bool.{and_parts}
 use Rattle.std.proofs.lemmas.Option.{none-some}
 use Rattle.std.specs.Ordering.{nat_cmp}
-use Rattle.std.specs.FinMap.{get, len, get-empty}
+use Rattle.std.specs.FinMap.{len, get-empty}
 use Rattle.tss_base.specs.declared.operand.OpName.{OpName}
 use Rattle.tss_base.specs.declared.operand.Task.{Task}
 use Rattle.tss_base.specs.declared.machine.Machine.{Machine}
@@ -23,7 +23,7 @@ use Rattle.tss_protocol.specs.Run.{IsRun}
 use Rattle.tss_protocol.specs.UnitMachine.{IsEnabled, is_enabled, after_event}
 use Rattle.tss_locality.specs.Rounds.{IsRounded}
 use Rattle.tss_laws.specs.Buffers.{HasBuffer, HasBuffers}
-use Rattle.tss_laws.specs.Readers.{Arrivals, no_arrivals, arrivals_from}
+use Rattle.tss_laws.specs.Readers.{Arrivals, no_arrivals}
 use Rattle.tss_laws.specs.Control.{HasGroundwork, IsControlled}
 use Rattle.tss_laws.proofs.PlainLemmas.{zero_from_test}
 use Rattle.tss_laws.proofs.SpawnLemmas.{IsNext-spawn_of}
@@ -33,7 +33,6 @@ use Rattle.tss_laws.proofs.GroundworkJoin.{IsControlled-event}
 use Rattle.tss_laws.proofs.GroundworkControl.{keeps_groups}
 use Rattle.tss_laws.proofs.GroundworkEmpty.{IsControlled-bare, IsBare-initial_state}
 use Rattle.tss_laws.proofs.GroundworkSpawn.{IsLonger, IsLonger-spawn}
-use Rattle.tss_laws.proofs.BuffersSettled.{KeepsStorages}
 use Rattle.tss_laws.proofs.BuffersKept.{HasBuffers-same}
 use Rattle.tss_laws.proofs.BuffersQuiet.{HasBuffers-quiet, HasBuffers-use, HasBuffers-idle, HasBuffers-retire, HasBuffers-copy, HasBuffers-gone}
 use Rattle.tss_laws.proofs.BuffersReleased.{HasBuffers-release, HasBuffers-nack}
@@ -164,8 +163,11 @@ pub HasBuffers-Run : (m : Machine) (i : ImageState) (es : List Event) (S : State
 HasBuffers-Run m i es S run =
     (ground_of_runs (λ m all ts g S. IsControlled ts g S × HasBuffers ts S)
     (λ m all ts g S e ground h on.
-    (IsControlled-event e (keeps_groups e) m all ts g S ground h.0 on ((keeps_groups e).order m all ts g S ground h.0 on),
-      HasBuffers-after_event m all ts g S ground h.0 h.1 e on))
+    (
+      IsControlled-event e (keeps_groups e) m all ts g S ground h.0 on
+          ((keeps_groups e).order m all ts g S ground h.0 on),
+      HasBuffers-after_event m all ts g S ground h.0 h.1 e on,
+    ))
     (λ m i. (
       IsControlled-bare (initial_state i) (IsBare-initial_state i) no_arrivals (orderly_at_first i),
       HasBuffers-initial_state i,

@@ -1,28 +1,25 @@
 -- Holders of buffers after an open and a decode.
-use Rattle.std.proofs.Common.{◌≡◌, ◌≢◌, ◌⊎◌, inl, inr, ℕ, ◌≤◌, Bool, true, false, List, [], ◌∷◌, Option, Some, None, refl, sym, ap, ◌∙◌, subst, arith, true≢false}
+use Rattle.std.proofs.Common.{◌≡◌, ◌≢◌, inl, inr, true, List, [], Option, Some, None, refl, sym, ap, ◌∙◌, true≢false}
 use Rattle.std.specs.Prelude.{◌++◌, is_some}
-use Rattle.std.specs.FinMap.{get, insert, remove}
-use Rattle.std.proofs.lemmas.Option.{none-some, same_Some}
+use Rattle.std.specs.FinMap.{get}
 use Rattle.tss_base.specs.declared.operand.OpName.{OpName}
 use Rattle.tss_base.specs.declared.operand.Mode.{Mode}
 use Rattle.tss_base.specs.declared.operand.Mode.TheVariants.{Input, Output, Inout}
-use Rattle.tss_base.specs.declared.operand.Operand.{Operand}
 use Rattle.tss_base.specs.declared.operand.Task.{Task}
 use Rattle.tss_base.specs.declared.machine.Machine.{Machine}
 use Rattle.tss_base.specs.declared.event.Event.TheVariants as event
 use Rattle.tss_base.specs.declared.event.How.{How}
 use Rattle.tss_base.specs.declared.event.How.TheVariants.{Beside, Over}
 use Rattle.tss_base.specs.declared.event.Follow.{Follow}
-use Rattle.tss_base.specs.Names.{Named}
 use Rattle.tss_maps.proofs.Keys.{name_order}
-use Rattle.tss_maps.proofs.Changes.{from_inserted, from_removed, at_inserted, still_inserted}
-use Rattle.tss_protocol.specs.Mail.{StorageName, Home, Buffer, OpenContents, Message, Mail, posted_all, taken}
+use Rattle.tss_maps.proofs.Changes.{from_inserted, from_removed}
+use Rattle.tss_protocol.specs.Mail.{Buffer, OpenContents, Message, posted_all, taken}
 use Rattle.tss_protocol.specs.State.{State, Version}
-use Rattle.tss_protocol.specs.Versions.{Versioned, ready_with, put_version, new_version, first_version, followed, opened_first, opened_how, opened_by, settled, is_followable}
-use Rattle.tss_protocol.specs.UnitMachine.{IsEnabled, is_enabled, after_event, without, with_versioned, open_message_taken, can_open_message}
+use Rattle.tss_protocol.specs.Versions.{Versioned, ready_with, put_version, first_version, followed, opened_first, opened_how, opened_by, settled, is_followable}
+use Rattle.tss_protocol.specs.UnitMachine.{IsEnabled, is_enabled, after_event, without, open_message_taken, can_open_message}
 use Rattle.tss_phases.proofs.Tests.{something}
 use Rattle.tss_laws.specs.Chains.{HasChains}
-use Rattle.tss_laws.specs.Buffers.{OpenHas, VersionHas, GoneHas, CopyHas, HasBuffer, HasBuffers}
+use Rattle.tss_laws.specs.Buffers.{HasBuffer, HasBuffers}
 use Rattle.tss_laws.specs.Readers.{Arrivals}
 use Rattle.tss_laws.specs.Control.{HasGroundwork, IsControlled}
 use Rattle.tss_laws.proofs.SentLemmas.{AllSent, posted_all-later, settled-later}
@@ -32,7 +29,7 @@ use Rattle.tss_laws.proofs.HeldEvents.{HoldsNothing, posted_all-nothing}
 use Rattle.tss_laws.proofs.ChainsOpen.{following, registered_state, registers_behind, others_followed, front_apart}
 use Rattle.tss_laws.proofs.ChainsOpened.{HasChains-registered}
 use Rattle.tss_laws.proofs.ReadersTold.{from_changed}
-use Rattle.tss_laws.proofs.BuffersKept.{PassesBuffers, buffers_kept, Settles, buffers_settled}
+use Rattle.tss_laws.proofs.BuffersKept.{PassesBuffers, buffers_kept, buffers_settled}
 use Rattle.tss_laws.proofs.BuffersQuiet.{ready_nothing}
 
 first_stored : (o : OpName) (c : OpenContents) (mode : Mode)
@@ -123,8 +120,8 @@ module _ (m : Machine) (all ts : List Task) (g : Arrivals) (S : State) (ground :
           let same = posted_all-nothing n ms nothing in
           let sent = posted_all-append n ms d.sent in
           let place = ground.places.versions f.version u at in
-          buffers_settled ts U _ f.version (posted_all n ms) (buffers_kept ts S U h u_passes (λ w b bank t e. e)) u_chains
-          (record {
+          let kept = buffers_kept ts S U h u_passes (λ w b bank t e. e) in
+          buffers_settled ts U _ f.version (posted_all n ms) kept u_chains (record {
             versions = refl;
             opens = (λ i. (sent i).opens)
                 ∙ (posted_all-later (posted_all n ms) d.sent (settled-later U.versions f.version)).opens

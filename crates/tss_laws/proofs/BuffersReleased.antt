@@ -1,8 +1,8 @@
 -- Holders of buffers after a release and a nack, which write a version and settle it.
-use Rattle.std.proofs.Common.{◌≡◌, ◌≢◌, inl, inr, ℕ, Bool, true, false, List, [], ◌∷◌, Option, Some, None, refl, sym, ap, ◌∙◌, subst}
+use Rattle.std.proofs.Common.{◌≡◌, Bool, true, false, List, [], ◌∷◌, Option, Some, None, refl, sym, ◌∙◌, subst}
 use Rattle.std.specs.Prelude.{◌++◌, is_some, not}
 use Rattle.std.specs.FinMap.{get}
-use Rattle.std.proofs.lemmas.Option.{none-some, same_Some}
+use Rattle.std.proofs.lemmas.Option.{none-some}
 use Rattle.tss_base.specs.declared.operand.OpName.{OpName}
 use Rattle.tss_base.specs.declared.operand.Task.{Task}
 use Rattle.tss_base.specs.declared.machine.Machine.{Machine}
@@ -10,7 +10,7 @@ use Rattle.tss_base.specs.declared.event.Event.TheVariants as event
 use Rattle.tss_base.specs.Names.{Named}
 use Rattle.tss_protocol.specs.Mail.{ReleaseContents, Message, Bye, Mail, posted_all, taken}
 use Rattle.tss_protocol.specs.State.{State, Version}
-use Rattle.tss_protocol.specs.Versions.{Versioned, sending, put_version, ready_with, head_ready, produced_now, released_once, is_last, released_by, released_at, refused_once, nacked_at, settled}
+use Rattle.tss_protocol.specs.Versions.{Versioned, put_version, head_ready, produced_now, released_once, is_last, released_by, released_at, refused_once, nacked_at, settled}
 use Rattle.tss_protocol.specs.UnitMachine.{IsEnabled, is_enabled, after_event, without, with_versioned, release_message_taken}
 use Rattle.tss_laws.specs.Chains.{HasChains}
 use Rattle.tss_laws.specs.Buffers.{HasBuffers}
@@ -24,7 +24,7 @@ use Rattle.tss_laws.proofs.ChainsSettled.{with_versions, HasChains-written}
 use Rattle.tss_laws.proofs.ChainsReleased.{others_written, produced_like, released_like, refused_like}
 use Rattle.tss_laws.proofs.ReleaseFacts.{Releases, releases_facts}
 use Rattle.tss_laws.proofs.BuffersSettled.{written_storages}
-use Rattle.tss_laws.proofs.BuffersKept.{HasBuffers-same, Settles, buffers_settled}
+use Rattle.tss_laws.proofs.BuffersKept.{HasBuffers-same, buffers_settled}
 use Rattle.tss_laws.proofs.BuffersQuiet.{ready_nothing}
 use Rattle.tss_laws.proofs.ReadersSettled.{some_unit}
 
@@ -37,7 +37,8 @@ module _ (m : Machine) (all ts : List Task) (g : Arrivals) (S : State) (ground :
   -- ---- a version is written and settled
 
   module _ (v : OpName) (x z : Version) (there : get S.versions v ≡ Some x) (like : AreAlike x z)
-      (registered : z.registered ≡ x.registered) (k : Mail) (opens : k.opens ≡ S.mail.opens) (gones : k.gones ≡ S.mail.gones)
+      (registered : z.registered ≡ x.registered) (k : Mail) (opens : k.opens ≡ S.mail.opens)
+      (gones : k.gones ≡ S.mail.gones)
       (ms : List Message) (nothing : AllSent HoldsNothing ms) where
     abbrev vs : Named Version
     vs = put_version S.versions v z
@@ -80,7 +81,10 @@ module _ (m : Machine) (all ts : List Task) (g : Arrivals) (S : State) (ground :
         let place = ground.places.versions v x there in
         buffers_settled ts Written Settled v Sent buffers_written chains_written (record {
           versions = refl;
-          opens = (λ i. (sent i).opens) ∙ (posted_all-later Sent (settled vs v).sent (settled-later vs v)).opens ∙ same.0
+          opens =
+              (λ i. (sent i).opens)
+              ∙ (posted_all-later Sent (settled vs v).sent (settled-later vs v)).opens
+              ∙ same.0
               ∙ opens;
           copies = refl;
           buffers = refl;
@@ -107,8 +111,8 @@ module _ (m : Machine) (all ts : List Task) (g : Arrivals) (S : State) (ground :
 
     release_by : (b : Bool) → HasBuffers ts (After (released_by S.versions o v x b))
     release_by true =
-        buffers_then v x (produced_now x) f.there (produced_like x stored) refl (taken S.mail (event.Release o)) refl refl
-        (head_ready v x x.head ++ Bye o false ∷ [])
+        buffers_then v x (produced_now x) f.there (produced_like x stored) refl (taken S.mail (event.Release o)) refl
+        refl         (head_ready v x x.head ++ Bye o false ∷ [])
         (AllSent-append HoldsNothing (head_ready v x x.head) (Bye o false ∷ []) (head_nothing v x x.head) (tt, tt))
     release_by false =
         buffers_then v x (released_once x o) f.there (released_like x o) refl (taken S.mail (event.Release o)) refl refl
@@ -116,7 +120,8 @@ module _ (m : Machine) (all ts : List Task) (g : Arrivals) (S : State) (ground :
 
     released : HasBuffers ts (release_message_taken (without S (event.Release o)) o (Some r))
     released =
-        subst (λ y. HasBuffers ts (After (released_at S.versions o v r.producer y))) (sym f.there) (release_by r.producer)
+        subst (λ y. HasBuffers ts (After (released_at S.versions o v r.producer y))) (sym f.there)
+        (release_by r.producer)
 
   released_of : (o : OpName) (r : Option ReleaseContents) → get S.mail.releases o ≡ r → is_some r ≡ true
       → HasBuffers ts (release_message_taken (without S (event.Release o)) o r)
@@ -124,7 +129,8 @@ module _ (m : Machine) (all ts : List Task) (g : Arrivals) (S : State) (ground :
   released_of o (Some r) e on = released o r (releases_facts ts g S ground.round c.orderly c.holders o r e)
 
   -- release
-  pub HasBuffers-release : (o : OpName) → IsEnabled m S (event.Release o) → HasBuffers ts (after_event m S (event.Release o))
+  pub HasBuffers-release : (o : OpName) → IsEnabled m S (event.Release o)
+      → HasBuffers ts (after_event m S (event.Release o))
   unfolding is_enabled after_event
   HasBuffers-release o on = released_of o (get S.mail.releases o) refl on
 

@@ -1,9 +1,8 @@
--- Who shares a storage: two operands that hold a version, on one object and with one storage, are one, or both have come
--- to one produced version.
-use Rattle.std.proofs.Common.{◌≡◌, ◌≢◌, ◌⊎◌, inl, inr, ℕ, ◌≤◌, Bool, true, false, List, [], ◌∷◌, Option, Some, None, refl, sym, ap, ◌∙◌, subst, arith}
+-- Who shares a storage: two operands that hold a version, on one object and with one storage, are one, or both have
+-- come to one produced version.
+use Rattle.std.proofs.Common.{◌≡◌, ◌⊎◌, inl, inr, ℕ, ◌≤◌, Bool, true, false, List, [], ◌∷◌, Some, refl, sym, ap, ◌∙◌, subst, arith}
 use Rattle.std.specs.FinMap.{get}
-use Rattle.std.proofs.lemmas.Option.{none-some, same_Some}
-use Rattle.tss_base.specs.declared.range.Range.{Range}
+use Rattle.std.proofs.lemmas.Option.{none-some}
 use Rattle.tss_base.specs.declared.operand.OpName.{OpName}
 use Rattle.tss_base.specs.declared.operand.Mode.{Mode}
 use Rattle.tss_base.specs.declared.operand.Mode.TheVariants.{Input, Output, Inout}
@@ -15,17 +14,16 @@ use Rattle.tss_protocol.specs.Mail.{StorageName, Home, Buffer, Source}
 use Rattle.tss_protocol.specs.State.{State, OperandState, Version}
 use Rattle.tss_protocol.specs.Stations.{operand_at}
 use Rattle.tss_phases.specs.Phase.{Phase, Ahead, Decoding, Sent, Waiting, Told, Ready, Releasing, Leaving, Promised, Left, look_ups, phase_of}
-use Rattle.tss_phases.specs.Openers.{holds_version, has_parted, produced_opener, opener_by, version_opener}
-use Rattle.tss_phases.specs.Orderly.{AreOrderly}
+use Rattle.tss_phases.specs.Openers.{holds_version, has_parted, produced_opener, opener_by}
 use Rattle.tss_phases.proofs.Tests.{not_both}
 use Rattle.tss_phases.proofs.PhaseLemmas.{phase_telling}
 use Rattle.tss_phases.proofs.AloneLemmas.{silent_but_telling}
-use Rattle.tss_laws.specs.Members.{operand_among, IsVersionOf}
+use Rattle.tss_laws.specs.Members.{operand_among}
 use Rattle.tss_laws.specs.Chains.{HasChains}
-use Rattle.tss_laws.specs.Held.{IsCopied, HasHeldPlaces}
-use Rattle.tss_laws.specs.Buffers.{VersionHas, GoneHas, CopyHas, HasBuffer, HasBuffers}
-use Rattle.tss_laws.specs.Readers.{Arrivals, Has, oldest_of, HasReaders}
-use Rattle.tss_laws.specs.Holders.{IsOwnOrRead, IsTrue, HasHolders}
+use Rattle.tss_laws.specs.Held.{HasHeldPlaces}
+use Rattle.tss_laws.specs.Buffers.{VersionHas, GoneHas, CopyHas, HasBuffers}
+use Rattle.tss_laws.specs.Readers.{Arrivals, Has, oldest_of}
+use Rattle.tss_laws.specs.Holders.{IsOwnOrRead, IsTrue}
 use Rattle.tss_laws.specs.Control.{IsControlled}
 use Rattle.tss_laws.proofs.ReadersEnlisted.{all_wait}
 
@@ -197,7 +195,8 @@ module _ (ts : List Task) (g : Arrivals) (S : State) (h : IsControlled ts g S) w
 
 -- ---- buffers that no version has
 
-module _ (m : Machine) (all ts : List Task) (S : State) (places : HasHeldPlaces m all S) (buffers : HasBuffers ts S) where
+module _ (m : Machine) (all ts : List Task) (S : State) (places : HasHeldPlaces m all S)
+    (buffers : HasBuffers ts S) where
   -- the buffer of a version isn't copied home
   pub version_not_copied : (v w b : OpName) → VersionHas S v b → CopyHas S w b → ⊥
   version_not_copied v w b h k =
