@@ -17,14 +17,14 @@ use Rattle.tss_model.specs.Access.{reads, writes}
 use Rattle.tss_model.specs.InOrder.{Started, started_at, end_of_started}
 use Rattle.tss_protocol.specs.Mail.{StorageName, Buffer, OpenContents, GoneContents}
 use Rattle.tss_protocol.specs.State.{State, Flying, Busy, Version, CopyState, HeldTrap}
-use Rattle.tss_protocol.specs.Stations.{storages_of}
+use Rattle.tss_protocol.specs.Stations.{storages_of, has_finished}
 use Rattle.tss_protocol.specs.Buffers.{buffer_bytes}
 use Rattle.tss_protocol.specs.Workers.{stored_bytes}
 use Rattle.tss_protocol.specs.UnitMachine.{stores_of}
 use Rattle.tss_phases.specs.Phase.{Told, Ready, Releasing, phase_of, is_decoded}
 use Rattle.tss_laws.specs.Members.{operand_among}
 use Rattle.tss_laws.specs.Stages.{IsOnWorker}
-use Rattle.tss_laws.specs.Tasks.{task_at}
+use Rattle.tss_laws.specs.Tasks.{task_at, IsTaken}
 use Rattle.tss_laws.specs.MainInOrder.{flat_beside, IsCutOff}
 use Rattle.tss_laws.proofs.StoreFollows.{RunsInOrder}
 
@@ -139,16 +139,25 @@ pub record HasRoom (m : Machine) (ts : List Task) (S : State) : Type 0 where
 
 -- ---- main, and the held trap
 
+-- a task is under way
+abbrev pub IsUnfinished : State → ℕ → Type 0
+IsUnfinished S n = (x : Flying) × (get S.flight n ≡ Some x) × (has_finished x.stage ≡ false)
+
+-- the trap of no later task is held
+abbrev pub HoldsTrapBy : State → ℕ → Type 0
+HoldsTrapBy S n = (h : HeldTrap) × (S.trap ≡ Some h) × (h.task ≤ n)
+
 -- main follows program order, or a task that it has spawned traps there. Each task of program order is the one of its
--- number that main has spawned. The held trap is that of program order where that starts its task, and a task that has
--- ended with a trap in program order is no longer under way without one as low being held
+-- number that main has spawned. The held trap is of a spawned task, and that of program order where that starts the
+-- task. Once a task has ended that traps in program order, its trap is held, or that of an earlier one
 pub record HasMain (m : Machine) (i : ImageState) (all : List Task) (S : State) : Type 0 where
   pub follows : (S.main ≡ (flat_beside i m.limits S.main).main) ⊎ IsCutOff i m.limits S.main
   pub same : (n : ℕ) (t : Task) (s : Started) → task_at all n ≡ Some t → Starts m i n s → s.task ≡ t
+  pub held : (h : HeldTrap) → S.trap ≡ Some h → (0 < h.task) × (h.task ≤ S.main.spawned)
   pub trap : (h : HeldTrap) (s : Started) → S.trap ≡ Some h → Starts m i h.task s
       → (end_of_started i m.limits s).trap ≡ Some h.trap
-  pub lowest : (n : ℕ) (s : Started) (t : Trap) → 0 < n → n ≤ S.main.spawned → Starts m i n s
-      → (end_of_started i m.limits s).trap ≡ Some t → (h : HeldTrap) → S.trap ≡ Some h → n ≤ h.task
+  pub judged : (n : ℕ) (s : Started) (t : Trap) → IsTaken S n → Starts m i n s
+      → (end_of_started i m.limits s).trap ≡ Some t → IsUnfinished S n ⊎ HoldsTrapBy S n
 
 -- ---- the whole
 
