@@ -244,3 +244,5 @@ pub mod RoomyEvents
 pub mod BuffersEvents
 pub mod StorageShares
 pub mod WorkersTold
+pub mod ValuesHomeKept
+pub mod ValuesHomeEvents
