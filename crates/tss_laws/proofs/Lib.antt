@@ -199,6 +199,7 @@ pub mod ValuesReturns
 pub mod ValuesRetire
 pub mod ValuesGone
 pub mod ValuesCopy
+pub mod ValuesReturnsMain
 pub mod ProgressSettled
 pub mod BoundObjects
 pub mod BoundCopies
