@@ -247,3 +247,5 @@ pub mod StorageShares
 pub mod WorkersTold
 pub mod ValuesHomeKept
 pub mod ValuesHomeEvents
+pub mod StoredFrames
+pub mod StoredQuiet
