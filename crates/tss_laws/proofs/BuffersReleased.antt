@@ -112,7 +112,7 @@ module _ (m : Machine) (all ts : List Task) (g : Arrivals) (S : State) (ground :
     release_by : (b : Bool) → HasBuffers ts (After (released_by S.versions o v x b))
     release_by true =
         buffers_then v x (produced_now x) f.there (produced_like x stored) refl (taken S.mail (event.Release o)) refl
-        refl         (head_ready v x x.head ++ Bye o false ∷ [])
+        refl (head_ready v x x.head ++ Bye o false ∷ [])
         (AllSent-append HoldsNothing (head_ready v x x.head) (Bye o false ∷ []) (head_nothing v x x.head) (tt, tt))
     release_by false =
         buffers_then v x (released_once x o) f.there (released_like x o) refl (taken S.mail (event.Release o)) refl refl

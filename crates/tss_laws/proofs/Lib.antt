@@ -249,3 +249,4 @@ pub mod ValuesHomeKept
 pub mod ValuesHomeEvents
 pub mod StoredFrames
 pub mod StoredQuiet
+pub mod StorageHomes

@@ -1,6 +1,6 @@
 -- Who shares a storage: two operands that hold a version, on one object and with one storage, are one, or both have
 -- come to one produced version.
-use Rattle.std.proofs.Common.{◌≡◌, ◌⊎◌, inl, inr, ℕ, ◌≤◌, Bool, true, false, List, [], ◌∷◌, Some, refl, sym, ap, ◌∙◌, subst, arith}
+use Rattle.std.proofs.Common.{◌≡◌, ◌≢◌, ◌⊎◌, inl, inr, ℕ, ◌≤◌, Bool, true, false, List, [], ◌∷◌, Some, refl, sym, ap, ◌∙◌, subst, arith}
 use Rattle.std.specs.FinMap.{get}
 use Rattle.std.proofs.lemmas.Option.{none-some}
 use Rattle.tss_base.specs.declared.operand.OpName.{OpName}
@@ -55,6 +55,18 @@ module _ (ts : List Task) (S : State) (chains : HasChains ts S) (buffers : HasBu
   pub one_version : (v w : OpName) (y z : Version) → get S.versions v ≡ Some y → get S.versions w ≡ Some z
       → y.object ≡ z.object → (s : StorageName) → y.storage ≡ Some s → z.storage ≡ Some s → v ≡ w
   one_version = by_storage
+
+module _ (ts : List Task) (S : State) (chains : HasChains ts S) (buffers : HasBuffers ts S) where
+  apart_by : (v w : OpName) (y z : Version) → get S.versions v ≡ Some y → get S.versions w ≡ Some z → v ≢ w
+      → (s : StorageName) → y.storage ≡ Some s → z.storage ≡ Some s → (s ≡ Home) × (y.object ≢ z.object)
+  apart_by v w y z e f apart Home s t =
+      (refl, λ same. apart (one_home ts S chains buffers v w y z e f same s t))
+  apart_by v w y z e f apart (Buffer b) s t = absurd (apart (one_buffer ts S chains buffers v w b y z e f s t))
+
+  -- two with one storage both lie at home, and are of two objects
+  pub versions_apart : (v w : OpName) (y z : Version) → get S.versions v ≡ Some y → get S.versions w ≡ Some z → v ≢ w
+      → (s : StorageName) → y.storage ≡ Some s → z.storage ≡ Some s → (s ≡ Home) × (y.object ≢ z.object)
+  versions_apart = apart_by
 
 -- ---- who holds a version
 
