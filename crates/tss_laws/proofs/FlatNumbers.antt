@@ -130,7 +130,8 @@ module _ (i : ImageState) (limits : Limits) where
   number_there n zero some few = absurd (omega (arith, some, few))
   number_there n (suc k) some few = number_more n k few (number_there n k some)
 
-  numbers_rise : (j k : ℕ) (s t : Started) → started_at i limits j ≡ Some s → started_at i limits k ≡ Some t → j < k
+  -- a later started task has a greater number
+  pub numbers_rise : (j k : ℕ) (s t : Started) → started_at i limits j ≡ Some s → started_at i limits k ≡ Some t → j < k
       → s.task.number < t.task.number
   numbers_rise j k s t start also before =
       let first = started-number i limits j s start in

@@ -250,3 +250,4 @@ pub mod ValuesHomeEvents
 pub mod StoredFrames
 pub mod StoredQuiet
 pub mod StorageHomes
+pub mod ValuesMain

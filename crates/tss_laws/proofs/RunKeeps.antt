@@ -310,11 +310,13 @@ pub record HasGround (i : ImageState) (S : State) : Type 0 where
   pub code : S.code ≡ frozen i
   pub ranges : S.home.ranges ≡ memory_ranges i
 
-HasGround-initial_state : (i : ImageState) → HasGround i (initial_state i)
+-- the first state has it
+pub HasGround-initial_state : (i : ImageState) → HasGround i (initial_state i)
 unfolding loaded
 HasGround-initial_state i = record { code = refl; ranges = refl }
 
-HasGround-event : (m : Machine) (i : ImageState) (S : State) (e : Event) → HasGround i S
+-- each event keeps it
+pub HasGround-event : (m : Machine) (i : ImageState) (S : State) (e : Event) → HasGround i S
     → HasGround i (after_event m S e)
 HasGround-event m i S e ground =
     let same = after_event-ground m S e in
