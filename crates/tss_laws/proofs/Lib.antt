@@ -251,3 +251,4 @@ pub mod StoredFrames
 pub mod StoredQuiet
 pub mod StorageHomes
 pub mod ValuesMain
+pub mod StorageBeside

@@ -1,0 +1,78 @@
+-- Where a writer that holds its version writes, no other version has its value.
+use Rattle.std.proofs.Common.{◌≡◌, ◌≢◌, ◌⊎◌, inl, inr, ℕ, Bool, true, false, List, Option, Some, None, refl, sym, ap, ◌∙◌, subst}
+use Rattle.std.specs.FinMap.{get}
+use Rattle.std.specs.Prelude.{◌&&◌, nat_le, nat_lt}
+use Rattle.std.proofs.lemmas.Bool.{and_parts}
+use Rattle.std.proofs.lemmas.Bool.Decides.{nat_tests}
+use Rattle.std.proofs.Common.{arith, ◌≤◌, ◌<◌}
+use Rattle.tss_base.specs.declared.range.Range.{Range}
+use Rattle.tss_base.specs.declared.operand.OpName.{OpName}
+use Rattle.tss_base.specs.declared.operand.Operand.{Operand}
+use Rattle.tss_base.specs.declared.operand.Task.{Task}
+use Rattle.tss_base.specs.Range.{end_of}
+use Rattle.tss_model.specs.Access.{writes}
+use Rattle.tss_model.specs.Memory.{covers}
+use Rattle.tss_protocol.specs.Mail.{StorageName, Home, Buffer, Source}
+use Rattle.tss_protocol.specs.State.{State, Version}
+use Rattle.tss_locality.specs.Rounds.{IsRounded}
+use Rattle.tss_locality.proofs.RoundObjects.{no_address_shared}
+use Rattle.tss_laws.specs.Members.{operand_among}
+use Rattle.tss_laws.specs.Buffers.{HasBuffers}
+use Rattle.tss_laws.specs.Readers.{Arrivals}
+use Rattle.tss_laws.specs.Holders.{IsOwnOrRead}
+use Rattle.tss_laws.specs.Control.{IsControlled}
+use Rattle.tss_laws.proofs.EntriesNames.{object_of_operand}
+use Rattle.tss_laws.proofs.StoreFrames.{IsElsewhere}
+use Rattle.tss_laws.proofs.StorageShares.{HoldsStorage, versions_apart}
+
+covers_parts : (x : Range) (a : ℕ) → covers x a ≡ true → (x.base ≤ a) × (a < end_of x)
+covers_parts x a e =
+    let t = and_parts (nat_le x.base a) (nat_lt a (end_of x)) e in
+    (at_least x.base a t.0, below a (end_of x) t.1)
+  where
+    at_least : (b a : ℕ) → nat_le b a ≡ true → b ≤ a
+    at_least b a t = grind (arith, nat_tests)
+
+    below : (a c : ℕ) → nat_lt a c ≡ true → a < c
+    below a c t = grind (arith, nat_tests)
+
+module _ (ts : List Task) (g : Arrivals) (S : State) (round : IsRounded S ts) (h : IsControlled ts g S)
+    (buffers : HasBuffers ts S) (o : OpName) (p : Operand) (s : Source) (k : HoldsStorage ts g S o p s)
+    (w : writes p.mode ≡ true) where
+  own : s.version ≡ o
+  own = subst (λ b. IsOwnOrRead g o b s.version) w k.told.own
+
+  -- another version with that storage lies at home, as the writer's own does, and is of another object
+  pub other_object : (v : OpName) (y : Version) (st : StorageName) → get S.versions v ≡ Some y → v ≢ o
+      → y.storage ≡ Some st → s.storage ≡ st → (st ≡ Home) × (y.object ≢ p.object)
+  other_object v y st there other held same =
+      let apart = versions_apart ts S h.chains buffers v s.version y k.told.version there k.told.there
+      (λ e. other (e ∙ own)) st held (k.told.storage ∙ ap Some same) in
+      (apart.0, λ e. apart.1 (e ∙ sym k.told.object))
+
+  -- objects of two operands that differ share no address
+  apart_at : (q : OpName) (r : Operand) → operand_among ts q ≡ Some r → r.object ≢ p.object → (a : ℕ)
+      → covers r.object a ≡ true → covers p.object a ≡ false
+  apart_at q r among other a in_r = by (covers p.object a) refl
+    where
+      by : (b : Bool) → covers p.object a ≡ b → covers p.object a ≡ false
+      by false e = e
+      by true e =
+          absurd (no_address_shared ts S.main.epoch round.separate round.named q o r.object p.object
+          (object_of_operand ts q r among) (object_of_operand ts o p k.among) other a (covers_parts r.object a in_r)
+          (covers_parts p.object a e))
+
+  -- so the writer writes elsewhere
+  pub version_elsewhere : (v : OpName) (y : Version) (st : StorageName) → get S.versions v ≡ Some y → v ≢ o
+      → y.storage ≡ Some st → (a : ℕ) → covers y.object a ≡ true → IsElsewhere p.object s.storage st a
+  version_elsewhere v y st there other held a in_y =
+      let q = h.chains.opener v y there in record {
+        home = λ e f.
+            let apart = other_object v y st there other held (e ∙ sym f) in
+            apart_at v q.0 q.1 (λ same. apart.1 (sym q.2 ∙ same)) a (ap (λ (x : Range). covers x a) q.2 ∙ in_y);
+        buffer = λ n e f.
+            home_apart n (sym f ∙ (other_object v y st there other held (e ∙ sym f)).0);
+      }
+    where
+      home_apart : (n : OpName) → Buffer n ≡ Home → ⊥
+      home_apart n e = cc
