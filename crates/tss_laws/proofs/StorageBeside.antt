@@ -1,29 +1,33 @@
 -- Where a writer that holds its version writes, no other version has its value.
-use Rattle.std.proofs.Common.{◌≡◌, ◌≢◌, ◌⊎◌, inl, inr, ℕ, Bool, true, false, List, Option, Some, None, refl, sym, ap, ◌∙◌, subst}
+use Rattle.std.proofs.Common.{◌≡◌, ◌≢◌, ◌⊎◌, inl, inr, ℕ, ◌≤◌, ◌<◌, Bool, true, false, List, Option, Some, None, refl, sym, ap, ◌∙◌, subst, arith}
 use Rattle.std.specs.FinMap.{get}
 use Rattle.std.specs.Prelude.{◌&&◌, nat_le, nat_lt}
+use Rattle.std.proofs.lemmas.Option.{none-some}
 use Rattle.std.proofs.lemmas.Bool.{and_parts}
 use Rattle.std.proofs.lemmas.Bool.Decides.{nat_tests}
-use Rattle.std.proofs.Common.{arith, ◌≤◌, ◌<◌}
 use Rattle.tss_base.specs.declared.range.Range.{Range}
 use Rattle.tss_base.specs.declared.operand.OpName.{OpName}
 use Rattle.tss_base.specs.declared.operand.Operand.{Operand}
 use Rattle.tss_base.specs.declared.operand.Task.{Task}
+use Rattle.tss_base.specs.declared.machine.Machine.{Machine}
 use Rattle.tss_base.specs.Range.{end_of}
 use Rattle.tss_model.specs.Access.{writes}
 use Rattle.tss_model.specs.Memory.{covers}
 use Rattle.tss_protocol.specs.Mail.{StorageName, Home, Buffer, Source}
-use Rattle.tss_protocol.specs.State.{State, Version}
+use Rattle.tss_protocol.specs.State.{State, Version, CopyState}
 use Rattle.tss_locality.specs.Rounds.{IsRounded}
 use Rattle.tss_locality.proofs.RoundObjects.{no_address_shared}
 use Rattle.tss_laws.specs.Members.{operand_among}
 use Rattle.tss_laws.specs.Buffers.{HasBuffers}
 use Rattle.tss_laws.specs.Readers.{Arrivals}
 use Rattle.tss_laws.specs.Holders.{IsOwnOrRead}
-use Rattle.tss_laws.specs.Control.{IsControlled}
+use Rattle.tss_laws.specs.Entries.{IsGoingHome}
+use Rattle.tss_laws.specs.Control.{HasGroundwork, IsControlled}
 use Rattle.tss_laws.proofs.EntriesNames.{object_of_operand}
 use Rattle.tss_laws.proofs.StoreFrames.{IsElsewhere}
-use Rattle.tss_laws.proofs.StorageShares.{HoldsStorage, versions_apart}
+use Rattle.tss_laws.proofs.EntriesOfVersions.{entry_of_version}
+use Rattle.tss_laws.proofs.StorageHomes.{not_going_home}
+use Rattle.tss_laws.proofs.StorageShares.{HoldsStorage, versions_apart, version_not_copied}
 
 covers_parts : (x : Range) (a : ℕ) → covers x a ≡ true → (x.base ≤ a) × (a < end_of x)
 covers_parts x a e =
@@ -76,3 +80,45 @@ module _ (ts : List Task) (g : Arrivals) (S : State) (round : IsRounded S ts) (h
     where
       home_apart : (n : OpName) → Buffer n ≡ Home → ⊥
       home_apart n e = cc
+
+  -- at home of another object it writes elsewhere
+  pub object_elsewhere : (q : OpName) (r : Operand) → operand_among ts q ≡ Some r → r.object ≢ p.object → (a : ℕ)
+      → covers r.object a ≡ true → IsElsewhere p.object s.storage Home a
+  object_elsewhere q r among other a in_r =
+      record { home = λ e f. apart_at q r among other a in_r; buffer = λ n e f. home_not_buffer n f }
+    where
+      home_not_buffer : (n : OpName) → Home ≡ Buffer n → ⊥
+      home_not_buffer n e = cc
+
+  own_there : get S.versions o ≡ Some k.told.version
+  own_there = ap (get S.versions) (sym own) ∙ k.told.there
+
+  module _ (m : Machine) (all : List Task) (ground : HasGroundwork m all ts S) where
+    -- it doesn't write the buffer of a copy
+    pub copy_elsewhere : (bank : ℕ) (c : CopyState) → get S.copies bank ≡ Some c → (a : ℕ)
+        → IsElsewhere p.object s.storage (Buffer c.buffer) a
+    copy_elsewhere bank c e a = record {
+      home = λ i f. absurd (buffer_not_home c.buffer f);
+      buffer = λ n i f.
+          version_not_copied m all ts S ground.places buffers o c.version n
+          (k.told.version, own_there, k.told.storage ∙ ap Some i) (bank, c, e, refl, same_name c.buffer n f);
+    }
+      where
+        buffer_not_home : (n : OpName) → Buffer n ≡ Home → ⊥
+        buffer_not_home n e = cc
+
+        same_name : (b n : OpName) → Buffer b ≡ Buffer n → b ≡ n
+        same_name b n e = cc
+
+    -- an object without an entry isn't the writer's
+    pub no_entry_apart : (x : Range) → get S.entries x.base ≡ None → x ≢ p.object
+    no_entry_apart x none same =
+        let e = entry_of_version m all ts g S ground h o k.told.version own_there in
+        none-some e.entry
+        (sym none ∙ ap (λ (x : Range). get S.entries x.base) (same ∙ sym k.told.object) ∙ e.there)
+
+    -- nor is one that is copied home, or whose last version is gone
+    pub going_apart : (x : Range) (v : OpName) → IsGoingHome S x v → x ≢ p.object
+    going_apart x v going same =
+        not_going_home m all ts g S ground h o k.told.version own_there v
+        (subst (λ x. IsGoingHome S x v) (same ∙ sym k.told.object) going)
