@@ -14,18 +14,20 @@ use Rattle.tss_base.specs.declared.machine.Machine.{Machine}
 use Rattle.tss_base.specs.Image.{ImageState}
 use Rattle.tss_model.specs.Memory.{byte_at, bytes_of}
 use Rattle.tss_model.specs.Access.{reads, writes}
-use Rattle.tss_model.specs.InOrder.{Started, started_at, end_of_started}
+use Rattle.tss_model.specs.InOrder.{Started, flat_stepped, started_at, end_of_started}
 use Rattle.tss_protocol.specs.Mail.{StorageName, Buffer, OpenContents, GoneContents}
 use Rattle.tss_protocol.specs.State.{State, Flying, Busy, Version, CopyState, HeldTrap}
 use Rattle.tss_protocol.specs.Stations.{storages_of, has_finished}
 use Rattle.tss_protocol.specs.Buffers.{buffer_bytes}
 use Rattle.tss_protocol.specs.Workers.{stored_bytes}
 use Rattle.tss_protocol.specs.UnitMachine.{stores_of}
+use Rattle.tss_locality.specs.Rounds.{IsTaskOf}
 use Rattle.tss_phases.specs.Phase.{Told, Ready, Releasing, phase_of, is_decoded}
 use Rattle.tss_laws.specs.Members.{operand_among}
 use Rattle.tss_laws.specs.Stages.{IsOnWorker}
 use Rattle.tss_laws.specs.Tasks.{task_at, IsTaken}
-use Rattle.tss_laws.specs.MainInOrder.{flat_beside, IsCutOff}
+use Rattle.tss_laws.specs.MainInOrder.{steps_taken, flat_beside, IsCutOff}
+use Rattle.tss_laws.proofs.FlatNames.{Has}
 use Rattle.tss_laws.proofs.StoreFollows.{RunsInOrder}
 
 -- ---- tasks of program order
@@ -159,6 +161,17 @@ pub record HasMain (m : Machine) (i : ImageState) (all : List Task) (S : State) 
   pub judged : (n : ℕ) (s : Started) (t : Trap) → IsTaken S n → Starts m i n s
       → (end_of_started i m.limits s).trap ≡ Some t → IsUnfinished S n ⊎ HoldsTrapBy S n
 
+-- ---- named objects
+
+-- the object of a round's operand is named in program order from its task's start up to where main stands, and the round
+-- has each spawned task from its oldest on
+pub record HasNaming (m : Machine) (i : ImageState) (all ts : List Task) (S : State) : Type 0 where
+  pub named : (o : OpName) (p : Operand) (k j : ℕ) (s : Started) → operand_among ts o ≡ Some p
+      → started_at i m.limits k ≡ Some s → s.task.number ≡ o.task → k < j → j ≤ steps_taken S.main
+      → Has (flat_stepped i m.limits j).main.epoch p.object
+  pub among : (n : ℕ) (t : Task) (o : OpName) (p : Operand) → task_at all n ≡ Some t → operand_among ts o ≡ Some p
+      → o.task ≤ n → IsTaskOf ts t
+
 -- ---- the whole
 
 -- all of it
@@ -169,3 +182,4 @@ pub record HasValues (m : Machine) (i : ImageState) (all ts : List Task) (S : St
   pub home : HasHome m i ts S
   pub room : HasRoom m ts S
   pub main : HasMain m i all S
+  pub naming : HasNaming m i all ts S
