@@ -200,6 +200,7 @@ pub mod ValuesRetire
 pub mod ValuesGone
 pub mod ValuesCopy
 pub mod ValuesReturnsMain
+pub mod ValuesHome
 pub mod ProgressSettled
 pub mod BoundObjects
 pub mod BoundCopies
