@@ -201,6 +201,7 @@ pub mod ValuesGone
 pub mod ValuesCopy
 pub mod ValuesReturnsMain
 pub mod ValuesHome
+pub mod ValuesHomeEvents
 pub mod ProgressSettled
 pub mod BoundObjects
 pub mod BoundCopies
