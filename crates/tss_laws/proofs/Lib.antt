@@ -254,3 +254,5 @@ pub mod StoredQuiet
 pub mod StorageHomes
 pub mod ValuesMain
 pub mod StorageBeside
+pub mod WorkersHold
+pub mod WorkersApart
