@@ -2,7 +2,7 @@
 use Rattle.std.proofs.Common.{◌≡◌, ◌≢◌, ◌⊎◌, inl, inr, ℕ, ◌≤◌, ◌<◌, Bool, true, false, List, Option, Some, None, refl, sym, ap, ◌∙◌, subst, arith}
 use Rattle.std.specs.FinMap.{get}
 use Rattle.std.specs.Prelude.{◌&&◌, nat_le, nat_lt}
-use Rattle.std.proofs.lemmas.Option.{none-some}
+use Rattle.std.proofs.lemmas.Option.{none-some, same_Some}
 use Rattle.std.proofs.lemmas.Bool.{and_parts}
 use Rattle.std.proofs.lemmas.Bool.Decides.{nat_tests}
 use Rattle.tss_base.specs.declared.range.Range.{Range}
@@ -24,21 +24,11 @@ use Rattle.tss_laws.specs.Holders.{IsOwnOrRead}
 use Rattle.tss_laws.specs.Entries.{IsGoingHome}
 use Rattle.tss_laws.specs.Control.{HasGroundwork, IsControlled}
 use Rattle.tss_laws.proofs.EntriesNames.{object_of_operand}
+use Rattle.tss_laws.proofs.StoreBytes.{covers_parts}
 use Rattle.tss_laws.proofs.StoreFrames.{IsElsewhere}
 use Rattle.tss_laws.proofs.EntriesOfVersions.{entry_of_version}
 use Rattle.tss_laws.proofs.StorageHomes.{not_going_home}
 use Rattle.tss_laws.proofs.StorageShares.{HoldsStorage, versions_apart, version_not_copied}
-
-covers_parts : (x : Range) (a : ℕ) → covers x a ≡ true → (x.base ≤ a) × (a < end_of x)
-covers_parts x a e =
-    let t = and_parts (nat_le x.base a) (nat_lt a (end_of x)) e in
-    (at_least x.base a t.0, below a (end_of x) t.1)
-  where
-    at_least : (b a : ℕ) → nat_le b a ≡ true → b ≤ a
-    at_least b a t = grind (arith, nat_tests)
-
-    below : (a c : ℕ) → nat_lt a c ≡ true → a < c
-    below a c t = grind (arith, nat_tests)
 
 module _ (ts : List Task) (g : Arrivals) (S : State) (round : IsRounded S ts) (h : IsControlled ts g S)
     (buffers : HasBuffers ts S) (o : OpName) (p : Operand) (s : Source) (k : HoldsStorage ts g S o p s)
@@ -122,3 +112,22 @@ module _ (ts : List Task) (g : Arrivals) (S : State) (round : IsRounded S ts) (h
     going_apart x v going same =
         not_going_home m all ts g S ground h o k.told.version own_there v
         (subst (λ x. IsGoingHome S x v) (same ∙ sym k.told.object) going)
+
+-- ---- two operands of one task
+
+-- they are on two objects, and have one storage at home alone
+pub operands_apart : (m : Machine) (all ts : List Task) (g : Arrivals) (S : State) → HasGroundwork m all ts S
+    → IsControlled ts g S → HasBuffers ts S → (o q : OpName) (p r : Operand) (s t : Source) → HoldsStorage ts g S o p s
+    → HoldsStorage ts g S q r t → o.task ≡ q.task → o ≢ q
+    → (p.object ≢ r.object) × (s.storage ≡ t.storage → s.storage ≡ Home)
+operands_apart m all ts g S ground h buffers o q p r s t k l task other =
+    let apart : p.object ≢ r.object = λ same. other (ground.known.single o q p r k.among l.among same task) in
+    let versions : s.version ≢ t.version = λ same.
+      let one = same_Some k.told.version l.told.version
+      (sym k.told.there ∙ ap (get S.versions) same ∙ l.told.there) in
+      apart (sym k.told.object ∙ ap (λ (y : Version). y.object) one ∙ l.told.object) in
+    (
+      apart,
+      λ same. (versions_apart ts S h.chains buffers s.version t.version k.told.version l.told.version k.told.there
+          l.told.there versions s.storage k.told.storage (l.told.storage ∙ ap Some (sym same))).0,
+    )
