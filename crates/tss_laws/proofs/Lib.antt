@@ -256,3 +256,4 @@ pub mod ValuesMain
 pub mod StorageBeside
 pub mod WorkersHold
 pub mod WorkersApart
+pub mod ValuesHomeDecode
