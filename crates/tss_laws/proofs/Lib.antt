@@ -200,7 +200,6 @@ pub mod ValuesRetire
 pub mod ValuesGone
 pub mod ValuesCopy
 pub mod ValuesReturnsMain
-pub mod ValuesHome
 pub mod ValuesHomeEvents
 pub mod ProgressSettled
 pub mod BoundObjects
@@ -248,7 +247,6 @@ pub mod BuffersEvents
 pub mod StorageShares
 pub mod WorkersTold
 pub mod ValuesHomeKept
-pub mod ValuesHomeEvents
 pub mod StoredFrames
 pub mod StoredQuiet
 pub mod StorageHomes
