@@ -255,3 +255,5 @@ pub mod StorageBeside
 pub mod WorkersHold
 pub mod WorkersApart
 pub mod ValuesHomeDecode
+pub mod ResultLemmas
+pub mod MainEndings
