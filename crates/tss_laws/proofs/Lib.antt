@@ -257,3 +257,5 @@ pub mod WorkersApart
 pub mod ValuesHomeDecode
 pub mod ResultLemmas
 pub mod MainEndings
+pub mod StoredSettled
+pub mod StoredReleased
