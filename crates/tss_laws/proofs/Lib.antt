@@ -200,6 +200,7 @@ pub mod ValuesRetire
 pub mod ValuesGone
 pub mod ValuesCopy
 pub mod ValuesReturnsMain
+pub mod ValuesReturnsEvents
 pub mod ValuesHomeEvents
 pub mod ProgressSettled
 pub mod BoundObjects
