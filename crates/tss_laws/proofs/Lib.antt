@@ -260,3 +260,4 @@ pub mod ResultLemmas
 pub mod MainEndings
 pub mod StoredSettled
 pub mod StoredReleased
+pub mod StoredTaken
