@@ -1,7 +1,8 @@
--- Where a writer that holds its version writes, no other version has its value.
+-- A writer that holds its version writes beside home at other objects, beside the buffers of copies, and nothing of an
+-- object without an entry, or of one that is on its way home.
 use Rattle.std.proofs.Common.{◌≡◌, ◌≢◌, ℕ, Bool, true, false, List, Some, None, refl, sym, ap, ◌∙◌, subst}
 use Rattle.std.specs.FinMap.{get}
-use Rattle.std.proofs.lemmas.Option.{none-some, same_Some}
+use Rattle.std.proofs.lemmas.Option.{none-some}
 use Rattle.tss_base.specs.declared.range.Range.{Range}
 use Rattle.tss_base.specs.declared.operand.OpName.{OpName}
 use Rattle.tss_base.specs.declared.operand.Operand.{Operand}
@@ -9,8 +10,8 @@ use Rattle.tss_base.specs.declared.operand.Task.{Task}
 use Rattle.tss_base.specs.declared.machine.Machine.{Machine}
 use Rattle.tss_model.specs.Access.{writes}
 use Rattle.tss_model.specs.Memory.{covers}
-use Rattle.tss_protocol.specs.Mail.{StorageName, Home, Buffer, Source}
-use Rattle.tss_protocol.specs.State.{State, Version, CopyState}
+use Rattle.tss_protocol.specs.Mail.{Home, Buffer, Source}
+use Rattle.tss_protocol.specs.State.{State, CopyState}
 use Rattle.tss_locality.specs.Rounds.{IsRounded}
 use Rattle.tss_locality.proofs.RoundObjects.{no_address_shared}
 use Rattle.tss_laws.specs.Members.{operand_among}
@@ -24,21 +25,13 @@ use Rattle.tss_laws.proofs.StoreBytes.{covers_parts}
 use Rattle.tss_laws.proofs.StoreFrames.{IsElsewhere}
 use Rattle.tss_laws.proofs.EntriesOfVersions.{entry_of_version}
 use Rattle.tss_laws.proofs.StorageHomes.{not_going_home}
-use Rattle.tss_laws.proofs.StorageShares.{HoldsStorage, versions_apart, version_not_copied}
+use Rattle.tss_laws.proofs.StorageShares.{HoldsStorage, version_not_copied}
 
 module _ (ts : List Task) (g : Arrivals) (S : State) (round : IsRounded S ts) (h : IsControlled ts g S)
     (buffers : HasBuffers ts S) (o : OpName) (p : Operand) (s : Source) (k : HoldsStorage ts g S o p s)
     (w : writes p.mode ≡ true) where
   own : s.version ≡ o
   own = subst (λ b. IsOwnOrRead g o b s.version) w k.told.own
-
-  -- another version with that storage lies at home, as the writer's own does, and is of another object
-  pub other_object : (v : OpName) (y : Version) (st : StorageName) → get S.versions v ≡ Some y → v ≢ o
-      → y.storage ≡ Some st → s.storage ≡ st → (st ≡ Home) × (y.object ≢ p.object)
-  other_object v y st there other held same =
-      let apart = versions_apart ts S h.chains buffers v s.version y k.told.version there k.told.there
-      (λ e. other (e ∙ own)) st held (k.told.storage ∙ ap Some same) in
-      (apart.0, λ e. apart.1 (e ∙ sym k.told.object))
 
   -- objects of two operands that differ share no address
   apart_at : (q : OpName) (r : Operand) → operand_among ts q ≡ Some r → r.object ≢ p.object → (a : ℕ)
@@ -51,21 +44,6 @@ module _ (ts : List Task) (g : Arrivals) (S : State) (round : IsRounded S ts) (h
           absurd (no_address_shared ts S.main.epoch round.separate round.named q o r.object p.object
           (object_of_operand ts q r among) (object_of_operand ts o p k.among) other a (covers_parts r.object a in_r)
           (covers_parts p.object a e))
-
-  -- so the writer writes elsewhere
-  pub version_elsewhere : (v : OpName) (y : Version) (st : StorageName) → get S.versions v ≡ Some y → v ≢ o
-      → y.storage ≡ Some st → (a : ℕ) → covers y.object a ≡ true → IsElsewhere p.object s.storage st a
-  version_elsewhere v y st there other held a in_y =
-      let q = h.chains.opener v y there in record {
-        home = λ e f.
-            let apart = other_object v y st there other held (e ∙ sym f) in
-            apart_at v q.0 q.1 (λ same. apart.1 (sym q.2 ∙ same)) a (ap (λ (x : Range). covers x a) q.2 ∙ in_y);
-        buffer = λ n e f.
-            home_apart n (sym f ∙ (other_object v y st there other held (e ∙ sym f)).0);
-      }
-    where
-      home_apart : (n : OpName) → Buffer n ≡ Home → ⊥
-      home_apart n e = cc
 
   -- at home of another object it writes elsewhere
   pub object_elsewhere : (q : OpName) (r : Operand) → operand_among ts q ≡ Some r → r.object ≢ p.object → (a : ℕ)
@@ -108,22 +86,3 @@ module _ (ts : List Task) (g : Arrivals) (S : State) (round : IsRounded S ts) (h
     going_apart x v going same =
         not_going_home m all ts g S ground h o k.told.version own_there v
         (subst (λ x. IsGoingHome S x v) (same ∙ sym k.told.object) going)
-
--- ---- two operands of one task
-
--- they are on two objects, and have one storage at home alone
-pub operands_apart : (m : Machine) (all ts : List Task) (g : Arrivals) (S : State) → HasGroundwork m all ts S
-    → IsControlled ts g S → HasBuffers ts S → (o q : OpName) (p r : Operand) (s t : Source) → HoldsStorage ts g S o p s
-    → HoldsStorage ts g S q r t → o.task ≡ q.task → o ≢ q
-    → (p.object ≢ r.object) × (s.storage ≡ t.storage → s.storage ≡ Home)
-operands_apart m all ts g S ground h buffers o q p r s t k l task other =
-    let apart : p.object ≢ r.object = λ same. other (ground.known.single o q p r k.among l.among same task) in
-    let versions : s.version ≢ t.version = λ same.
-      let one = same_Some k.told.version l.told.version
-      (sym k.told.there ∙ ap (get S.versions) same ∙ l.told.there) in
-      apart (sym k.told.object ∙ ap (λ (y : Version). y.object) one ∙ l.told.object) in
-    (
-      apart,
-      λ same. (versions_apart ts S h.chains buffers s.version t.version k.told.version l.told.version k.told.there
-          l.told.there versions s.storage k.told.storage (l.told.storage ∙ ap Some (sym same))).0,
-    )
