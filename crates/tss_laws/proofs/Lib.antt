@@ -261,3 +261,4 @@ pub mod MainEndings
 pub mod StoredSettled
 pub mod StoredReleased
 pub mod StoredTaken
+pub mod WorkersRuns
