@@ -65,7 +65,8 @@ module _ (i : ImageState) (limits : Limits) where
       ∙ subst (SpawnsBy (frozen i) limits (flat_stepped i limits k)) none
       (flat_step-spawns (frozen i) limits (flat_stepped i limits k))
 
-  step_one : (k : ℕ) (t : Task) → task_started i limits k ≡ Some t → spawned_by (suc k) ≡ suc (spawned_by k)
+  -- a step that starts a task raises their number
+  pub step_one : (k : ℕ) (t : Task) → task_started i limits k ≡ Some t → spawned_by (suc k) ≡ suc (spawned_by k)
   step_one k t is =
       ap (λ (f : Flat). f.main.spawned) (flat_stepped-next i limits k)
       ∙ subst (SpawnsBy (frozen i) limits (flat_stepped i limits k)) is

@@ -262,3 +262,4 @@ pub mod StoredSettled
 pub mod StoredReleased
 pub mod StoredTaken
 pub mod WorkersRuns
+pub mod NamingLemmas
