@@ -217,8 +217,13 @@ module _ (m : Machine) (all ts : List Task) (S : State) (ground : HasGroundwork 
     ]
     last_still x v (inr g) =
         let apart : v ≢ c.version = λ same. (ground.places.gones v g.0 g.1).1 (b, c, there, sym same) in
-        inr (g.0, ap (λ m. get m v) gones ∙ beside_inserted name_order S.mail.gones c.version gone v apart
-        ∙ g.1, g.2, g.3)
+        inr (
+          g.0,
+          ap (λ m. get m v) gones ∙ beside_inserted name_order S.mail.gones c.version gone v apart
+              ∙ g.1,
+          g.2,
+          g.3,
+        )
 
     last_going : SameGoing S T
     last_going = record {

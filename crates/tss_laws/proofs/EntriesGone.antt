@@ -267,7 +267,7 @@ module _ (m : Machine) (all ts : List Task) (S : State) (ground : HasGroundwork 
         no_version w (y, version, sym p.2 ∙ is ∙ operand.2) in (
           c.0,
           ap (λ m. get m y.object.base) entries ∙ beside_removed nat_order S.entries g.object.base y.object.base other
-          ∙ c.1,
+              ∙ c.1,
           c.2,
         )
 

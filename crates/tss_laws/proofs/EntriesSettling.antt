@@ -164,8 +164,11 @@ module _ (vs : Named Version) (v : OpName) (x : Version) (at : get vs v ≡ Some
       | inr old ↦ (z, old.1, becomes_itself z, others w z old.1 old.0)
     ];
     stay = λ w y e. elim (decide_key name_order w v) [
-      | inl same ↦ inl (asked_version, ap (get (insert vs v asked_version)) same
-      ∙ at_inserted name_order vs v asked_version)
+      | inl same ↦ inl (
+        asked_version,
+        ap (get (insert vs v asked_version)) same
+            ∙ at_inserted name_order vs v asked_version,
+      )
       | inr other ↦ inl (y, beside_inserted name_order vs v asked_version w other ∙ e)
     ];
   }

@@ -140,6 +140,7 @@ pub mod ChainsOpen
 pub mod ReadersLink
 pub mod EntriesGone
 pub mod EntriesRetire
+pub mod EntriesRetireEvent
 pub mod ReadersEnlisted
 pub mod HoldersReady
 pub mod ProgressBanks

@@ -40,7 +40,7 @@ cause_written S T base n entries v y count why c = elim (decide_key nat_order y.
   | inl same ↦ (
     n,
     ap (λ m. get m y.object.base) entries ∙ ap (get (insert S.entries base n)) same
-    ∙ at_inserted nat_order S.entries base n,
+        ∙ at_inserted nat_order S.entries base n,
     why c.0 (ap (get S.entries) (sym same) ∙ c.1) c.2,
   )
   | inr other ↦ (

@@ -1,5 +1,5 @@
 -- No event but retire and copy says of a version that it is gone as the last of its object.
-use Rattle.std.proofs.Common.{◌≡◌, ℕ, zero, suc, Bool, true, false, if◌then◌else◌, List, [], ◌∷◌, ◌++◌, Option, Some, None, refl, sym, ap, ◌∙◌, inl, inr}
+use Rattle.std.proofs.Common.{◌≡◌, ℕ, zero, suc, Bool, true, false, if◌then◌else◌, List, [], ◌∷◌, ◌++◌, Option, Some, None, refl, ap, ◌∙◌, inl, inr}
 use Rattle.std.specs.FinMap.{get}
 use Rattle.tss_base.specs.declared.operand.OpName.{OpName}
 use Rattle.tss_base.specs.declared.event.How.{How}
@@ -76,7 +76,8 @@ module _ (vs : Named Version) (v : OpName) (x : Version) (next : Settling)
         | false ↦ tt
       ]
   by_unretired (Some f) =
-      elim (may_die x f.last) as (λ b. AllSent IsUnretired (if b then settle_how vs v x f next f.how else unchanged vs).sent) [
+      elim (may_die x f.last) as
+      (λ b. AllSent IsUnretired (if b then settle_how vs v x f next f.how else unchanged vs).sent) [
         | true ↦ how_unretired f f.how
         | false ↦ tt
       ]
@@ -96,7 +97,8 @@ settled_unretired : (vs : Named Version) (v : OpName) → AllSent IsUnretired (s
 settled_unretired vs v = settle_unretired _ vs v
 
 module _ (vs : Named Version) (o : OpName) where
-  opened_how_unretired : (c : OpenContents) (f : Follow) (how : How) → AllSent IsUnretired (opened_how vs o c f how).sent
+  opened_how_unretired : (c : OpenContents) (f : Follow) (how : How)
+      → AllSent IsUnretired (opened_how vs o c f how).sent
   opened_how_unretired c f Beside =
       AllSent-append IsUnretired (ready_with o o c.storage) _ (ready_unretired o o c.storage) (settled_unretired _ _)
   opened_how_unretired c f Over = settled_unretired _ _
@@ -113,7 +115,8 @@ module _ (vs : Named Version) (o : OpName) where
   alone_unretired v x true = ready_unretired o v x.storage
   alone_unretired v x false = tt
 
-  behind_unretired : (v : OpName) (x : Version) (tail : Option OpName) → AllSent IsUnretired (used_behind vs o v x tail).sent
+  behind_unretired : (v : OpName) (x : Version) (tail : Option OpName)
+      → AllSent IsUnretired (used_behind vs o v x tail).sent
   behind_unretired v x None = alone_unretired v x x.produced
   behind_unretired v x (Some last) = (tt, tt)
 
@@ -136,7 +139,8 @@ module _ (vs : Named Version) (o : OpName) where
       (settled_unretired _ _)
   released_unretired v x false = (tt, settled_unretired _ _)
 
-  released_at_unretired : (v : OpName) (b : Bool) (x : Option Version) → AllSent IsUnretired (released_at vs o v b x).sent
+  released_at_unretired : (v : OpName) (b : Bool) (x : Option Version)
+      → AllSent IsUnretired (released_at vs o v b x).sent
   released_at_unretired v b None = tt
   released_at_unretired v b (Some x) = released_unretired v x b
 

@@ -1,35 +1,32 @@
 -- What is brought home after a copy: the next bytes of the buffer, and after the last ones all of them.
-use Rattle.std.proofs.Common.{◌≡◌, ◌≢◌, ℕ, ◌+◌, ◌-◌, ◌<◌, ◌≤◌, ◌⊎◌, nat_le, nat_lt, Bool, true, false, List, length, take, min, Option, Some, None, refl, sym, ap, ◌∙◌, subst, inl, inr, arith}
+use Rattle.std.proofs.Common.{◌≡◌, ◌≢◌, ℕ, ◌+◌, ◌-◌, ◌<◌, ◌≤◌, ◌⊎◌, nat_le, Bool, true, false, List, length, take, min, Option, Some, None, refl, sym, ap, ◌∙◌, subst, inl, inr, arith}
 use Rattle.std.proofs.lemmas.Bool.Decides.{nat_tests}
-use Rattle.std.specs.Prelude.{is_some, slice_index, slice_get}
-use Rattle.std.specs.FinMap.{get, insert, remove}
-use Rattle.std.proofs.lemmas.Bool.{and_parts, leb-true, ltb-true}
-use Rattle.std.proofs.lemmas.Option.{none-some, same_Some}
+use Rattle.std.specs.Prelude.{is_some, slice_index}
+use Rattle.std.specs.FinMap.{get}
 use Rattle.tss_base.specs.declared.range.Range.{Range}
 use Rattle.tss_base.specs.declared.operand.OpName.{OpName}
 use Rattle.tss_base.specs.declared.operand.Operand.{Operand}
 use Rattle.tss_base.specs.declared.operand.Task.{Task}
 use Rattle.tss_base.specs.declared.machine.Machine.{Machine}
 use Rattle.tss_base.specs.declared.event.Event.TheVariants as event
-use Rattle.tss_base.specs.Range.{end_of, meets}
 use Rattle.tss_base.specs.Image.{ImageState}
-use Rattle.tss_maps.proofs.Keys.{nat_order, name_order, decide_key}
+use Rattle.tss_maps.proofs.Keys.{nat_order, name_order}
 use Rattle.tss_maps.proofs.Changes.{from_inserted, from_removed}
 use Rattle.tss_model.specs.Memory.{byte_at, bytes_of, covers}
 use Rattle.tss_model.specs.InOrder.{Started}
 use Rattle.tss_protocol.specs.Names.{bank_of}
-use Rattle.tss_protocol.specs.Mail.{Buffer, GoneContents, Mail, posted_all}
+use Rattle.tss_protocol.specs.Mail.{Buffer, GoneContents, posted_all}
 use Rattle.tss_protocol.specs.State.{State, Entry, CopyState}
 use Rattle.tss_protocol.specs.Versions.{retired}
 use Rattle.tss_protocol.specs.Buffers.{buffer_bytes, piece_len, is_last_piece, home_after_copy, copies_after_copy, sent_by_copy}
 use Rattle.tss_protocol.specs.UnitMachine.{IsEnabled, is_enabled, after_event, after_copy, stores_of}
-use Rattle.tss_phases.proofs.Tests.{something, not_both}
+use Rattle.tss_phases.proofs.Tests.{something}
 use Rattle.tss_locality.specs.Rounds.{object_in, IsIn}
 use Rattle.tss_locality.proofs.LeftFields.{Leaves-after_event}
 use Rattle.tss_locality.proofs.RoundObjects.{arrival_operand, found_in_round}
 use Rattle.tss_laws.specs.Members.{operand_among}
 use Rattle.tss_laws.specs.Readers.{Arrivals}
-use Rattle.tss_laws.specs.Entries.{IsGoingHome, IsRetiring}
+use Rattle.tss_laws.specs.Entries.{IsGoingHome}
 use Rattle.tss_laws.specs.Control.{HasGroundwork, IsControlled}
 use Rattle.tss_laws.proofs.FlatNames.{covers-meet}
 use Rattle.tss_laws.proofs.StoreRuns.{stored_by}
@@ -77,7 +74,8 @@ module _ (m : Machine) (all ts : List Task) (g : Arrivals) (S : State) (ground :
       p : (p : Operand) × (operand_among ts v ≡ Some p) × (p.object ≡ x)
       p = operand_of_object ts v x named
 
-      by_retiring : (e : Entry) → get S.entries p.0.object.base ≡ Some e → e.object ≡ x → (b : Bool) → e.retiring ≡ b → v ≡ w
+      by_retiring : (e : Entry) → get S.entries p.0.object.base ≡ Some e → e.object ≡ x → (b : Bool) → e.retiring ≡ b
+          → v ≡ w
       by_retiring e at object true on =
           let r = k.entries.retiring p.0.object.base e at on in
           r.only v (inr (subst (λ x. IsGoingHome S x v) (sym object) a))
@@ -94,7 +92,8 @@ module _ (m : Machine) (all ts : List Task) (g : Arrivals) (S : State) (ground :
           let q = k.entries.operand p.0.object.base e at in
           by_retiring e at
           (sym q.1.2
-          ∙ one_object m all ts S ground k.orderly e.latest v q.1.0 p.0 q.1.1 p.1 (ap (λ (x : Range). x.base) q.1.2 ∙ q.0)
+          ∙ one_object m all ts S ground k.orderly e.latest v q.1.0 p.0 q.1.1 p.1
+          (ap (λ (x : Range). x.base) q.1.2 ∙ q.0)
           ∙ p.2)
           e.retiring refl
 
@@ -154,10 +153,12 @@ module _ (m : Machine) (i : ImageState) (all ts : List Task) (g : Arrivals) (S :
   other_copy : (q : ℕ) (d : CopyState) → q ≢ b → get S.copies q ≡ Some d → SameAtHome S T d.object
   other_copy q d apart at =
       beside d.object (object_named m all ts S ground d.version d.object (copy_object m all ts S ground q d at))
-      (λ same. apart (sym (ground.places.copied q d at).1 ∙ ap (bank_of m.sizes) same ∙ (ground.places.copied b c there).1))
+      (λ same. apart (sym (ground.places.copied q d at).1 ∙ ap (bank_of m.sizes) same
+      ∙ (ground.places.copied b c there).1))
 
   -- an object that came home
-  other_gone : (w : OpName) (d : GoneContents) → get S.mail.gones w ≡ Some d → d.retired ≡ true → SameAtHome S T d.object
+  other_gone : (w : OpName) (d : GoneContents) → get S.mail.gones w ≡ Some d → d.retired ≡ true
+      → SameAtHome S T d.object
   other_gone w d at last =
       let named_d = gone_object m all ts S ground w d at in
       beside d.object (object_named m all ts S ground w d.object named_d) (λ same.
@@ -197,7 +198,8 @@ module _ (m : Machine) (i : ImageState) (all ts : List Task) (g : Arrivals) (S :
         → byte_at T.home (d.object.base + n) ≡ slice_index (buffer_bytes S.contents d.buffer) n
     moved_by q d n (inl new) small =
         subst (λ (d : CopyState). n < d.moved
-        → byte_at T.home (d.object.base + n) ≡ slice_index (buffer_bytes S.contents d.buffer) n) (sym new) (comes n) small
+        → byte_at T.home (d.object.base + n) ≡ slice_index (buffer_bytes S.contents d.buffer) n) (sym new)
+        (comes n) small
     moved_by q d n (inr old) small =
         other_copy q d old.0 old.1 (d.object.base + n) (place_inside d.object n d.moved small (h.within q d old.1))
         ∙ h.moved q d n old.1 small
@@ -224,7 +226,8 @@ module _ (m : Machine) (i : ImageState) (all ts : List Task) (g : Arrivals) (S :
     all_home : take c.object.len bytes ≡ bytes_of T.home c.object
     all_home =
         let whole = whole_piece c.object.len c.moved is (h.within b c there) in
-        stored_by (stores_of S) T.home c.object (Buffer c.buffer) (λ n same. subst (λ n. c.object.len ≤ length (buffer_bytes S.contents n)) (same_buffer c.buffer n same) room)
+        stored_by (stores_of S) T.home c.object (Buffer c.buffer)
+        (λ n same. subst (λ n. c.object.len ≤ length (buffer_bytes S.contents n)) (same_buffer c.buffer n same) room)
         (λ a low high.
         let back : c.object.base + (a - c.object.base) ≡ a = omega (arith, low) in
         sym (comes (a - c.object.base) (omega (arith, low, high, whole)))

@@ -1,5 +1,5 @@
 -- What is brought home after a gone: the buffer that it frees isn't one that is copied.
-use Rattle.std.proofs.Common.{◌≡◌, ◌≢◌, ℕ, Bool, true, List, [], Option, Some, None, refl, sym, ap, ◌∙◌, inl, inr}
+use Rattle.std.proofs.Common.{◌≡◌, ◌≢◌, ℕ, List, [], Option, Some, None, refl, sym, ap, ◌∙◌, inl, inr}
 use Rattle.std.specs.Prelude.{is_some, unwrap_or}
 use Rattle.std.specs.FinMap.{get, remove}
 use Rattle.tss_base.specs.declared.operand.OpName.{OpName}
@@ -10,7 +10,7 @@ use Rattle.tss_base.specs.Image.{ImageState}
 use Rattle.tss_maps.proofs.Keys.{name_order}
 use Rattle.tss_maps.proofs.Changes.{from_removed, beside_removed}
 use Rattle.tss_model.specs.Memory.{byte_at}
-use Rattle.tss_protocol.specs.Mail.{GoneContents, Mail, taken}
+use Rattle.tss_protocol.specs.Mail.{GoneContents}
 use Rattle.tss_protocol.specs.State.{State, CopyState}
 use Rattle.tss_protocol.specs.Buffers.{buffer_bytes, contents_after_gone}
 use Rattle.tss_protocol.specs.UnitMachine.{IsEnabled, is_enabled, after_event, without, gone_message_taken}

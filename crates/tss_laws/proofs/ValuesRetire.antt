@@ -1,26 +1,24 @@
 -- What is brought home after a retire: the last version has the bytes that its operand leaves in program order.
-use Rattle.std.proofs.Common.{◌≡◌, ℕ, ◌+◌, ◌<◌, ◌≤◌, ◌⊎◌, arith, Bool, true, false, List, [], ◌∷◌, take, Option, Some, None, refl, sym, ap, ◌∙◌, subst, inl, inr, true≢false}
+use Rattle.std.proofs.Common.{◌≡◌, ℕ, ◌+◌, ◌<◌, ◌≤◌, ◌⊎◌, arith, true, List, take, Option, Some, None, refl, sym, ap, ◌∙◌, subst, inl, inr}
 use Rattle.std.specs.Prelude.{is_some, slice_index}
-use Rattle.std.specs.FinMap.{get, insert}
+use Rattle.std.specs.FinMap.{get}
 use Rattle.std.proofs.lemmas.Bool.{and_parts}
-use Rattle.std.proofs.lemmas.Option.{none-some, same_Some}
 use Rattle.tss_base.specs.declared.operand.OpName.{OpName}
 use Rattle.tss_base.specs.declared.operand.Operand.{Operand}
 use Rattle.tss_base.specs.declared.operand.Task.{Task}
 use Rattle.tss_base.specs.declared.machine.Machine.{Machine}
 use Rattle.tss_base.specs.declared.event.Event.TheVariants as event
 use Rattle.tss_base.specs.Image.{ImageState}
-use Rattle.tss_maps.proofs.Keys.{nat_order, name_order, decide_key}
-use Rattle.tss_maps.proofs.Changes.{from_inserted, from_removed, beside_removed}
+use Rattle.tss_maps.proofs.Keys.{nat_order, name_order}
+use Rattle.tss_maps.proofs.Changes.{from_inserted}
 use Rattle.tss_model.specs.Memory.{byte_at, bytes_of}
 use Rattle.tss_model.specs.InOrder.{Started}
 use Rattle.tss_protocol.specs.Names.{bank_of}
-use Rattle.tss_protocol.specs.Mail.{StorageName, Home, Buffer, GoneContents, Mail, posted_all, taken}
+use Rattle.tss_protocol.specs.Mail.{StorageName, Home, Buffer, GoneContents, posted_all, taken}
 use Rattle.tss_protocol.specs.State.{State, Version, CopyState}
 use Rattle.tss_protocol.specs.Versions.{retired}
 use Rattle.tss_protocol.specs.Buffers.{buffer_bytes, sent_by_retire, new_copy, copies_after_retire}
 use Rattle.tss_protocol.specs.UnitMachine.{IsEnabled, is_enabled, after_event, without, can_retire, retire_version}
-use Rattle.tss_phases.proofs.Tests.{something}
 use Rattle.tss_locality.proofs.LeftFields.{Leaves-after_event}
 use Rattle.tss_laws.specs.Readers.{Arrivals}
 use Rattle.tss_laws.specs.Control.{HasGroundwork, IsControlled}

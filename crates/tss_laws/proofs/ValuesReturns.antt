@@ -1,5 +1,5 @@
 -- What is copied home, or has come there: the events that leave it.
-use Rattle.std.proofs.Common.{◌≡◌, ℕ, ◌+◌, ◌<◌, ◌≤◌, nat_le, nat_lt, Bool, true, false, List, [], ◌∷◌, take, Option, Some, None, refl, sym, ap, ◌∙◌, arith}
+use Rattle.std.proofs.Common.{◌≡◌, ℕ, ◌+◌, ◌<◌, ◌≤◌, nat_le, nat_lt, Bool, true, false, List, take, Option, Some, None, sym, ap, ◌∙◌, arith}
 use Rattle.std.specs.Prelude.{slice_index}
 use Rattle.std.specs.FinMap.{get}
 use Rattle.std.proofs.lemmas.Bool.{and_from, le-leb, lt-ltb}
@@ -15,14 +15,14 @@ use Rattle.tss_base.specs.declared.event.Event.TheVariants as event
 use Rattle.tss_base.specs.Image.{ImageState}
 use Rattle.tss_base.specs.Range.{end_of}
 use Rattle.tss_model.specs.Memory.{byte_at, bytes_of, covers}
-use Rattle.tss_protocol.specs.Mail.{OpenContents, ReleaseContents, IdleContents, GoneContents, Mail, posted_all, taken}
+use Rattle.tss_protocol.specs.Mail.{OpenContents, ReleaseContents, IdleContents, GoneContents, posted_all, taken}
 use Rattle.tss_protocol.specs.State.{State, Entry, CopyState}
 use Rattle.tss_protocol.specs.Renaming.{idle_by, may_retire, sent_by_decode, live_message, decode_message}
 use Rattle.tss_protocol.specs.Buffers.{buffer_bytes}
-use Rattle.tss_protocol.specs.UnitMachine.{IsEnabled, after_event, without, decode_message_taken, open_message_taken, use_message_taken, release_message_taken, idle_message_taken, nack_message_taken}
+use Rattle.tss_protocol.specs.UnitMachine.{after_event, without, decode_message_taken, open_message_taken, use_message_taken, release_message_taken, idle_message_taken, nack_message_taken}
 use Rattle.tss_locality.proofs.LeftFields.{Leaves-after_event}
 use Rattle.tss_laws.proofs.FlatLoads.{same_bytes}
-use Rattle.tss_laws.proofs.EntriesQuiet.{IsQuietEvent, quiet_objects}
+use Rattle.tss_laws.proofs.EntriesQuiet.{quiet_objects}
 use Rattle.tss_laws.proofs.SentUnretired.{IsUnretired, NoMoreRetired, posted_all_unretired, after_open_unretired, after_use_unretired, after_release_unretired, after_nack_unretired}
 use Rattle.tss_laws.proofs.Values.{HasReturns}
 
@@ -52,7 +52,8 @@ place_inside x k n low high =
     (lt-ltb (x.base + k) (end_of x) (omega (arith, low, high)))
 
 -- where it is left it is right
-pub returns_kept : (m : Machine) (i : ImageState) (ts : List Task) (S T : State) → KeepsReturns S T → HasReturns m i ts S
+pub returns_kept : (m : Machine) (i : ImageState) (ts : List Task) (S T : State) → KeepsReturns S T
+    → HasReturns m i ts S
     → HasReturns m i ts T
 returns_kept m i ts S T k h = record {
   copied = λ bank c p s at known good.

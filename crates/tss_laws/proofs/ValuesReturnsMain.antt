@@ -1,9 +1,9 @@
 -- Main leaves what is brought home: it stores nothing in an object that it has named.
-use Rattle.std.proofs.Common.{◌≡◌, ℕ, Bool, true, false, List, [], ◌∷◌, ◌++◌, append-nil, Option, Some, None, refl, sym, ap, ◌∙◌, subst, inl, inr}
-use Rattle.std.specs.Prelude.{unwrap_or, option_to_list, ◌||◌}
+use Rattle.std.proofs.Common.{◌≡◌, ℕ, Bool, true, false, List, [], ◌∷◌, append-nil, Option, Some, None, refl, sym, ap, ◌∙◌, subst, inl, inr}
+use Rattle.std.specs.Prelude.{unwrap_or, ◌||◌}
 use Rattle.std.specs.List.{list_any}
 use Rattle.std.specs.FinMap.{get}
-use Rattle.std.proofs.lemmas.Option.{none-some, same_Some}
+use Rattle.std.proofs.lemmas.Option.{none-some}
 use Rattle.tss_base.specs.declared.range.Range.{Range}
 use Rattle.tss_base.specs.declared.operand.OpName.{OpName}
 use Rattle.tss_base.specs.declared.operand.Operand.{Operand}
@@ -11,11 +11,10 @@ use Rattle.tss_base.specs.declared.operand.Task.{Task}
 use Rattle.tss_base.specs.declared.machine.Machine.{Machine}
 use Rattle.tss_base.specs.declared.event.Event.TheVariants as event
 use Rattle.tss_base.specs.Image.{ImageState}
-use Rattle.tss_model.specs.Memory.{byte_at, covers}
 use Rattle.tss_model.specs.InOrder.{Started}
 use Rattle.tss_model.specs.MainStep.{MainState, Call, ExitCall, Spawn, Barrier, Print, Unknown}
 use Rattle.tss_model.specs.Spawn.{same_range}
-use Rattle.tss_protocol.specs.State.{State, CopyState}
+use Rattle.tss_protocol.specs.State.{State}
 use Rattle.tss_protocol.specs.Buffers.{buffer_bytes}
 use Rattle.tss_protocol.specs.MainEvent.{call_next, flat_of}
 use Rattle.tss_protocol.specs.Needs.{round_after_call, round_after_main, round_after_event}
@@ -29,7 +28,7 @@ use Rattle.tss_laws.proofs.FlatNaming.{named_not_loaded}
 use Rattle.tss_laws.proofs.MainEvent.{main_stores}
 use Rattle.tss_laws.proofs.GroundworkSpawn.{operand_among-more}
 use Rattle.tss_laws.proofs.EntriesNames.{operand_of_object}
-use Rattle.tss_laws.proofs.Values.{IsKnown, IsGood, HasReturns}
+use Rattle.tss_laws.proofs.Values.{IsKnown, HasReturns}
 use Rattle.tss_laws.proofs.ValuesReturns.{SameAtHome, KeepsReturns, returns_kept}
 use Rattle.tss_laws.proofs.ValuesCopy.{object_named, copy_object, gone_object}
 
@@ -100,8 +99,11 @@ module _ (m : Machine) (i : ImageState) (all ts : List Task) (S : State) (ground
                   (object_named m all ts S ground c.version c.object (copy_object m all ts S ground bank c old)),
             );
         gones = λ v g at last.
-            let old = ap (λ m. get m v) (sym (λ j. (left j).mail.gones)) ∙ at in
-            (old, main_at_home m S g.object (object_named m all ts S ground v g.object (gone_object m all ts S ground v g old)));
+            let old = ap (λ m. get m v) (sym (λ j. (left j).mail.gones)) ∙ at in (
+              old,
+              main_at_home m S g.object
+                  (object_named m all ts S ground v g.object (gone_object m all ts S ground v g old)),
+            );
       }
 
   -- what is brought home after main's event
@@ -118,5 +120,6 @@ module _ (m : Machine) (i : ImageState) (all ts : List Task) (S : State) (ground
         moved = r.moved;
         gone = λ v g p s at last known good.
             let old = ap (λ m. get m v) (sym (λ j. (left j).mail.gones)) ∙ at in
-            r.gone v g p s at last (known_before_main v g.object (gone_object m all ts S ground v g old) p s known) good;
+            r.gone v g p s at last
+            (known_before_main v g.object (gone_object m all ts S ground v g old) p s known) good;
       }
