@@ -264,3 +264,6 @@ pub mod StoredReleased
 pub mod StoredTaken
 pub mod WorkersRuns
 pub mod NamingLemmas
+pub mod LoadedBytes
+pub mod KeptBytes
+pub mod HomeBytes
