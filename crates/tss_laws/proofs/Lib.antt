@@ -267,3 +267,4 @@ pub mod NamingLemmas
 pub mod LoadedBytes
 pub mod KeptBytes
 pub mod HomeBytes
+pub mod StoredCopy

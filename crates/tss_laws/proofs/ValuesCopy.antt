@@ -137,7 +137,7 @@ module _ (m : Machine) (i : ImageState) (all ts : List Task) (g : Arrivals) (S :
   named = object_named m all ts S ground c.version c.object (copy_object m all ts S ground b c there)
 
   -- another object is left
-  beside : (x : Range) → IsIn x S.main.epoch → x ≢ c.object → SameAtHome S T x
+  pub beside : (x : Range) → IsIn x S.main.epoch → x ≢ c.object → SameAtHome S T x
   beside x also apart a inside =
       ap (λ m. byte_at m a) home
       ∙ copy-beside S.home c bytes a (h.within b c there)
