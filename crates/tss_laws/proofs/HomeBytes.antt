@@ -1,5 +1,5 @@
--- Home and the memory of program order have a byte at each address of an object of the round: it lies in a range of memory,
--- and what was loaded stays.
+-- Home and the memory of program order have a byte at each address of an object of the round: it lies in a range of
+-- memory, and what was loaded stays.
 use Rattle.std.proofs.Common.{◌≡◌, ℕ, suc, Bool, true, false, List, [], ◌∷◌, length, Option, Some, None, refl, sym, ap, ◌∙◌, subst}
 use Rattle.std.specs.Prelude.{◌==◌, cond, slice_get, Result, Ok, Err}
 use Rattle.std.proofs.lemmas.Option.{none-some, same_Some}

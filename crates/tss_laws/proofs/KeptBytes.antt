@@ -1,11 +1,9 @@
 -- No store takes a byte of memory away: home and the memory of program order keep all that were loaded.
-use Rattle.std.proofs.Common.{◌≡◌, ℕ, zero, suc, inl, inr, Bool, true, false, List, [], ◌∷◌, Option, Some, None, refl, sym, ap, subst, ◌∙◌}
+use Rattle.std.proofs.Common.{◌≡◌, ℕ, suc, inl, inr, Bool, true, false, List, [], ◌∷◌, Option, Some, None, sym, ap, subst, ◌∙◌}
 use Rattle.std.specs.Prelude.{cond, ◌-◌, is_some, nat_le}
 use Rattle.std.specs.FinMap.{get, insert}
-use Rattle.tss_base.specs.declared.operand.OpName.{OpName}
 use Rattle.tss_base.specs.declared.operand.Operand.{Operand}
 use Rattle.tss_base.specs.declared.operand.Task.{Task}
-use Rattle.tss_base.specs.declared.ending.Trap.{Trap}
 use Rattle.tss_base.specs.declared.range.Range.{Range}
 use Rattle.tss_base.specs.declared.machine.Limits.{Limits}
 use Rattle.tss_base.specs.declared.machine.Machine.{Machine}
@@ -20,15 +18,15 @@ use Rattle.tss_model.specs.Registers.{trap_of}
 use Rattle.tss_model.specs.Causes.{budget_spent, main_budget_spent}
 use Rattle.tss_model.specs.Access.{Actor, TaskActor, operands_of, reads}
 use Rattle.tss_model.specs.Core.{Write, Stepped, Executed, Called, Ended, Trapped, Touched, core_step}
-use Rattle.tss_model.specs.TaskRun.{TaskState, TaskEnd, is_over, repeated, task_byte, task_write, task_on, task_step, task_trapped, memory_write, zeroed_output, zeroed_outputs, task_start, task_actor, task_stepped, end_of_task, task_end}
+use Rattle.tss_model.specs.TaskRun.{TaskState, is_over, task_byte, task_write, task_on, task_step, task_trapped, memory_write, zeroed_output, zeroed_outputs, task_start, task_actor, task_end}
 use Rattle.tss_model.specs.MainStep.{MainState, Flat, Call, has_spent, main_core, main_on, main_refused, main_step, main_stretch, main_call, next_call, flat_written}
-use Rattle.tss_model.specs.InOrder.{flat_start, call_ran, task_ran, flat_by, flat_step, flat_stepped}
+use Rattle.tss_model.specs.InOrder.{flat_start, call_ran, flat_by, flat_step, flat_stepped}
 use Rattle.tss_protocol.specs.Mail.{StorageName, Home, Buffer}
 use Rattle.tss_protocol.specs.State.{State, Flying, Busy, CopyState}
 use Rattle.tss_protocol.specs.Stations.{storages_of}
 use Rattle.tss_protocol.specs.Buffers.{buffer_bytes, piece_of}
 use Rattle.tss_protocol.specs.MainEvent.{flat_of, call_next, after_call, main_by}
-use Rattle.tss_protocol.specs.Workers.{Stores, Placed, placed_in, placed_at, worker_byte, worker_write, write_in, storage_write, storage_zeroed, output_zeroed, outputs_zeroed, exec_stretch, task_state_of}
+use Rattle.tss_protocol.specs.Workers.{Stores, Placed, placed_in, placed_at, worker_byte, worker_write, write_in, storage_write, storage_zeroed, output_zeroed, outputs_zeroed, task_state_of}
 use Rattle.tss_protocol.specs.UnitMachine.{after_event, start_task, after_start, after_exec, after_copy, stores_of}
 use Rattle.tss_locality.proofs.LeftFields.{Leaves-after_event}
 use Rattle.tss_laws.proofs.FlatSteps.{repeated-keeps}

@@ -1,6 +1,6 @@
 -- The memory of an image has a byte at each address of its ranges.
-use Rattle.std.proofs.Common.{◌≡◌, ◌⊎◌, inl, inr, ℕ, zero, suc, ◌+◌, ◌<◌, ◌≤◌, Bool, true, false, List, [], ◌∷◌, ◌++◌, length, map, Option, Some, None, refl, sym, ap, subst, ◌∙◌, arith}
-use Rattle.std.specs.Prelude.{cond, ◌&&◌, is_some, nat_le, find, flat_map, option_map}
+use Rattle.std.proofs.Common.{◌≡◌, inl, inr, ℕ, ◌+◌, ◌<◌, ◌≤◌, Bool, true, false, List, [], ◌∷◌, ◌++◌, length, map, Option, Some, None, refl, ap, subst, ◌∙◌, arith}
+use Rattle.std.specs.Prelude.{cond, is_some, nat_le, find, flat_map, option_map}
 use Rattle.std.specs.List.{enumerate_from}
 use Rattle.std.specs.Ordering.{nat_cmp, eq_by_cmp}
 use Rattle.std.specs.FinMap.{get, get-from_entries}
@@ -94,7 +94,6 @@ module _ (r : Range) (a : ℕ) (inside : Covers r a) where
   keyed_range [] w e = keyed_last (contains stack_range r) refl w e
   keyed_range (s ∷ ss) w e = by (λ later. keyed_range ss w later) (contains (segment_range s) r) refl e
     where
-
       by : (range_of (map memory_range ss ++ stack_memory ∷ []) r ≡ Some w
           → IsKeyed (flat_map (λ (s : SegmentState). enumerate_from s.base s.bytes) ss ++ stack_entries) a)
           → (b : Bool) → contains (segment_range s) r ≡ b

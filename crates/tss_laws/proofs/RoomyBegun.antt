@@ -1,10 +1,10 @@
 -- No event but a start begins a task that is in flight.
-use Rattle.std.proofs.Common.{◌≡◌, ◌≢◌, ◌⊎◌, inl, inr, ℕ, ◌<◌, ◌≤◌, Bool, true, false, List, Option, Some, None, refl, sym, ap, subst, ◌∙◌, arith}
-use Rattle.std.specs.Prelude.{cond, ◌&&◌, ◌-◌, is_some, slice_get}
+use Rattle.std.proofs.Common.{◌≡◌, ◌≢◌, ◌⊎◌, inl, inr, ℕ, Bool, true, false, List, Option, Some, None, refl, sym, ap, subst, ◌∙◌, arith}
+use Rattle.std.specs.Prelude.{cond, slice_get}
 use Rattle.std.specs.List.{list_all}
 use Rattle.std.specs.FinMap.{get, insert, remove}
 use Rattle.std.proofs.lemmas.Bool.{and_parts}
-use Rattle.std.proofs.lemmas.Option.{none-some, same_Some}
+use Rattle.std.proofs.lemmas.Option.{same_Some}
 use Rattle.tss_base.specs.declared.operand.OpName.{OpName}
 use Rattle.tss_base.specs.declared.operand.Task.{Task}
 use Rattle.tss_base.specs.declared.machine.Machine.{Machine}
@@ -16,11 +16,10 @@ use Rattle.tss_maps.proofs.Keys.{nat_order, decide_key}
 use Rattle.tss_maps.proofs.Changes.{at_inserted, beside_inserted, beside_removed}
 use Rattle.tss_protocol.specs.Mail.{Source}
 use Rattle.tss_protocol.specs.State.{State, OperandState, Flying, Busy}
-use Rattle.tss_protocol.specs.Stations.{has_finished, has_left, is_gone, is_complete, remaining_tasks, entered, flight_after_take, with_operand, awaited, woken_by, woken_in, task_after_ready, linked_by, linked_in, operand_after_link, parted_by, parted_in, operand_after_bye, finished_in}
-use Rattle.tss_protocol.specs.UnitMachine.{IsEnabled, is_enabled, after_event, without, after_take, ready_message_taken, link_message_taken, bye_message_taken, after_finish}
+use Rattle.tss_protocol.specs.Stations.{has_finished, has_left, is_gone, is_complete, remaining_tasks, entered, with_operand, awaited, woken_by, woken_in, task_after_ready, linked_by, linked_in, operand_after_link, parted_by, parted_in, operand_after_bye, finished_in}
+use Rattle.tss_protocol.specs.UnitMachine.{after_event, without, after_take, ready_message_taken, link_message_taken, bye_message_taken, after_finish}
 use Rattle.tss_laws.specs.Tasks.{taken_by, HasTaskNumbers}
 use Rattle.tss_laws.specs.Runners.{HasRunners}
-use Rattle.tss_laws.proofs.Values.{HasBegun}
 
 -- it runs or has finished
 abbrev pub IsUnderWay : Flying → Type 0
@@ -44,6 +43,7 @@ finished_is stage.Queued e = absurd (cc)
 finished_is stage.Running e = absurd (cc)
 finished_is stage.Finished e = refl
 
+-- nothing changed
 pub begins_same : (f : Numbered Flying) → BeginsNone f f
 begins_same f n begun = begun
 

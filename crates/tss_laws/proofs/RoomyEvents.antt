@@ -1,8 +1,8 @@
 -- Every event leaves room in the buffers that are set.
-use Rattle.std.proofs.Common.{◌≡◌, ◌≢◌, ◌⊎◌, inl, inr, ℕ, ◌≤◌, Bool, true, false, List, [], ◌∷◌, ◌++◌, length, Option, Some, None, refl, sym, ap, subst, ◌∙◌, arith}
-use Rattle.std.specs.Prelude.{◌&&◌, ◌==◌, is_some, slice_get, option_to_list}
+use Rattle.std.proofs.Common.{◌≡◌, ◌⊎◌, inl, inr, ℕ, Bool, true, false, List, [], ◌∷◌, ◌++◌, length, Option, Some, None, refl, sym, ap, subst, ◌∙◌, arith}
+use Rattle.std.specs.Prelude.{◌==◌, is_some, option_to_list}
 use Rattle.std.specs.List.{list_any}
-use Rattle.std.specs.FinMap.{get, insert, get-empty}
+use Rattle.std.specs.FinMap.{get, get-empty}
 use Rattle.std.specs.Ordering.{nat_cmp}
 use Rattle.std.proofs.lemmas.Bool.{and_parts, or_left}
 use Rattle.std.proofs.lemmas.Bool.Decides.{nat_tests}
@@ -12,7 +12,6 @@ use Rattle.tss_base.specs.declared.operand.Mode.{Mode}
 use Rattle.tss_base.specs.declared.operand.Mode.TheVariants.{Input, Output, Inout}
 use Rattle.tss_base.specs.declared.operand.Operand.{Operand}
 use Rattle.tss_base.specs.declared.operand.Task.{Task}
-use Rattle.tss_base.specs.declared.range.Range.{Range}
 use Rattle.tss_base.specs.declared.machine.Machine.{Machine}
 use Rattle.tss_base.specs.declared.event.Event.{Event}
 use Rattle.tss_base.specs.declared.event.Event.TheVariants as event
@@ -22,7 +21,7 @@ use Rattle.tss_base.specs.Names.{Named, Numbered, name_cmp}
 use Rattle.tss_base.specs.Image.{ImageState}
 use Rattle.tss_maps.proofs.Keys.{nat_order, decide_key}
 use Rattle.tss_maps.proofs.Changes.{from_inserted, from_removed, beside_inserted}
-use Rattle.tss_model.specs.Access.{operands_of, reads, writes}
+use Rattle.tss_model.specs.Access.{operands_of, reads}
 use Rattle.tss_model.specs.MainStep.{Call, ExitCall, Spawn, Barrier, Print, Unknown, main_call}
 use Rattle.tss_protocol.specs.Mail.{StorageName, Home, Buffer, OpenContents, ReleaseContents, GoneContents}
 use Rattle.tss_protocol.specs.State.{State, Flying, Busy, Version, CopyState, initial_state}
@@ -32,10 +31,9 @@ use Rattle.tss_protocol.specs.MainEvent.{call_next}
 use Rattle.tss_protocol.specs.Needs.{round_after_main, round_after_event}
 use Rattle.tss_protocol.specs.UnitMachine.{IsEnabled, is_enabled, after_event, without, open_message_taken, use_message_taken, release_message_taken, retire_version, start_task, after_start, after_exec, after_copy, gone_message_taken, stores_of}
 use Rattle.tss_locality.proofs.LeftFields.{Leaves-after_event}
-use Rattle.tss_phases.specs.Phase.{phase_of, look_ups}
-use Rattle.tss_phases.specs.Alone.{HasRecord}
+use Rattle.tss_phases.specs.Phase.{look_ups}
 use Rattle.tss_phases.proofs.OrderlyLemmas.{opening_stands}
-use Rattle.tss_phases.proofs.Records.{operand_in, task_of_record}
+use Rattle.tss_phases.proofs.Records.{task_of_record}
 use Rattle.tss_laws.specs.Members.{operand_among}
 use Rattle.tss_laws.specs.Buffers.{HasBuffers}
 use Rattle.tss_laws.specs.Chains.{FollowsAs}
@@ -45,8 +43,8 @@ use Rattle.tss_laws.specs.Holders.{IsOwnOrRead}
 use Rattle.tss_laws.specs.Control.{HasGroundwork, IsControlled}
 use Rattle.tss_laws.proofs.BoundFlight.{unready}
 use Rattle.tss_laws.proofs.GroundworkSpawn.{operand_among-more}
-use Rattle.tss_laws.proofs.ReleaseFacts.{Releases, releases_facts}
-use Rattle.tss_laws.proofs.Values.{IsRoomy, HasBegun, IsSet, HasRoom}
+use Rattle.tss_laws.proofs.ReleaseFacts.{releases_facts}
+use Rattle.tss_laws.proofs.Values.{IsRoomy, IsSet, HasRoom}
 use Rattle.tss_laws.proofs.RoomySettle.{AreRoomy, roomy_drop}
 use Rattle.tss_laws.proofs.RoomyVersions.{roomy_used, roomy_released, roomy_nacked, roomy_opened}
 use Rattle.tss_laws.proofs.RoomyStores.{space_started, space_made, size_executed, bytes_beside_gone}
@@ -74,7 +72,8 @@ module _ (m : Machine) (all ts : List Task) (g : Arrivals) (S : State) (ground :
     }
 
     long_same : T.contents ≡ S.contents → (b : OpName) → IsRoomy m S b → IsRoomy m T b
-    long_same same b long = let e = ap (λ (c : Named (List ℕ)). length (buffer_bytes c b)) same in omega (arith, e, long)
+    long_same same b long =
+        let e = ap (λ (c : Named (List ℕ)). length (buffer_bytes c b)) same in omega (arith, e, long)
 
     versions_same : T.versions ≡ S.versions → AreRoomy (IsSet ts S) (IsRoomy m S) T.versions
     versions_same same = subst (AreRoomy (IsSet ts S) (IsRoomy m S)) (sym same) roomy_now
@@ -145,7 +144,8 @@ module _ (m : Machine) (all ts : List Task) (g : Arrivals) (S : State) (ground :
           let q = control.chains.opener v y e in
           inl (p.0, main_operand (call_next m S) v q.0 p.0 q.1 p.1, p.2)
       by_set v (inr begun) y e =
-          inr (subst (λ (f : Numbered Flying). BegunIn f v.task) (λ i. (Leaves-after_event m S event.Main i).flight) begun)
+          let same : (after_event m S event.Main).flight ≡ S.flight = λ i. (Leaves-after_event m S event.Main i).flight in
+          inr (subst (λ (f : Numbered Flying). BegunIn f v.task) same begun)
 
   -- ---- events that leave versions, contents and copies
 
@@ -214,7 +214,8 @@ module _ (m : Machine) (all ts : List Task) (g : Arrivals) (S : State) (ground :
   output_unset o c e among output (inr begun) =
       let untold = (opening_stands (look_ups S o) c (control.orderly o) e).1.0 in
       let x = task_of_record S.flight o untold.kept untold.there in
-      let waits = (ground.stages.waiting o.task x.0 x.1).1 (unready (x.0).operands o.place untold.kept x.2 untold.told) in
+      let waits = (ground.stages.waiting o.task x.0 x.1).1
+      (unready (x.0).operands o.place untold.kept x.2 untold.told) in
       by x.0 waits (begun x.0 x.1)
     where
       by : (x : Flying) → x.stage ≡ stage.Waiting → (x.stage ≡ stage.Running) ⊎ (x.stage ≡ stage.Finished) → ⊥
@@ -270,7 +271,8 @@ module _ (m : Machine) (all ts : List Task) (g : Arrivals) (S : State) (ground :
   release_sets o c e produces =
       let r = releases_facts ts g S ground.round control.orderly control.holders o c e in
       let own = subst (λ w. IsOwnOrRead g o w c.version) (sym r.producer ∙ produces) r.own in
-      subst (IsSet ts S) (sym own) (inr (begun_late m all ts g S ground control o r.operand r.among (ap is_late r.phase)))
+      subst (IsSet ts S) (sym own)
+      (inr (begun_late m all ts g S ground control o r.operand r.among (ap is_late r.phase)))
 
   released : (o : OpName) (x : Option ReleaseContents) → get S.mail.releases o ≡ x
       → AreRoomy (IsSet ts S) (IsRoomy m S) (release_message_taken (without S (event.Release o)) o x).versions
@@ -381,7 +383,8 @@ module _ (m : Machine) (all ts : List Task) (g : Arrivals) (S : State) (ground :
             left_roomy T b (bytes_beside_gone S.contents c.buffer b (gone_apart buffers v c e w y b there stored))
             (room.versions w y b there stored (sets_before T (begins_same S.flight) w set y there));
         copies = λ k x there.
-            left_roomy T x.buffer (bytes_beside_gone S.contents c.buffer x.buffer (gone_uncopied buffers v c e k x there))
+            left_roomy T x.buffer
+            (bytes_beside_gone S.contents c.buffer x.buffer (gone_uncopied buffers v c e k x there))
             (room.copies k x there);
       }
 
@@ -405,7 +408,8 @@ module _ (m : Machine) (all ts : List Task) (g : Arrivals) (S : State) (ground :
 
   -- ---- start
 
-  module _ (w t : ℕ) (queue : List ℕ) (x : Flying) (flies : get S.flight t ≡ Some x) (queued : x.stage ≡ stage.Queued) where
+  module _ (w t : ℕ) (queue : List ℕ) (x : Flying) (flies : get S.flight t ≡ Some x)
+      (queued : x.stage ≡ stage.Queued) where
     -- no buffer gets shorter
     long_started : (b : OpName) → IsRoomy m S b → IsRoomy m (start_task m S w t queue (Some x)) b
     long_started b long = space_started m.limits (stores_of S) (operands_of x.task) (storages_of x) b long

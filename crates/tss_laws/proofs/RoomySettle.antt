@@ -1,8 +1,9 @@
--- What a settle leaves of the buffers of versions: one that has room is handed on, for only a produced version gives way.
-use Rattle.std.proofs.Common.{◌≡◌, ◌⊎◌, inl, inr, ℕ, zero, suc, Bool, true, false, Option, Some, None, refl, sym, ap, ◌∙◌, subst}
+-- What a settle leaves of the buffers of versions: one that has room is handed on, for only a produced version gives
+-- way.
+use Rattle.std.proofs.Common.{◌≡◌, ◌⊎◌, inl, inr, ℕ, zero, suc, Bool, true, false, Option, Some, None, refl, sym, ◌∙◌, subst}
 use Rattle.std.specs.Prelude.{cond, ◌&&◌, ◌==◌, is_none}
 use Rattle.std.proofs.lemmas.Bool.{and_parts}
-use Rattle.std.specs.FinMap.{get, insert}
+use Rattle.std.specs.FinMap.{get}
 use Rattle.tss_base.specs.declared.operand.OpName.{OpName}
 use Rattle.tss_base.specs.declared.event.How.{How}
 use Rattle.tss_base.specs.declared.event.How.TheVariants.{Beside, Over}
@@ -10,7 +11,7 @@ use Rattle.tss_base.specs.declared.event.Follow.{Follow}
 use Rattle.tss_base.specs.Names.{Named}
 use Rattle.tss_maps.proofs.Keys.{name_order}
 use Rattle.tss_maps.proofs.Changes.{from_inserted, from_removed}
-use Rattle.tss_protocol.specs.Mail.{StorageName, Buffer}
+use Rattle.tss_protocol.specs.Mail.{Buffer}
 use Rattle.tss_protocol.specs.State.{Version}
 use Rattle.tss_protocol.specs.Versions.{Settling, put_version, drop_version, version_changed, change_version, change_named, may_die, may_ask, followed_by, unlinked, settle_asking, settle_how, settle_by, settle_at, settle, settled, unchanged}
 
@@ -24,6 +25,7 @@ module _ (Set : OpName → Type 0) (Roomy : OpName → Type 0) where
   abbrev pub AreRoomy : Named Version → Type 0
   AreRoomy vs = (v : OpName) (x : Version) → get vs v ≡ Some x → RoomyAt v x
 
+  -- a version that is put
   pub roomy_put : (vs : Named Version) (v : OpName) (x : Version) → RoomyAt v x → AreRoomy vs
       → AreRoomy (put_version vs v x)
   roomy_put vs v x own h w z e = elim (from_inserted name_order vs v x w z e) [
@@ -32,6 +34,7 @@ module _ (Set : OpName → Type 0) (Roomy : OpName → Type 0) where
     | inr before ↦ h w z before.1
   ]
 
+  -- and one that is dropped
   pub roomy_drop : (vs : Named Version) (v : OpName) → AreRoomy vs → AreRoomy (drop_version vs v)
   roomy_drop vs v h w z e = h w z (from_removed name_order vs v w z e).1
 
@@ -46,6 +49,7 @@ module _ (Set : OpName → Type 0) (Roomy : OpName → Type 0) where
     roomy_changed vs v None e h = h
     roomy_changed vs v (Some x) e h = roomy_put vs v (f x) (roomy_same v x (h v x e)) h
 
+    -- a version that is changed, if it is there
     pub roomy_change : (vs : Named Version) (v : OpName) → AreRoomy vs → AreRoomy (change_version vs v f)
     roomy_change vs v h = roomy_changed vs v (get vs v) refl h
 

@@ -1,8 +1,8 @@
 -- Which buffers are set: those of produced versions, and of operands that let go. A start sets those of its outputs.
-use Rattle.std.proofs.Common.{◌≡◌, ◌≢◌, ◌⊎◌, inl, inr, ℕ, Bool, true, false, List, Option, Some, None, refl, sym, ap, subst, ◌∙◌, map}
+use Rattle.std.proofs.Common.{◌≡◌, ◌⊎◌, inl, inr, Bool, true, false, List, Option, Some, None, refl, sym, ap, subst, ◌∙◌}
 use Rattle.std.specs.Prelude.{slice_get, option_map}
 use Rattle.std.specs.FinMap.{get}
-use Rattle.std.proofs.lemmas.Option.{none-some, same_Some, slice_get-map}
+use Rattle.std.proofs.lemmas.Option.{same_Some, slice_get-map}
 use Rattle.tss_base.specs.declared.operand.OpName.{OpName}
 use Rattle.tss_base.specs.declared.operand.Mode.{Mode}
 use Rattle.tss_base.specs.declared.operand.Mode.TheVariants.{Input, Output, Inout}
@@ -11,14 +11,14 @@ use Rattle.tss_base.specs.declared.operand.Task.{Task}
 use Rattle.tss_base.specs.declared.machine.Machine.{Machine}
 use Rattle.tss_base.specs.declared.event.Stage.TheVariants as stage
 use Rattle.tss_model.specs.Access.{operands_of, reads, writes}
-use Rattle.tss_protocol.specs.Mail.{Source, StorageName, Buffer, OpenContents}
+use Rattle.tss_protocol.specs.Mail.{Source, Buffer}
 use Rattle.tss_protocol.specs.State.{State, OperandState, Flying, Version}
-use Rattle.tss_protocol.specs.Stations.{operand_at, storage_of, storages_of}
+use Rattle.tss_protocol.specs.Stations.{storage_of, storages_of}
 use Rattle.tss_phases.specs.Phase.{Phase, Ahead, Decoding, Sent, Waiting, Told, Ready, Releasing, Leaving, Promised, Left, phase_of, look_ups}
 use Rattle.tss_phases.specs.Openers.{holds_version, has_parted, version_opener, opener_by, open_opener}
 use Rattle.tss_phases.specs.Alone.{HasRecord}
 use Rattle.tss_phases.specs.Orderly.{FitsPhase}
-use Rattle.tss_phases.proofs.Records.{operand_in, task_of_record}
+use Rattle.tss_phases.proofs.Records.{operand_in}
 use Rattle.tss_laws.specs.Members.{operand_among}
 use Rattle.tss_laws.specs.Readers.{Arrivals}
 use Rattle.tss_laws.specs.Runners.{is_late}
@@ -121,7 +121,8 @@ module _ (m : Machine) (all ts : List Task) (g : Arrivals) (S : State) (ground :
         same_Some s.storage (Buffer b)
         (sym t.storage ∙ ap (λ (z : Version). z.storage) same ∙ stored)
 
-    told_storage : (s : Source) → HasRecord (look_ups S v) (Some s) → (phase_of S v ≡ Ready) ⊎ (phase_of S v ≡ Releasing)
+    told_storage : (s : Source) → HasRecord (look_ups S v) (Some s)
+        → (phase_of S v ≡ Ready) ⊎ (phase_of S v ≡ Releasing)
         → slice_get (storages_of x) v.place ≡ Some (Buffer b)
     told_storage s h phase =
         let t = control.holders.ready v p h.kept s among h.there h.told phase in

@@ -1,5 +1,6 @@
--- What start, exec and gone leave of buffers: a start sets those of outputs, a stretch shortens none, and a gone frees one.
-use Rattle.std.proofs.Common.{◌≡◌, ◌≢◌, ℕ, zero, suc, ◌≤◌, inl, inr, Bool, true, false, List, [], ◌∷◌, length, Option, Some, None, refl, sym, ap, ◌∙◌, subst, arith}
+-- What start, exec and gone leave of buffers: a start sets those of outputs, a stretch shortens none, and a gone frees
+-- one.
+use Rattle.std.proofs.Common.{◌≡◌, ℕ, zero, suc, ◌≤◌, inl, inr, Bool, true, false, List, [], ◌∷◌, length, Option, Some, None, refl, sym, ap, ◌∙◌, subst, arith}
 use Rattle.std.specs.Prelude.{cond, ◌-◌, slice_get, nat_le, unwrap_or}
 use Rattle.std.specs.FinMap.{insert}
 use Rattle.std.proofs.lemmas.Option.{none-some, same_Some}

@@ -1,5 +1,5 @@
 -- What open, use, release and nack leave of the buffers of versions.
-use Rattle.std.proofs.Common.{◌≡◌, ◌⊎◌, inl, inr, ℕ, Bool, true, false, Option, Some, None, refl, sym, ap, ◌∙◌, subst}
+use Rattle.std.proofs.Common.{◌≡◌, inl, inr, Bool, true, false, Option, Some, None, refl, sym, ◌∙◌}
 use Rattle.std.specs.FinMap.{get}
 use Rattle.tss_base.specs.declared.operand.OpName.{OpName}
 use Rattle.tss_base.specs.declared.operand.Mode.{Mode}
@@ -83,7 +83,8 @@ module _ (Set : OpName → Type 0) (Roomy : OpName → Type 0) (vs : Named Versi
         apart : Some Home ≡ Some (Buffer b) → ⊥
         apart e = cc
 
-    first_storage : (object : Range) (s : Option StorageName) (mode : Mode) → (first_version o object s mode).storage ≡ s
+    first_storage : (object : Range) (s : Option StorageName) (mode : Mode)
+        → (first_version o object s mode).storage ≡ s
     first_storage object s Input = refl
     first_storage object s Output = refl
     first_storage object s Inout = refl

@@ -1,6 +1,6 @@
 -- Main stays in program order, and each task of program order is the one of its number that main has spawned.
-use Rattle.std.proofs.Common.{◌≡◌, ◌⊎◌, inl, inr, ℕ, suc, ◌+◌, ◌<◌, ◌≤◌, Bool, true, false, List, [], ◌∷◌, ◌++◌, length, Option, Some, None, refl, sym, ap, subst, ◌∙◌, arith}
-use Rattle.std.specs.Prelude.{cond, ◌==◌, ◌&&◌, nat_le, nat_lt, slice_get}
+use Rattle.std.proofs.Common.{◌≡◌, ◌⊎◌, inl, inr, ℕ, suc, ◌+◌, ◌<◌, ◌≤◌, Bool, true, false, List, [], ◌∷◌, length, Option, Some, None, refl, sym, ap, subst, ◌∙◌, arith}
+use Rattle.std.specs.Prelude.{cond, ◌==◌, nat_le}
 use Rattle.std.proofs.lemmas.Bool.{and_from, or_left, or_right, both_ways, cases_order, le-leb, lt-ltb, eqb-true}
 use Rattle.std.proofs.lemmas.Option.{none-some, same_Some}
 use Rattle.tss_base.specs.declared.range.Range.{Range}
@@ -18,13 +18,13 @@ use Rattle.tss_model.specs.Spawn.{same_range}
 use Rattle.tss_protocol.specs.State.{State, initial_state}
 use Rattle.tss_protocol.specs.UnitMachine.{IsEnabled, after_event}
 use Rattle.tss_protocol.specs.MainEvent.{call_next}
-use Rattle.tss_locality.specs.Rounds.{IsIn, IsRounded}
+use Rattle.tss_locality.specs.Rounds.{IsIn}
 use Rattle.tss_locality.proofs.RoundObjects.{arrival_operand}
 use Rattle.tss_laws.specs.Members.{operand_among}
 use Rattle.tss_laws.specs.Tasks.{task_at, spawned_by_main, spawned_after_event}
-use Rattle.tss_laws.specs.MainInOrder.{MayLoad, FollowsInOrder, FollowsAfter, IsCutOff, flat_beside, started_next, inbox_with}
+use Rattle.tss_laws.specs.MainInOrder.{MayLoad, FollowsInOrder, IsCutOff, flat_beside, started_next, inbox_with}
 use Rattle.tss_laws.specs.Readers.{Arrivals}
-use Rattle.tss_laws.specs.Control.{HasGroundwork, IsControlled}
+use Rattle.tss_laws.specs.Control.{HasGroundwork}
 use Rattle.tss_laws.proofs.FlatLoads.{byte_range, main_granted}
 use Rattle.tss_laws.proofs.FlatNames.{Has, same_range-refl, covers-touch}
 use Rattle.tss_laws.proofs.FlatNumbers.{one_place, numbers_rise}
@@ -34,7 +34,7 @@ use Rattle.tss_laws.proofs.GroundworkRounds.{found_among}
 use Rattle.tss_laws.proofs.MainEvent.{main_on-enabled, follows_main, main_rises, cut_off_rises}
 use Rattle.tss_laws.proofs.MainFollows.{follows-initial_state}
 use Rattle.tss_laws.proofs.RunKeeps.{HasGround, is_main, cases_main, after_event-kept}
-use Rattle.tss_laws.proofs.SpawnLemmas.{SpawnsAtMostOne, SpawnsNothing, SpawnsOne, spawns_main}
+use Rattle.tss_laws.proofs.SpawnLemmas.{SpawnsAtMostOne, SpawnsOne, spawns_main}
 use Rattle.tss_laws.proofs.Values.{Starts, HasHome, HasMain}
 
 -- a member of a list is had by it
