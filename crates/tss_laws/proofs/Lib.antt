@@ -268,3 +268,4 @@ pub mod LoadedBytes
 pub mod KeptBytes
 pub mod HomeBytes
 pub mod StoredCopy
+pub mod WorkersKept

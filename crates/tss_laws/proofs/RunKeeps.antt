@@ -139,7 +139,8 @@ output_zeroed-ranges limits s o (Buffer n) = by (reads o.mode)
     by true = refl
     by false = refl
 
-outputs_zeroed-ranges : (limits : Limits) (s : Stores) (os : List Operand) (ss : List StorageName)
+-- zeros at outputs change no range
+pub outputs_zeroed-ranges : (limits : Limits) (s : Stores) (os : List Operand) (ss : List StorageName)
     → HasRanges s.home.ranges (outputs_zeroed limits s os ss)
 outputs_zeroed-ranges limits s [] ss = refl
 outputs_zeroed-ranges limits s (o ∷ os) [] = refl
@@ -198,7 +199,8 @@ after_start-kept : (m : Machine) (S : State) (w : ℕ) (q : List ℕ) → SameMa
 after_start-kept m S w [] = still S S refl refl refl
 after_start-kept m S w (t ∷ ts) = start_task-kept m S w t ts (get S.flight t)
 
-after_exec-kept : (m : Machine) (S : State) (w : ℕ) (b : Option Busy) → SameMain S (after_exec m S w b)
+-- a stretch changes none
+pub after_exec-kept : (m : Machine) (S : State) (w : ℕ) (b : Option Busy) → SameMain S (after_exec m S w b)
 after_exec-kept m S w None = still S S refl refl refl
 after_exec-kept m S w (Some b) =
     rewritten S _ refl (stretched (placed_in (operands_of b.task) b.storages)) refl
