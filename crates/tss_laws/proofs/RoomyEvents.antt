@@ -144,7 +144,8 @@ module _ (m : Machine) (all ts : List Task) (g : Arrivals) (S : State) (ground :
           let q = control.chains.opener v y e in
           inl (p.0, main_operand (call_next m S) v q.0 p.0 q.1 p.1, p.2)
       by_set v (inr begun) y e =
-          let same : (after_event m S event.Main).flight ≡ S.flight = λ i. (Leaves-after_event m S event.Main i).flight in
+          let same : (after_event m S event.Main).flight ≡ S.flight =
+          λ i. (Leaves-after_event m S event.Main i).flight in
           inr (subst (λ (f : Numbered Flying). BegunIn f v.task) same begun)
 
   -- ---- events that leave versions, contents and copies
