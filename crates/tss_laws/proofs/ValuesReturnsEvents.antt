@@ -1,13 +1,16 @@
 -- Every event but a worker's start and its stretches leaves what is brought home.
-use Rattle.std.proofs.Common.{◌≡◌, ℕ, ◌≤◌, List, length, Some, ap, arith}
-use Rattle.std.specs.FinMap.{get}
+use Rattle.std.proofs.Common.{◌≡◌, ℕ, ◌≤◌, List, length, Some, sym, ap, ◌∙◌, arith}
+use Rattle.std.specs.FinMap.{get, get-empty}
+use Rattle.std.specs.Ordering.{nat_cmp}
+use Rattle.std.proofs.lemmas.Option.{none-some}
 use Rattle.tss_base.specs.declared.range.Range.{Range}
 use Rattle.tss_base.specs.declared.operand.Task.{Task}
 use Rattle.tss_base.specs.declared.machine.Machine.{Machine}
 use Rattle.tss_base.specs.declared.event.Event.{Event}
 use Rattle.tss_base.specs.declared.event.Event.TheVariants as event
+use Rattle.tss_base.specs.Names.{name_cmp}
 use Rattle.tss_base.specs.Image.{ImageState}
-use Rattle.tss_protocol.specs.State.{State, CopyState}
+use Rattle.tss_protocol.specs.State.{State, CopyState, initial_state}
 use Rattle.tss_protocol.specs.Buffers.{buffer_bytes}
 use Rattle.tss_protocol.specs.Needs.{round_after_event}
 use Rattle.tss_protocol.specs.UnitMachine.{IsEnabled, after_event}
@@ -77,3 +80,12 @@ module _ (m : Machine) (i : ImageState) (all ts : List Task) (g : Arrivals) (S :
     HasReturns-beside (event.Retire v) q on = HasReturns-retire m i all ts g S ground k stored h v on
     HasReturns-beside (event.Copy b) q on = HasReturns-copy m i all ts g S ground k (copied_room fit room) h b on
     HasReturns-beside (event.Gone v) q on = HasReturns-gone m i all ts S ground buffers h v on
+
+-- in the first state nothing comes home
+pub HasReturns-initial_state : (m : Machine) (i : ImageState) (ts : List Task) → HasReturns m i ts (initial_state i)
+HasReturns-initial_state m i ts = record {
+  copied = λ bank c p s at known good. absurd (none-some c (sym (get-empty nat_cmp bank) ∙ at));
+  within = λ bank c at. absurd (none-some c (sym (get-empty nat_cmp bank) ∙ at));
+  moved = λ bank c k at small. absurd (none-some c (sym (get-empty nat_cmp bank) ∙ at));
+  gone = λ v g p s at last known good. absurd (none-some g (sym (get-empty name_cmp v) ∙ at));
+}
