@@ -269,3 +269,4 @@ pub mod KeptBytes
 pub mod HomeBytes
 pub mod StoredCopy
 pub mod WorkersKept
+pub mod FindsLeft
