@@ -270,3 +270,5 @@ pub mod HomeBytes
 pub mod StoredCopy
 pub mod WorkersKept
 pub mod FindsLeft
+pub mod UnfinishedTasks
+pub mod TrapsHeld
