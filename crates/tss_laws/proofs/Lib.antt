@@ -272,3 +272,5 @@ pub mod WorkersKept
 pub mod FindsLeft
 pub mod UnfinishedTasks
 pub mod TrapsHeld
+pub mod ValuesHomeBeside
+pub mod ValuesHomeCopy
