@@ -77,6 +77,7 @@ module _ (m : Machine) (i : ImageState) (all ts : List Task) (g : Arrivals) (S :
         (later-release m S k.orderly o on order) c.version f.version z f.there
         (record { object = like.object; produced = like.produced; storage = like.storage }))
         (stored_at m i ts S h c.version f.version f.there))
+        (λ none. refl)
 
     -- a producer's
     module _ (own : c.version ≡ o) (writer : writes f.operand.mode ≡ true) where
@@ -121,7 +122,7 @@ module _ (m : Machine) (i : ImageState) (all ts : List Task) (g : Arrivals) (S :
           HasStored-settled m i ts g S T k h finds left (forward-after_event m S k.orderly (event.Release o) on order)
           (later-release m S k.orderly o on order) c.version f.version (produced_now f.version) f.there
           (produced_like f.version (λ none. none-some f.storage (sym none ∙ f.stored))) refl versions
-          (λ made. leaves) own_stored
+          (λ made. leaves) own_stored (λ none. absurd (none-some f.storage (sym none ∙ f.stored)))
 
     by : (b : Bool) → c.producer ≡ b → HasStored m i ts T
     by true is =
@@ -165,6 +166,7 @@ module _ (m : Machine) (i : ImageState) (all ts : List Task) (g : Arrivals) (S :
         (keeps_alike m i ts g S U k nack_left forward late v x z there
         (record { object = like.object; produced = like.produced; storage = like.storage }))
         (stored_at m i ts S h v x there))
+        (λ none. refl)
 
   -- nack
   pub HasStored-nack : (v : OpName) → IsEnabled m S (event.Nack v) → KeepsOrder S (event.Nack v)
