@@ -274,3 +274,4 @@ pub mod UnfinishedTasks
 pub mod TrapsHeld
 pub mod ValuesHomeBeside
 pub mod ValuesHomeCopy
+pub mod WorkersBeside
