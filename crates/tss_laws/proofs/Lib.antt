@@ -275,3 +275,4 @@ pub mod TrapsHeld
 pub mod ValuesHomeBeside
 pub mod ValuesHomeCopy
 pub mod WorkersBeside
+pub mod StoredOpen

@@ -1,8 +1,6 @@
 -- The bytes in the storages of versions after an event that leaves them, by what it leaves of each version.
-use Rattle.std.proofs.Common.{◌≡◌, ◌≢◌, ◌⊎◌, ℕ, Bool, true, false, List, Option, Some, None, refl, sym, ap, ◌∙◌, subst, inl, inr, true≢false}
+use Rattle.std.proofs.Common.{◌≡◌, ◌⊎◌, Bool, true, false, List, Some, refl, sym, ap, ◌∙◌, inl, inr, true≢false}
 use Rattle.std.specs.FinMap.{get}
-use Rattle.std.proofs.lemmas.Option.{none-some, same_Some}
-use Rattle.tss_base.specs.declared.range.Range.{Range}
 use Rattle.tss_base.specs.declared.operand.OpName.{OpName}
 use Rattle.tss_base.specs.declared.operand.Mode.{Mode}
 use Rattle.tss_base.specs.declared.operand.Mode.TheVariants.{Input, Output, Inout}
@@ -13,17 +11,14 @@ use Rattle.tss_base.specs.Image.{ImageState}
 use Rattle.tss_model.specs.Access.{writes}
 use Rattle.tss_model.specs.InOrder.{Started}
 use Rattle.tss_protocol.specs.Mail.{StorageName}
-use Rattle.tss_protocol.specs.Workers.{stored_bytes}
 use Rattle.tss_protocol.specs.State.{State, Version}
 use Rattle.tss_phases.specs.Phase.{Phase, Ahead, Decoding, Sent, Waiting, Told, Ready, Releasing, Leaving, Promised, Left, phase_of}
-use Rattle.tss_phases.specs.Openers.{holds_version, has_parted, produced_opener, open_opener, opener_by, version_opener}
+use Rattle.tss_phases.specs.Openers.{holds_version, has_parted, open_opener, opener_by, version_opener}
 use Rattle.tss_phases.specs.Forward.{may_follow}
 use Rattle.tss_phases.proofs.ForwardPhases.{GoesOnFrom}
 use Rattle.tss_laws.specs.Members.{operand_among}
 use Rattle.tss_laws.specs.Stages.{IsOnWorker}
 use Rattle.tss_laws.specs.Runners.{is_late}
-use Rattle.tss_laws.specs.Readers.{Arrivals}
-use Rattle.tss_laws.specs.Holders.{HasHolders}
 use Rattle.tss_laws.proofs.HoldersLate.{NoLater}
 use Rattle.tss_laws.proofs.Values.{content, bytes_before, bytes_after, RunsOut, IsGood, IsKnown, HasStored}
 

@@ -1,39 +1,34 @@
 -- The bytes in the storages of versions after an event that writes no byte, and leaves each version's storage.
-use Rattle.std.proofs.Common.{◌≡◌, ◌⊎◌, ℕ, Bool, true, false, List, Option, Some, None, refl, sym, ap, ◌∙◌, subst, inl, inr}
+use Rattle.std.proofs.Common.{◌≡◌, ℕ, List, Option, Some, None, refl, sym, ap, ◌∙◌, subst, inl, inr}
 use Rattle.std.specs.FinMap.{get}
-use Rattle.std.proofs.lemmas.Option.{none-some, same_Some}
 use Rattle.tss_base.specs.declared.range.Range.{Range}
 use Rattle.tss_base.specs.declared.operand.OpName.{OpName}
-use Rattle.tss_base.specs.declared.operand.Operand.{Operand}
 use Rattle.tss_base.specs.declared.operand.Task.{Task}
 use Rattle.tss_base.specs.declared.machine.Machine.{Machine}
-use Rattle.tss_base.specs.declared.event.Event.{Event}
 use Rattle.tss_base.specs.declared.event.Event.TheVariants as event
 use Rattle.tss_base.specs.Image.{ImageState}
-use Rattle.tss_model.specs.Access.{writes}
 use Rattle.tss_protocol.specs.Mail.{StorageName}
 use Rattle.tss_protocol.specs.Workers.{stored_bytes}
-use Rattle.tss_protocol.specs.State.{State, Busy, Version}
+use Rattle.tss_protocol.specs.State.{State, Version}
 use Rattle.tss_protocol.specs.Versions.{used_at}
 use Rattle.tss_protocol.specs.UnitMachine.{IsEnabled, after_event, without, use_message_taken, retire_version}
 use Rattle.tss_phases.specs.Phase.{phase_of}
-use Rattle.tss_phases.specs.Orderly.{AreOrderly, KeepsOrder}
+use Rattle.tss_phases.specs.Orderly.{KeepsOrder}
 use Rattle.tss_phases.proofs.ForwardEvents.{forward-after_event}
 use Rattle.tss_phases.proofs.ForwardPhases.{GoesOnFrom}
 use Rattle.tss_locality.proofs.LeftFields.{Leaves-after_event}
 use Rattle.tss_maps.proofs.Keys.{name_order}
 use Rattle.tss_maps.proofs.Changes.{from_inserted, from_removed}
 use Rattle.tss_phases.proofs.QuietEvents.{phase_of-ack, phase_of-idle, phase_of-retire}
-use Rattle.tss_laws.specs.Members.{operand_among}
 use Rattle.tss_laws.specs.Stages.{IsOnWorker}
 use Rattle.tss_laws.specs.Readers.{Arrivals}
-use Rattle.tss_laws.specs.Control.{HasGroundwork, IsControlled}
+use Rattle.tss_laws.specs.Control.{IsControlled}
 use Rattle.tss_laws.proofs.HoldersLate.{NoLater, late_same}
 use Rattle.tss_laws.proofs.HoldersLater.{later-decode, later-use, later-ready, later-link, later-bye}
 use Rattle.tss_laws.proofs.HoldersSettled.{HeldAlike}
 use Rattle.tss_laws.proofs.ChainsUse.{used_more}
 use Rattle.tss_laws.proofs.Values.{content, HasStored}
-use Rattle.tss_laws.proofs.StoredFrames.{IsStored, stored_each, stored_at, KeepsStored, stored_kept, opener_holds, told_before, lets_before}
+use Rattle.tss_laws.proofs.StoredFrames.{stored_each, stored_at, KeepsStored, stored_kept, opener_holds, told_before, lets_before}
 
 -- no byte is written, and each worker is left
 pub record LeavesBytes (S T : State) : Type 0 where

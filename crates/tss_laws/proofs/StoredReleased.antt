@@ -1,14 +1,12 @@
 -- The bytes in the storages of versions after a release and after a nack.
-use Rattle.std.proofs.Common.{◌≡◌, ◌⊎◌, ℕ, Bool, true, false, List, Option, Some, None, refl, sym, ap, ◌∙◌, subst, inl, inr, true≢false}
+use Rattle.std.proofs.Common.{◌≡◌, ◌⊎◌, Bool, true, false, List, Some, refl, sym, ap, ◌∙◌, subst, inl, inr}
 use Rattle.std.specs.Prelude.{is_some}
 use Rattle.std.specs.FinMap.{get}
 use Rattle.std.proofs.lemmas.Option.{none-some, same_Some}
 use Rattle.tss_base.specs.declared.operand.OpName.{OpName}
-use Rattle.tss_base.specs.declared.operand.Mode.TheVariants.{Input, Output, Inout}
 use Rattle.tss_base.specs.declared.operand.Operand.{Operand}
 use Rattle.tss_base.specs.declared.operand.Task.{Task}
 use Rattle.tss_base.specs.declared.machine.Machine.{Machine}
-use Rattle.tss_base.specs.declared.event.Event.{Event}
 use Rattle.tss_base.specs.declared.event.Event.TheVariants as event
 use Rattle.tss_base.specs.Image.{ImageState}
 use Rattle.tss_model.specs.Access.{writes}
@@ -31,7 +29,7 @@ use Rattle.tss_laws.proofs.ChainsReleased.{produced_like, released_like, refused
 use Rattle.tss_laws.proofs.ReleaseFacts.{Releases, releases_facts}
 use Rattle.tss_laws.proofs.HoldersLater.{later-release, later-nack}
 use Rattle.tss_laws.proofs.HoldersSettled.{HeldAlike}
-use Rattle.tss_laws.proofs.Values.{content, bytes_after, RunsOut, IsGood, IsKnown, HasStored}
+use Rattle.tss_laws.proofs.Values.{content, bytes_after, IsGood, IsKnown, HasStored}
 use Rattle.tss_laws.proofs.StoredFrames.{IsStored, stored_at, stored_kept, opener_holds, told_before}
 use Rattle.tss_laws.proofs.StoredQuiet.{LeavesBytes, content_left, keeps_alike}
 use Rattle.tss_laws.proofs.StoredSettled.{FindsLeft, HasStored-settled}

@@ -1,26 +1,22 @@
 -- The bytes in the storages of versions where one version is written over and then settled: one that takes a storage over
 -- finds there what the version before it left.
-use Rattle.std.proofs.Common.{◌≡◌, ◌≢◌, ◌⊎◌, ℕ, ◌<◌, Bool, true, false, List, Option, Some, None, refl, sym, ap, ◌∙◌, subst, inl, inr, true≢false}
+use Rattle.std.proofs.Common.{◌≡◌, ◌≢◌, ◌⊎◌, ◌<◌, true, false, List, Some, None, refl, sym, ap, ◌∙◌, subst, inl, inr, true≢false}
 use Rattle.std.specs.FinMap.{get}
 use Rattle.std.proofs.lemmas.Option.{none-some, same_Some}
 use Rattle.tss_base.specs.declared.operand.OpName.{OpName}
 use Rattle.tss_base.specs.declared.operand.Mode.{Mode}
-use Rattle.tss_base.specs.declared.operand.Mode.TheVariants.{Input, Output, Inout}
 use Rattle.tss_base.specs.declared.operand.Operand.{Operand}
 use Rattle.tss_base.specs.declared.operand.Task.{Task}
 use Rattle.tss_base.specs.declared.machine.Machine.{Machine}
-use Rattle.tss_base.specs.declared.event.How.TheVariants.{Beside, Over}
-use Rattle.tss_base.specs.declared.event.Follow.{Follow}
 use Rattle.tss_base.specs.Image.{ImageState}
 use Rattle.tss_maps.proofs.Keys.{name_order, decide_key}
 use Rattle.tss_maps.proofs.Changes.{at_inserted, from_inserted}
-use Rattle.tss_model.specs.Access.{writes}
 use Rattle.tss_model.specs.InOrder.{Started}
-use Rattle.tss_protocol.specs.Mail.{StorageName, Message}
+use Rattle.tss_protocol.specs.Mail.{StorageName}
 use Rattle.tss_protocol.specs.State.{State, Version}
 use Rattle.tss_protocol.specs.Versions.{put_version, settled}
-use Rattle.tss_phases.specs.Phase.{Phase, Waiting, Told, Ready, Releasing, phase_of}
-use Rattle.tss_phases.specs.Openers.{is_waiting, open_opener, opener_by, version_opener}
+use Rattle.tss_phases.specs.Phase.{Releasing, phase_of}
+use Rattle.tss_phases.specs.Openers.{open_opener, opener_by, version_opener}
 use Rattle.tss_phases.proofs.ForwardPhases.{GoesOnFrom}
 use Rattle.tss_laws.specs.Members.{operand_among, NoWriterBetween}
 use Rattle.tss_laws.specs.Chains.{HasChains, IsFollowed}

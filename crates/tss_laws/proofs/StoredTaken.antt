@@ -1,17 +1,14 @@
 -- The bytes in the storages of versions after a take and after a gone.
-use Rattle.std.proofs.Common.{◌≡◌, ◌≢◌, ℕ, ◌-◌, ◌≤◌, Bool, true, false, List, [], Option, Some, None, refl, sym, ap, ◌∙◌, subst, inl, inr, arith}
-use Rattle.std.specs.Prelude.{is_some, unwrap_or, take}
-use Rattle.std.specs.FinMap.{get, remove}
-use Rattle.std.proofs.lemmas.Option.{none-some, same_Some}
-use Rattle.tss_base.specs.declared.range.Range.{Range}
+use Rattle.std.proofs.Common.{◌≡◌, ◌≢◌, ℕ, ◌-◌, ◌≤◌, List, [], Option, Some, None, refl, sym, ap, ◌∙◌, subst, inl, inr, arith}
+use Rattle.std.specs.Prelude.{unwrap_or, take}
+use Rattle.std.specs.FinMap.{get}
+use Rattle.std.proofs.lemmas.Option.{none-some}
 use Rattle.tss_base.specs.declared.operand.OpName.{OpName}
-use Rattle.tss_base.specs.declared.operand.Operand.{Operand}
 use Rattle.tss_base.specs.declared.operand.Task.{Task}
 use Rattle.tss_base.specs.declared.machine.Machine.{Machine}
-use Rattle.tss_base.specs.declared.event.Event.{Event}
 use Rattle.tss_base.specs.declared.event.Event.TheVariants as event
 use Rattle.tss_base.specs.Image.{ImageState}
-use Rattle.tss_maps.proofs.Keys.{nat_order, name_order, decide_key}
+use Rattle.tss_maps.proofs.Keys.{name_order}
 use Rattle.tss_maps.proofs.Changes.{beside_removed}
 use Rattle.tss_protocol.specs.Mail.{StorageName, Home, Buffer, GoneContents}
 use Rattle.tss_protocol.specs.State.{State, Version}
@@ -22,15 +19,13 @@ use Rattle.tss_phases.proofs.QuietEvents.{phase_of-gone}
 use Rattle.tss_phases.proofs.TakeEvent.{phase_of-take-other}
 use Rattle.tss_phases.proofs.Tests.{something}
 use Rattle.tss_locality.proofs.LeftFields.{Leaves-after_event}
-use Rattle.tss_laws.specs.Stages.{IsOnWorker}
-use Rattle.tss_laws.specs.Tasks.{IsTaken, taken_by}
+use Rattle.tss_laws.specs.Tasks.{taken_by}
 use Rattle.tss_laws.specs.Readers.{Arrivals}
 use Rattle.tss_laws.specs.Buffers.{HasBuffers}
-use Rattle.tss_laws.specs.Control.{HasGroundwork, IsControlled}
-use Rattle.tss_laws.proofs.HoldersSettled.{HeldAlike}
+use Rattle.tss_laws.specs.Control.{HasGroundwork}
 use Rattle.tss_laws.proofs.Values.{content, HasStored}
 use Rattle.tss_laws.proofs.StoredFrames.{stored_each, stored_at, KeepsStored, stored_kept}
-use Rattle.tss_laws.proofs.StoredQuiet.{LeavesBytes, content_left, worker_left}
+use Rattle.tss_laws.proofs.StoredQuiet.{LeavesBytes, content_left}
 
 -- a version that is left, with its bytes and the phase of its opener
 pub keeps_phase : (ts : List Task) (S T : State) (v : OpName) (y : Version) → phase_of T v ≡ phase_of S v
