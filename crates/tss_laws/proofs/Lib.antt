@@ -276,3 +276,4 @@ pub mod ValuesHomeBeside
 pub mod ValuesHomeCopy
 pub mod WorkersBeside
 pub mod StoredOpen
+pub mod ValuesJoin
