@@ -27,7 +27,8 @@ use Rattle.tss_laws.proofs.StoredTaken.{keeps_phase}
 
 module _ (m : Machine) (i : ImageState) (all ts : List Task) (g : Arrivals) (S : State)
     (ground : HasGroundwork m all ts S) (k : IsControlled ts g S) (h : HasStored m i ts S) (r : HasReturns m i ts S)
-    (b : ℕ) (room : (c : CopyState) → get S.copies b ≡ Some c → c.object.len ≤ length (buffer_bytes S.contents c.buffer))
+    (b : ℕ)
+    (room : (c : CopyState) → get S.copies b ≡ Some c → c.object.len ≤ length (buffer_bytes S.contents c.buffer))
   where
     abbrev T : State
     T = after_event m S (event.Copy b)

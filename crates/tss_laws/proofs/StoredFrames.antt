@@ -25,7 +25,8 @@ use Rattle.tss_laws.proofs.Values.{content, bytes_before, bytes_after, RunsOut, 
 -- ---- one version
 
 -- what its storage has, by what is known of its opener
-pub record IsStored (m : Machine) (i : ImageState) (ts : List Task) (S : State) (v : OpName) (y : Version) : Type 0 where
+pub record IsStored (m : Machine) (i : ImageState) (ts : List Task) (S : State) (v : OpName) (y : Version)
+    : Type 0 where
   pub produced : (st : StorageName) (p : Operand) (s : Started) → y.produced ≡ true → y.storage ≡ Some st
       → IsKnown m i ts v p s → IsGood m i s p → content S y.object st ≡ bytes_after m i s p
   pub awaited : (st : StorageName) (p : Operand) (s : Started) → y.storage ≡ Some st → IsKnown m i ts v p s

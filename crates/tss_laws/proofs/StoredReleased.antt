@@ -39,7 +39,8 @@ told_not_releasing (inl e) = cc
 told_not_releasing (inr e) = cc
 
 module _ (m : Machine) (i : ImageState) (all ts : List Task) (g : Arrivals) (S : State)
-    (ground : HasGroundwork m all ts S) (k : IsControlled ts g S) (h : HasStored m i ts S) (finds : FindsLeft m i ts) where
+    (ground : HasGroundwork m all ts S) (k : IsControlled ts g S) (h : HasStored m i ts S)
+    (finds : FindsLeft m i ts) where
   -- ---- release
 
   module _ (o : OpName) (on : IsEnabled m S (event.Release o)) (order : KeepsOrder S (event.Release o))
@@ -59,7 +60,8 @@ module _ (m : Machine) (i : ImageState) (all ts : List Task) (g : Arrivals) (S :
     unfolding after_event
     state =
         ap (release_message_taken (without S (event.Release o)) o) there
-        ∙ ap (λ x. with_versioned (without S (event.Release o)) (released_at S.versions o c.version c.producer x)) f.there
+        ∙ ap (λ x. with_versioned (without S (event.Release o)) (released_at S.versions o c.version c.producer x))
+        f.there
 
     -- a reader's release
     by_reader : T.versions ≡ (settled (put_version S.versions c.version (released_once f.version o)) c.version).part

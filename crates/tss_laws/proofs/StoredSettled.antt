@@ -1,5 +1,5 @@
--- The bytes in the storages of versions where one version is written over and then settled: one that takes a storage over
--- finds there what the version before it left.
+-- The bytes in the storages of versions where one version is written over and then settled: one that takes a storage
+-- over finds there what the version before it left.
 use Rattle.std.proofs.Common.{◌≡◌, ◌≢◌, ◌⊎◌, ◌<◌, true, false, List, Some, None, refl, sym, ap, ◌∙◌, subst, inl, inr, true≢false}
 use Rattle.std.specs.FinMap.{get}
 use Rattle.std.proofs.lemmas.Option.{none-some, same_Some}
@@ -34,8 +34,8 @@ use Rattle.tss_laws.proofs.StoredQuiet.{LeavesBytes, content_left, keeps_alike}
 
 -- ---- what program order says
 
--- an operand of a round that program order starts finds its object as the last writer before it left it, and so does one
--- that is read since: that was started, and is good
+-- an operand of a round that program order starts finds its object as an operand before it left it, where no task
+-- between them writes the object: that one was started, and is good
 abbrev pub FindsLeft : Machine → ImageState → List Task → Type 0
 FindsLeft m i ts =
     (v w : OpName) (q p : Operand) (s : Started) → operand_among ts v ≡ Some q → IsKnown m i ts w p s
@@ -44,8 +44,8 @@ FindsLeft m i ts =
 
 -- ---- a settle
 
--- what holds of T, where it is U after a settle of v: each version of U that is left has the bytes of program order, and
--- what v had left is there. One without a storage hasn't let go
+-- what holds of T, where it is U after a settle of v: each version of U that is left has the bytes of program order,
+-- and what v had left is there. One without a storage hasn't let go
 pub record SettlesStored (m : Machine) (i : ImageState) (ts : List Task) (U T : State) (v : OpName) : Type 0 where
   pub chains : HasChains ts U
   pub others : OthersSettled U.versions v
@@ -68,8 +68,8 @@ module _ (m : Machine) (i : ImageState) (ts : List Task) (U T : State) (v : OpNa
 
   -- ---- one that takes the storage over
 
-  module _ (w : OpName) (t : HasTaken U.versions (settled U.versions v).part v w (settled U.versions v).sent) (z : Version)
-      (e : get T.versions w ≡ Some z) where
+  module _ (w : OpName) (t : HasTaken U.versions (settled U.versions v).part v w (settled U.versions v).sent)
+      (z : Version) (e : get T.versions w ≡ Some z) where
     is_after : t.after ≡ z
     is_after = same_Some t.after z (sym t.stands ∙ now w z e)
 
@@ -115,7 +115,8 @@ module _ (m : Machine) (i : ImageState) (ts : List Task) (U T : State) (v : OpNa
         finds v w q.0 p s q.1 known (q.2 ∙ sym pw)
         (subst (λ (a : OpName). v.task < a.task) t.is next.younger) alone in
         ap (λ o. content T o st) same_object
-        ∙ d.leaves t.version st q.0 f.0 t.there made (sym same_storage ∙ at) (record { operand = q.1; starts = f.1 }) f.2
+        ∙ d.leaves t.version st q.0 f.0 t.there made (sym same_storage ∙ at)
+        (record { operand = q.1; starts = f.1 }) f.2
         ∙ f.3
 
     taken_stored : IsStored m i ts T w z

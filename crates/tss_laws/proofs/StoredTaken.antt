@@ -83,7 +83,8 @@ module _ (m : Machine) (i : ImageState) (all ts : List Task) (g : Arrivals) (S :
         → (v : OpName) (y : Version) → get S.versions v ≡ Some y → (n : OpName) → y.storage ≡ Some (Buffer n) → n ≢ b
     apart_from_gone w c gone b has v y there n at same =
         let one =
-        buffers.one v w b (inr (inl (y, there, at ∙ ap (λ q. Some (Buffer q)) same))) (inr (inr (inl (c, gone, has)))) in
+        buffers.one v w b (inr (inl (y, there, at ∙ ap (λ q. Some (Buffer q)) same)))
+        (inr (inr (inl (c, gone, has)))) in
         none-some c (sym (ground.places.versions v y there).2 ∙ ap (λ q. get S.mail.gones q) one ∙ gone)
 
     contents_by : (o : Option OpName) (n : OpName) → ((b : OpName) → o ≡ Some b → n ≢ b)
