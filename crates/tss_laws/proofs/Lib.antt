@@ -277,3 +277,5 @@ pub mod ValuesHomeCopy
 pub mod WorkersBeside
 pub mod StoredOpen
 pub mod ValuesJoin
+pub mod FixedOutputs
+pub mod FixedBytes
