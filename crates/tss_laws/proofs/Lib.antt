@@ -268,6 +268,8 @@ pub mod LoadedBytes
 pub mod KeptBytes
 pub mod HomeBytes
 pub mod StoredCopy
+pub mod StoredMain
+pub mod StoredFinish
 pub mod WorkersKept
 pub mod FindsLeft
 pub mod UnfinishedTasks
