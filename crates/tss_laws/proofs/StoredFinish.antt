@@ -144,32 +144,32 @@ module _ (m : Machine) (i : ImageState) (all ts : List Task) (g : Arrivals) (S :
         lets_go : phase_of T v ≡ Releasing
         lets_go = phase_of-finish m S w b x busy flying v own held.ready
 
-        module _ (writer : writes p.mode ≡ true) (ended : has_ended b ≡ true) (s : Started) (starts : Starts m i v.task s)
-          where
-            its_end : HasEnd m i (stores_of S) b s
-            its_end =
-                let r = workers.runs w b s busy (subst (λ n. Starts m i n s) own starts) in
-                subst (HasEnd m i (stores_of S) b) (sym r.1) (runs-end m i (stores_of S) b r.0 ended)
+        module _ (writer : writes p.mode ≡ true) (ended : has_ended b ≡ true) (s : Started)
+            (starts : Starts m i v.task s) where
+          its_end : HasEnd m i (stores_of S) b s
+          its_end =
+              let r = workers.runs w b s busy (subst (λ n. Starts m i n s) own starts) in
+              subst (HasEnd m i (stores_of S) b) (sym r.1) (runs-end m i (stores_of S) b r.0 ended)
 
-            -- a writer has its own version
-            is_version : held.holds.told.version ≡ y
-            is_version =
-                same_Some held.holds.told.version y (sym held.holds.told.there ∙ ap (get S.versions) held_own ∙ there)
-              where
-                held_own : held.source.version ≡ v
-                held_own = subst (λ c. IsOwnOrRead g v c held.source.version) writer held.holds.told.own
+          -- a writer has its own version
+          is_version : held.holds.told.version ≡ y
+          is_version =
+              same_Some held.holds.told.version y (sym held.holds.told.there ∙ ap (get S.versions) held_own ∙ there)
+            where
+              held_own : held.source.version ≡ v
+              held_own = subst (λ c. IsOwnOrRead g v c held.source.version) writer held.holds.told.own
 
-            its_bytes : (st : StorageName) → y.storage ≡ Some st → content S y.object st ≡ bytes_after m i s p
-            its_bytes st at =
-                let object = sym (ap (λ (y : Version). y.object) is_version) ∙ held.holds.told.object in
-                let storage : st ≡ placed.0 =
-                same_Some st placed.0
-                (sym at ∙ sym (ap (λ (y : Version). y.storage) is_version) ∙ held.holds.told.storage
-                ∙ ap Some held.told) in
-                (λ j. content S (object j) (storage j))
-                ∙ its_end.bytes v.place (record { object = p.object; storage = placed.0 }) placed.2
-                ∙ sym (ap (λ c. cond c (bytes_of (end_of_started i m.limits s).memory p.object)
-                (bytes_of s.memory p.object)) writer)
+          its_bytes : (st : StorageName) → y.storage ≡ Some st → content S y.object st ≡ bytes_after m i s p
+          its_bytes st at =
+              let object = sym (ap (λ (y : Version). y.object) is_version) ∙ held.holds.told.object in
+              let storage : st ≡ placed.0 =
+              same_Some st placed.0
+              (sym at ∙ sym (ap (λ (y : Version). y.storage) is_version) ∙ held.holds.told.storage
+              ∙ ap Some held.told) in
+              (λ j. content S (object j) (storage j))
+              ∙ its_end.bytes v.place (record { object = p.object; storage = placed.0 }) placed.2
+              ∙ sym (ap (λ c. cond c (bytes_of (end_of_started i m.limits s).memory p.object)
+              (bytes_of s.memory p.object)) writer)
 
       -- ---- all
 
