@@ -281,3 +281,4 @@ pub mod StoredOpen
 pub mod ValuesJoin
 pub mod FixedOutputs
 pub mod FixedBytes
+pub mod WorkersFinds
