@@ -1,24 +1,19 @@
 -- Memory that can't be written stays at home as it was loaded.
-use Rattle.std.proofs.Common.{◌≡◌, inl, inr, ℕ, suc, ◌<◌, ◌≤◌, Bool, true, false, List, [], ◌∷◌, length, map, Option, Some, None, refl, sym, ap, subst, ◌∙◌, arith}
+use Rattle.std.proofs.Common.{◌≡◌, inr, ℕ, suc, Bool, true, false, List, [], ◌∷◌, length, Option, Some, None, refl, sym, ap, subst, ◌∙◌}
 use Rattle.std.specs.Prelude.{◌==◌, cond, slice_get, unwrap_or, Result, Ok, Err}
-use Rattle.std.specs.List.{list_any}
 use Rattle.std.specs.FinMap.{get}
-use Rattle.std.proofs.lemmas.Bool.{false_from_ne_true, or_left}
-use Rattle.std.proofs.lemmas.Bool.Decides.{nat_tests}
-use Rattle.std.proofs.lemmas.List.{length-map}
+use Rattle.std.proofs.lemmas.Bool.{false_from_ne_true}
 use Rattle.std.proofs.lemmas.Option.{none-some, same_Some}
 use Rattle.tss_base.specs.declared.operand.OpName.{OpName}
-use Rattle.tss_base.specs.declared.operand.Mode.TheVariants.{Output}
 use Rattle.tss_base.specs.declared.operand.Operand.{Operand}
 use Rattle.tss_base.specs.declared.operand.Task.{Task}
-use Rattle.tss_base.specs.declared.range.Range.{Range}
 use Rattle.tss_base.specs.declared.machine.Limits.{Limits}
 use Rattle.tss_base.specs.declared.machine.Machine.{Machine}
 use Rattle.tss_base.specs.declared.event.Event.{Event}
 use Rattle.tss_base.specs.declared.event.Event.TheVariants as event
 use Rattle.tss_base.specs.Image.{ImageState, IsAccepted}
 use Rattle.tss_model.specs.Access.{operands_of, writes}
-use Rattle.tss_model.specs.Memory.{MemoryRange, Memory, range_of, covers, byte_at, memory_ranges, loaded}
+use Rattle.tss_model.specs.Memory.{MemoryRange, Memory, covers, byte_at, memory_ranges, loaded}
 use Rattle.tss_model.specs.Spawn.{spawn_of}
 use Rattle.tss_model.specs.MainStep.{MainState, Call, ExitCall, Spawn, Barrier, Print, Unknown, main_call, spawn_call, spawn_on}
 use Rattle.tss_protocol.specs.Mail.{StorageName, Home, Buffer}
@@ -26,9 +21,8 @@ use Rattle.tss_protocol.specs.State.{State, Flying, Busy, CopyState, initial_sta
 use Rattle.tss_protocol.specs.Stations.{storages_of}
 use Rattle.tss_protocol.specs.Buffers.{buffer_bytes}
 use Rattle.tss_protocol.specs.MainEvent.{flat_of, call_next, after_call, main_by}
-use Rattle.tss_protocol.specs.UnitMachine.{IsEnabled, after_event, start_task, after_start, after_exec, after_copy, stores_of}
+use Rattle.tss_protocol.specs.UnitMachine.{after_event, start_task, after_start, after_exec, after_copy, stores_of}
 use Rattle.tss_locality.proofs.LeftFields.{Leaves-after_event}
-use Rattle.tss_laws.specs.Members.{operand_among}
 use Rattle.tss_laws.specs.Buffers.{HasBuffers}
 use Rattle.tss_laws.specs.Tasks.{task_at, with_spawned, spawned_by_main, spawned_after_event}
 use Rattle.tss_laws.specs.Readers.{Arrivals}
@@ -40,7 +34,7 @@ use Rattle.tss_laws.proofs.FlatOperands.{IsFit, spawned-fit}
 use Rattle.tss_laws.proofs.GroundworkSpawn.{among_object}
 use Rattle.tss_laws.proofs.RunKeeps.{HasGround}
 use Rattle.tss_laws.proofs.StoreBytes.{covers_parts}
-use Rattle.tss_laws.proofs.StoreFrames.{IsElsewhere, IsBeside, exec_stretch-left, outputs_zeroed-left, copy-beside}
+use Rattle.tss_laws.proofs.StoreFrames.{IsBeside, exec_stretch-left, outputs_zeroed-left, copy-beside}
 use Rattle.tss_laws.proofs.Values.{HasWorkers, HasReturns}
 use Rattle.tss_laws.proofs.WorkersRuns.{worker_separate}
 use Rattle.tss_laws.proofs.FixedOutputs.{HasOutputs}

@@ -1,9 +1,9 @@
 -- Each buffer that is held was taken for an output of the round.
 use Rattle.std.proofs.Common.{◌≡◌, inl, inr, ℕ, Bool, true, false, List, [], ◌∷◌, ◌++◌, Option, Some, None, refl, sym, ap, subst, ◌∙◌}
-use Rattle.std.specs.Prelude.{cond, ◌&&◌, ◌==◌, is_none, option_to_list}
+use Rattle.std.specs.Prelude.{◌&&◌, ◌==◌, is_none, option_to_list}
 use Rattle.std.specs.FinMap.{get, len, get-empty}
 use Rattle.std.proofs.lemmas.Bool.{and_parts, eqb-true}
-use Rattle.std.proofs.lemmas.Option.{none-some, same_Some}
+use Rattle.std.proofs.lemmas.Option.{none-some}
 use Rattle.tss_base.specs.declared.operand.OpName.{OpName}
 use Rattle.tss_base.specs.declared.operand.Mode.{Mode}
 use Rattle.tss_base.specs.declared.operand.Mode.TheVariants.{Input, Output, Inout}
@@ -122,7 +122,8 @@ module _ (m : Machine) (all ts : List Task) (S : State) (ground : HasGroundwork 
   main_by_call (Some Print) may = outputs
   main_by_call (Some (Unknown n)) may = outputs
 
-  outputs-main : IsEnabled m S event.Main → HasOutputs (round_after_event m S ts event.Main) (after_event m S event.Main)
+  outputs-main : IsEnabled m S event.Main
+      → HasOutputs (round_after_event m S ts event.Main) (after_event m S event.Main)
   unfolding is_enabled
   outputs-main on =
       let same : (after_event m S event.Main).buffers ≡ S.buffers =
