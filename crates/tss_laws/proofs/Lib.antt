@@ -282,3 +282,4 @@ pub mod ValuesJoin
 pub mod FixedOutputs
 pub mod FixedBytes
 pub mod WorkersFinds
+pub mod ValuesHomeGone
