@@ -283,3 +283,4 @@ pub mod FixedOutputs
 pub mod FixedBytes
 pub mod WorkersFinds
 pub mod ValuesHomeGone
+pub mod ValuesEvents
