@@ -284,3 +284,4 @@ pub mod FixedBytes
 pub mod WorkersFinds
 pub mod ValuesHomeGone
 pub mod ValuesEvents
+pub mod WorkersStart
