@@ -18,7 +18,9 @@ use Rattle.tss_laws.proofs.FlatStarts.{task_started, started_at-step, task_start
 -- ---- one step
 
 module _ (code : List SegmentState) (limits : Limits) where
-  call_ran-spawned : (m : Memory) (p : MainState × Option Task) → (call_ran code limits m p).main.spawned ≡ p.0.spawned
+  -- the task of a call leaves their number
+  pub call_ran-spawned : (m : Memory) (p : MainState × Option Task)
+      → (call_ran code limits m p).main.spawned ≡ p.0.spawned
   call_ran-spawned m (main, None) = refl
   call_ran-spawned m (main, Some t) = by (task_end code limits m t).trap
     where
@@ -72,7 +74,8 @@ module _ (i : ImageState) (limits : Limits) where
       ∙ subst (SpawnsBy (frozen i) limits (flat_stepped i limits k)) is
       (flat_step-spawns (frozen i) limits (flat_stepped i limits k))
 
-  step_rises : (k : ℕ) → spawned_by k ≤ spawned_by (suc k)
+  -- it never falls by a step
+  pub step_rises : (k : ℕ) → spawned_by k ≤ spawned_by (suc k)
   step_rises k = by (task_started i limits k) refl
     where
       by : (o : Option Task) → task_started i limits k ≡ o → spawned_by k ≤ spawned_by (suc k)

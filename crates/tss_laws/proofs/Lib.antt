@@ -285,3 +285,4 @@ pub mod WorkersFinds
 pub mod ValuesHomeGone
 pub mod ValuesEvents
 pub mod WorkersStart
+pub mod FlatUnnamed
