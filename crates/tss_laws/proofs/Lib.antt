@@ -286,3 +286,4 @@ pub mod ValuesHomeGone
 pub mod ValuesEvents
 pub mod WorkersStart
 pub mod FlatUnnamed
+pub mod ValuesFirst
