@@ -270,6 +270,7 @@ pub mod HomeBytes
 pub mod StoredCopy
 pub mod StoredMain
 pub mod StoredFinish
+pub mod StoredFirst
 pub mod WorkersKept
 pub mod FindsLeft
 pub mod UnfinishedTasks
