@@ -288,3 +288,4 @@ pub mod ValuesEvents
 pub mod WorkersStart
 pub mod FlatUnnamed
 pub mod ValuesFirst
+pub mod WorkersEvents
