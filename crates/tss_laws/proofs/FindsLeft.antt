@@ -1,5 +1,5 @@
 -- An operand of the round that program order starts finds its object as the last writer before it left it.
-use Rattle.std.proofs.Common.{◌≡◌, ℕ, ◌<◌, List, Some, sym, subst, arith}
+use Rattle.std.proofs.Common.{◌≡◌, ◌<◌, List, Some, sym, subst, arith}
 use Rattle.tss_base.specs.declared.operand.OpName.{OpName}
 use Rattle.tss_base.specs.declared.operand.Operand.{Operand}
 use Rattle.tss_base.specs.declared.operand.Task.{Task}
@@ -12,7 +12,7 @@ use Rattle.tss_laws.specs.Control.{HasGroundwork}
 use Rattle.tss_laws.proofs.FlatNumbers.{number_there}
 use Rattle.tss_laws.proofs.FlatStarts.{started-number}
 use Rattle.tss_laws.proofs.NumberLemmas.{number_within}
-use Rattle.tss_laws.proofs.Values.{Starts, IsKnown, IsGood, bytes_before, bytes_after, HasMain, HasNaming}
+use Rattle.tss_laws.proofs.Values.{Starts, HasMain, HasNaming}
 use Rattle.tss_laws.proofs.StoredSettled.{FindsLeft}
 use Rattle.tss_laws.proofs.NamingLemmas.{runs_on, found_between}
 

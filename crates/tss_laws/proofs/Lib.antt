@@ -289,3 +289,4 @@ pub mod WorkersStart
 pub mod FlatUnnamed
 pub mod ValuesFirst
 pub mod WorkersEvents
+pub mod NamingMain

@@ -38,7 +38,7 @@ use Rattle.tss_laws.proofs.SpawnLemmas.{SpawnsAtMostOne, SpawnsOne, spawns_main}
 use Rattle.tss_laws.proofs.Values.{Starts, HasHome, HasMain}
 
 -- a member of a list is had by it
-in_has : (x : Range) (xs : List Range) → IsIn x xs → Has xs x
+pub in_has : (x : Range) (xs : List Range) → IsIn x xs → Has xs x
 in_has x [] none = absurd none
 in_has x (y ∷ ys) (inl same) =
     or_left (same_range x y) _ (subst (λ z. same_range x z ≡ true) (sym same) (same_range-refl x))
