@@ -58,6 +58,7 @@ pub mod FlatStarted
 pub mod FlatFixed
 pub mod FlatNumbers
 pub mod StoreFrames
+pub mod StoreViews
 pub mod RunKeeps
 pub mod MainFollows
 pub mod MainEvent
