@@ -291,3 +291,4 @@ pub mod FlatUnnamed
 pub mod ValuesFirst
 pub mod WorkersEvents
 pub mod NamingMain
+pub mod ValuesHomeMain

@@ -112,7 +112,7 @@ module _ (m : Machine) (i : ImageState) (all ts : List Task) (g : Arrivals) (S :
   AreSame us = (n : ℕ) (t : Task) (s : Started) → task_at us n ≡ Some t → Starts m i n s → s.task ≡ t
 
   -- once program order is cut off it starts no later task
-  none_later : IsCutOff i m.limits S.main → (n : ℕ) → S.main.spawned < n → (s : Started) → Starts m i n s → ⊥
+  pub none_later : IsCutOff i m.limits S.main → (n : ℕ) → S.main.spawned < n → (s : Started) → Starts m i n s → ⊥
   none_later cut n later s starts = by (cases_order cut.place starts.0)
     where
       number : cut.started.task.number < s.task.number
