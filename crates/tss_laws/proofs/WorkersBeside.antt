@@ -1,10 +1,8 @@
 -- Workers stand where program order has their tasks after main's event, a copy and a gone, and after the start of
 -- another.
-use Rattle.std.proofs.Common.{◌≡◌, ◌≢◌, ℕ, ◌≤◌, inl, inr, Bool, true, false, List, [], ◌∷◌, length, Option, Some, None, refl, sym, ap, ◌∙◌, subst, arith}
+use Rattle.std.proofs.Common.{◌≡◌, ◌≢◌, ℕ, ◌≤◌, true, false, List, length, Option, Some, None, refl, sym, ap, ◌∙◌, subst}
 use Rattle.std.specs.Prelude.{◌-◌, slice_index}
-use Rattle.std.specs.FinMap.{get, insert}
-use Rattle.std.proofs.lemmas.Option.{none-some, same_Some}
-use Rattle.tss_base.specs.declared.range.Range.{Range}
+use Rattle.std.specs.FinMap.{get}
 use Rattle.tss_base.specs.declared.operand.OpName.{OpName}
 use Rattle.tss_base.specs.declared.operand.Operand.{Operand}
 use Rattle.tss_base.specs.declared.operand.Task.{Task}
@@ -16,11 +14,11 @@ use Rattle.tss_base.specs.Names.{Named, Numbered}
 use Rattle.tss_model.specs.Memory.{covers, byte_at}
 use Rattle.tss_model.specs.Access.{operands_of}
 use Rattle.tss_protocol.specs.Mail.{StorageName, Home, Buffer, Source, GoneContents}
-use Rattle.tss_protocol.specs.State.{State, Flying, Busy, Version, CopyState}
+use Rattle.tss_protocol.specs.State.{State, Flying, Busy, CopyState}
 use Rattle.tss_protocol.specs.Stations.{is_complete, storages_of}
 use Rattle.tss_protocol.specs.Buffers.{buffer_bytes, contents_after_gone}
 use Rattle.tss_protocol.specs.Workers.{Stores, placed_in, storage_byte, outputs_zeroed}
-use Rattle.tss_protocol.specs.UnitMachine.{stores_of, IsEnabled, after_event, after_copy, gone_message_taken, without}
+use Rattle.tss_protocol.specs.UnitMachine.{stores_of, after_event, after_copy, gone_message_taken, without}
 use Rattle.tss_locality.proofs.LeftFields.{Leaves-after_event}
 use Rattle.tss_locality.specs.Rounds.{IsIn}
 use Rattle.tss_laws.specs.Members.{operand_among}
@@ -40,9 +38,10 @@ use Rattle.tss_laws.proofs.Values.{HasWorkers, HasReturns}
 use Rattle.tss_laws.proofs.ValuesCopy.{object_named, objects_apart, copy_object}
 use Rattle.tss_laws.proofs.ValuesReturnsMain.{main_at_home}
 use Rattle.tss_laws.proofs.WorkersApart.{task_separate, holder_beside}
-use Rattle.tss_laws.proofs.WorkersRuns.{SameFixed, RunsAt, AllRun, LeavesHeld, runs_left}
+use Rattle.tss_laws.proofs.WorkersRuns.{SameFixed, AllRun, LeavesHeld, runs_left}
 
-module _ (m : Machine) (i : ImageState) (all ts : List Task) (g : Arrivals) (S : State) (ground : HasGroundwork m all ts S)
+module _ (m : Machine) (i : ImageState) (all ts : List Task) (g : Arrivals) (S : State)
+    (ground : HasGroundwork m all ts S)
     (control : IsControlled ts g S) (buffers : HasBuffers ts S) (image : HasGround i S) (workers : HasWorkers m i S)
   where
     -- ---- home changes
@@ -66,7 +65,8 @@ module _ (m : Machine) (i : ImageState) (all ts : List Task) (g : Arrivals) (S :
             → storage_byte x r.object st a ≡ storage_byte (stores_of S) r.object st a
         by q r t l a inside Home e = home q r t l e a inside
         by q r t l a inside (Buffer b) e =
-            ap (λ (c : Named (List ℕ)). storage_byte (record { home = x.home; contents = c }) r.object (Buffer b) a) contents
+            ap (λ (c : Named (List ℕ)). storage_byte (record { home = x.home; contents = c }) r.object (Buffer b) a)
+            contents
 
     -- the object of an operand is named
     named_object : (q : OpName) (r : Operand) → operand_among ts q ≡ Some r → IsIn r.object S.main.epoch
@@ -80,7 +80,8 @@ module _ (m : Machine) (i : ImageState) (all ts : List Task) (g : Arrivals) (S :
     runs_main fixed w b there =
         let left = Leaves-after_event m S event.Main in
         let before = ap (λ (ws : Numbered Busy). get ws w) (sym (λ j. (left j).workers)) ∙ there in
-        runs_left m i all ts g S ground control buffers image workers w b before (stores_of (after_event m S event.Main))
+        runs_left m i all ts g S ground control buffers image workers w b before
+        (stores_of (after_event m S event.Main))
         (leaves_home (stores_of (after_event m S event.Main)) b.task.number (after_event-ground m S event.Main).ranges
         (λ j. (left j).contents)
         (λ q r t l e a inside. main_at_home m S r.object (named_object q r l.among) a inside) fixed)

@@ -1,6 +1,6 @@
 -- Every event leaves each busy worker with what it was told, and where program order has its task.
 use Rattle.std.proofs.Common.{◌≡◌, ℕ, List, Option, Some, None, refl, sym, ap, ◌∙◌}
-use Rattle.std.specs.FinMap.{get, remove}
+use Rattle.std.specs.FinMap.{get}
 use Rattle.tss_base.specs.declared.operand.Task.{Task}
 use Rattle.tss_base.specs.declared.machine.Machine.{Machine}
 use Rattle.tss_base.specs.declared.event.Event.{Event}
@@ -26,7 +26,8 @@ use Rattle.tss_laws.proofs.WorkersKept.{runs_exec}
 use Rattle.tss_laws.proofs.WorkersBeside.{runs_main, runs_copy, runs_gone}
 use Rattle.tss_laws.proofs.WorkersStart.{runs_start}
 
-module _ (m : Machine) (i : ImageState) (all ts : List Task) (g : Arrivals) (S : State) (ground : HasGroundwork m all ts S)
+module _ (m : Machine) (i : ImageState) (all ts : List Task) (g : Arrivals) (S : State)
+    (ground : HasGroundwork m all ts S)
     (control : IsControlled ts g S) (buffers : HasBuffers ts S) (image : HasGround i S) (accepted : IsAccepted i)
     (fixed : HasFixed i S) (same : (e : Event) → SameFixed i S (after_event m S e)) (finds : FindsLeft m i ts)
     (values : HasValues m i all ts S) where
@@ -54,7 +55,8 @@ module _ (m : Machine) (i : ImageState) (all ts : List Task) (g : Arrivals) (S :
       (λ j. (Leaves-after_event m S event.Take j).contents) (λ j. (Leaves-after_event m S event.Take j).workers)
   runs_event (event.Decode o) =
       runs_still (after_event m S (event.Decode o)) (λ j. (Leaves-after_event m S (event.Decode o) j).home)
-      (λ j. (Leaves-after_event m S (event.Decode o) j).contents) (λ j. (Leaves-after_event m S (event.Decode o) j).workers)
+      (λ j. (Leaves-after_event m S (event.Decode o) j).contents)
+      (λ j. (Leaves-after_event m S (event.Decode o) j).workers)
   runs_event (event.Ack o) =
       runs_still (after_event m S (event.Ack o)) (λ j. (Leaves-after_event m S (event.Ack o) j).home)
       (λ j. (Leaves-after_event m S (event.Ack o) j).contents) (λ j. (Leaves-after_event m S (event.Ack o) j).workers)
@@ -66,7 +68,8 @@ module _ (m : Machine) (i : ImageState) (all ts : List Task) (g : Arrivals) (S :
       (λ j. (Leaves-after_event m S (event.Use o) j).contents) (λ j. (Leaves-after_event m S (event.Use o) j).workers)
   runs_event (event.Ready o) =
       runs_still (after_event m S (event.Ready o)) (λ j. (Leaves-after_event m S (event.Ready o) j).home)
-      (λ j. (Leaves-after_event m S (event.Ready o) j).contents) (λ j. (Leaves-after_event m S (event.Ready o) j).workers)
+      (λ j. (Leaves-after_event m S (event.Ready o) j).contents)
+      (λ j. (Leaves-after_event m S (event.Ready o) j).workers)
   runs_event (event.Link o) =
       runs_still (after_event m S (event.Link o)) (λ j. (Leaves-after_event m S (event.Link o) j).home)
       (λ j. (Leaves-after_event m S (event.Link o) j).contents) (λ j. (Leaves-after_event m S (event.Link o) j).workers)
@@ -78,7 +81,8 @@ module _ (m : Machine) (i : ImageState) (all ts : List Task) (g : Arrivals) (S :
   runs_event (event.Finish w) = runs_finish w
   runs_event (event.Release o) =
       runs_still (after_event m S (event.Release o)) (λ j. (Leaves-after_event m S (event.Release o) j).home)
-      (λ j. (Leaves-after_event m S (event.Release o) j).contents) (λ j. (Leaves-after_event m S (event.Release o) j).workers)
+      (λ j. (Leaves-after_event m S (event.Release o) j).contents)
+      (λ j. (Leaves-after_event m S (event.Release o) j).workers)
   runs_event (event.Bye o) =
       runs_still (after_event m S (event.Bye o)) (λ j. (Leaves-after_event m S (event.Bye o) j).home)
       (λ j. (Leaves-after_event m S (event.Bye o) j).contents) (λ j. (Leaves-after_event m S (event.Bye o) j).workers)
@@ -90,7 +94,8 @@ module _ (m : Machine) (i : ImageState) (all ts : List Task) (g : Arrivals) (S :
       (λ j. (Leaves-after_event m S (event.Nack v) j).contents) (λ j. (Leaves-after_event m S (event.Nack v) j).workers)
   runs_event (event.Retire v) =
       runs_still (after_event m S (event.Retire v)) (λ j. (Leaves-after_event m S (event.Retire v) j).home)
-      (λ j. (Leaves-after_event m S (event.Retire v) j).contents) (λ j. (Leaves-after_event m S (event.Retire v) j).workers)
+      (λ j. (Leaves-after_event m S (event.Retire v) j).contents)
+      (λ j. (Leaves-after_event m S (event.Retire v) j).workers)
   runs_event (event.Copy b) =
       runs_copy m i all ts g S ground control buffers image values.workers values.returns b (same (event.Copy b))
   runs_event (event.Gone v) = runs_gone m i all ts g S ground control buffers image values.workers v

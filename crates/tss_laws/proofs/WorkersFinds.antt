@@ -1,10 +1,8 @@
 -- What a queued task finds in the storages of its operands: what program order has there, if that starts it.
-use Rattle.std.proofs.Common.{◌≡◌, ◌≢◌, ◌⊎◌, inl, inr, ℕ, ◌+◌, ◌-◌, ◌<◌, ◌≤◌, Bool, true, false, List, [], ◌∷◌, length, take, Option, Some, None, refl, sym, ap, ◌∙◌, subst, arith, true≢false}
-use Rattle.std.specs.Prelude.{cond, slice_get, slice_index, ◌&&◌}
-use Rattle.std.specs.List.{list_any}
+use Rattle.std.proofs.Common.{◌≡◌, ◌⊎◌, inl, inr, ℕ, ◌-◌, ◌<◌, ◌≤◌, true, false, List, length, Some, refl, sym, ap, ◌∙◌, subst, arith, true≢false}
+use Rattle.std.specs.Prelude.{cond, slice_get, slice_index}
 use Rattle.std.specs.FinMap.{get}
-use Rattle.std.proofs.lemmas.Bool.{and_parts, and_from, or_cases, both_ways}
-use Rattle.std.proofs.lemmas.Option.{none-some, same_Some}
+use Rattle.std.proofs.lemmas.Option.{same_Some}
 use Rattle.std.proofs.lemmas.List.{get_or-take}
 use Rattle.std.proofs.lemmas.List.FromFn.{get_or-map-range_with_len}
 use Rattle.tss_base.specs.declared.range.Range.{Range}
@@ -20,13 +18,12 @@ use Rattle.tss_model.specs.Memory.{Memory, covers, byte_at, bytes_of}
 use Rattle.tss_model.specs.Access.{operands_of, reads, writes}
 use Rattle.tss_model.specs.InOrder.{Started, end_of_started}
 use Rattle.tss_protocol.specs.Names.{operand_name}
-use Rattle.tss_protocol.specs.Mail.{StorageName, Home, Buffer, Source}
-use Rattle.tss_protocol.specs.State.{State, Flying, Busy, Version}
+use Rattle.tss_protocol.specs.Mail.{StorageName, Home, Buffer}
+use Rattle.tss_protocol.specs.State.{State, Flying, Version}
 use Rattle.tss_protocol.specs.Stations.{is_complete, storages_of}
 use Rattle.tss_protocol.specs.Buffers.{buffer_bytes}
 use Rattle.tss_protocol.specs.Workers.{Stores, storage_byte, stored_bytes}
-use Rattle.tss_protocol.specs.UnitMachine.{stores_of}
-use Rattle.tss_laws.specs.Members.{operand_among, IsOn, NoWriterBetween}
+use Rattle.tss_laws.specs.Members.{operand_among, NoWriterBetween}
 use Rattle.tss_laws.specs.Buffers.{HasBuffers}
 use Rattle.tss_laws.specs.Readers.{Arrivals, Has, IsArrival}
 use Rattle.tss_laws.specs.Stages.{IsOnWorker}
@@ -34,7 +31,7 @@ use Rattle.tss_laws.specs.Holders.{IsOwnOrRead}
 use Rattle.tss_laws.specs.Control.{HasGroundwork, IsControlled}
 use Rattle.tss_laws.proofs.RoomyStart.{produced_set}
 use Rattle.tss_laws.proofs.StageLemmas.{queued≢running, queued≢finished}
-use Rattle.tss_laws.proofs.StorageShares.{HoldsStorage, reads_produced}
+use Rattle.tss_laws.proofs.StorageShares.{reads_produced}
 use Rattle.tss_laws.proofs.StoreBytes.{covers_parts}
 use Rattle.tss_laws.proofs.StoredSettled.{FindsLeft}
 use Rattle.tss_laws.proofs.Values.{Starts, IsKnown, IsGood, IsSet, bytes_before, bytes_after, content, HasStored, HasRoom}
@@ -51,8 +48,8 @@ byte_of_bytes m x a inside =
     get_or-map-range_with_len (byte_at m) x.base x.len (a - x.base) a 0 (omega (arith, p.0, p.1)) (omega (arith, p.0))
 
 -- where the storage of an object has the bytes of a memory, each of its bytes is that of the memory
-pub byte_stored : (s : Stores) (x : Range) (storage : StorageName) (m : Memory) → stored_bytes s x storage ≡ bytes_of m x
-    → (a : ℕ) → covers x a ≡ true → storage_byte s x storage a ≡ byte_at m a
+pub byte_stored : (s : Stores) (x : Range) (storage : StorageName) (m : Memory)
+    → stored_bytes s x storage ≡ bytes_of m x → (a : ℕ) → covers x a ≡ true → storage_byte s x storage a ≡ byte_at m a
 byte_stored s x Home m same a inside =
     sym (byte_of_bytes s.home x a inside) ∙ ap (λ (bs : List ℕ). slice_index bs (a - x.base)) same
     ∙ byte_of_bytes m x a inside
@@ -64,7 +61,8 @@ byte_stored s x (Buffer n) m same a inside =
 
 -- ---- a queued task
 
-module _ (m : Machine) (i : ImageState) (all ts : List Task) (g : Arrivals) (S : State) (ground : HasGroundwork m all ts S)
+module _ (m : Machine) (i : ImageState) (all ts : List Task) (g : Arrivals) (S : State)
+    (ground : HasGroundwork m all ts S)
     (control : IsControlled ts g S) (buffers : HasBuffers ts S) (n : ℕ) (x : Flying) (flies : get S.flight n ≡ Some x)
     (complete : is_complete x ≡ true) (queued : x.stage ≡ stage.Queued) where
   -- it isn't on a worker
@@ -154,7 +152,8 @@ module _ (m : Machine) (i : ImageState) (all ts : List Task) (g : Arrivals) (S :
       by_mode : (mode : Mode) → p.mode ≡ mode → reads mode ≡ true
           → content S state.object storage ≡ bytes_before s p
       by_mode Input e read =
-          let arrival = (control.readers.versions version state there).each (operand_name n k) (own_read (ap writes e)) in
+          let arrival = (control.readers.versions version state there).each (operand_name n k)
+          (own_read (ap writes e)) in
           by_age e arrival arrival.younger
       by_mode Output e read = absurd (true≢false (sym read))
       by_mode Inout e read =

@@ -1,6 +1,6 @@
 -- What the operands of a task that is queued or runs hold: each a registered version with the storage that it was told.
 -- What one of them writes lies beside all other versions.
-use Rattle.std.proofs.Common.{◌≡◌, ◌≢◌, ◌⊎◌, inl, inr, ℕ, Bool, true, false, List, Option, Some, None, refl, sym, ap, ◌∙◌, subst, true≢false}
+use Rattle.std.proofs.Common.{◌≡◌, ◌≢◌, inl, ℕ, Bool, true, false, List, Option, Some, None, refl, sym, ap, ◌∙◌, subst, true≢false}
 use Rattle.std.specs.Prelude.{slice_get, option_map}
 use Rattle.std.specs.FinMap.{get}
 use Rattle.std.proofs.lemmas.Bool.{both_ways, false_from_ne_true}
@@ -14,8 +14,8 @@ use Rattle.tss_base.specs.declared.event.Stage.TheVariants as stage
 use Rattle.tss_model.specs.Memory.{covers}
 use Rattle.tss_model.specs.Access.{writes, operands_of}
 use Rattle.tss_protocol.specs.Names.{operand_name}
-use Rattle.tss_protocol.specs.Mail.{StorageName, Home, Buffer, Source}
-use Rattle.tss_protocol.specs.State.{State, OperandState, Flying, Busy, Version}
+use Rattle.tss_protocol.specs.Mail.{StorageName, Home, Source}
+use Rattle.tss_protocol.specs.State.{State, OperandState, Flying, Version}
 use Rattle.tss_protocol.specs.Stations.{operand_at, is_ready, is_complete, storage_of, storages_of}
 use Rattle.tss_phases.specs.Phase.{Phase, Ahead, Decoding, Sent, Waiting, Told, Ready, Releasing, Leaving, Promised, Left, look_ups, phase_of}
 use Rattle.tss_phases.specs.Alone.{HasRecord}
@@ -27,7 +27,7 @@ use Rattle.tss_laws.specs.Members.{operand_among}
 use Rattle.tss_laws.specs.Buffers.{HasBuffers}
 use Rattle.tss_laws.specs.Readers.{Arrivals}
 use Rattle.tss_laws.specs.Runners.{is_late}
-use Rattle.tss_laws.specs.Holders.{IsOwnOrRead, IsTrue}
+use Rattle.tss_laws.specs.Holders.{IsOwnOrRead}
 use Rattle.tss_laws.specs.Control.{HasGroundwork, IsControlled}
 use Rattle.tss_laws.proofs.GroundworkRounds.{found_among}
 use Rattle.tss_laws.proofs.HoldersOrder.{ready_in}
@@ -78,7 +78,8 @@ module _ (m : Machine) (all ts : List Task) (g : Arrivals) (S : State) (ground :
       not_told : HasRecord (look_ups S (operand_name n k)) None → ⊥
       not_told h =
           none-some source.0
-          (sym h.told ∙ ap (λ (r : OperandState). r.source) (same_Some h.kept station.0 (sym h.there ∙ kept)) ∙ source.1)
+          (sym h.told ∙ ap (λ (r : OperandState). r.source) (same_Some h.kept station.0 (sym h.there ∙ kept))
+          ∙ source.1)
 
       not_late : is_late (phase_of S (operand_name n k)) ≡ true → ⊥
       not_late e =

@@ -1,44 +1,35 @@
 -- Workers stand where program order has their tasks after each event but a start.
-use Rattle.std.proofs.Common.{◌≡◌, ◌≢◌, ℕ, ◌≤◌, inl, inr, Bool, true, false, List, [], ◌∷◌, length, Option, Some, None, refl, sym, ap, ◌∙◌, subst, arith}
-use Rattle.std.specs.Prelude.{slice_get}
-use Rattle.std.specs.FinMap.{get, insert}
-use Rattle.std.proofs.lemmas.Option.{none-some, same_Some}
-use Rattle.tss_base.specs.declared.range.Range.{Range}
+use Rattle.std.proofs.Common.{◌≡◌, ◌≢◌, ℕ, inl, inr, true, List, Option, Some, None, refl, sym, ap, ◌∙◌, subst, arith}
+use Rattle.std.specs.FinMap.{get}
 use Rattle.tss_base.specs.declared.operand.OpName.{OpName}
 use Rattle.tss_base.specs.declared.operand.Operand.{Operand}
 use Rattle.tss_base.specs.declared.operand.Task.{Task}
 use Rattle.tss_base.specs.declared.machine.Machine.{Machine}
 use Rattle.tss_base.specs.declared.event.Event.TheVariants as event
-use Rattle.tss_base.specs.declared.event.Stage.TheVariants as stage
 use Rattle.tss_base.specs.Image.{SegmentState, ImageState}
 use Rattle.tss_maps.proofs.Keys.{nat_order}
-use Rattle.tss_maps.proofs.Changes.{from_inserted, from_removed}
-use Rattle.tss_model.specs.Memory.{MemoryRange, Memory, covers, frozen, byte_at, memory_ranges}
-use Rattle.tss_model.specs.Access.{operands_of}
+use Rattle.tss_maps.proofs.Changes.{from_inserted}
+use Rattle.tss_model.specs.Memory.{Memory, covers, frozen, byte_at}
 use Rattle.tss_model.specs.TaskRun.{TaskState}
-use Rattle.tss_model.specs.InOrder.{flat_stepped, Started}
-use Rattle.tss_protocol.specs.Mail.{StorageName, Home, Buffer, Source, GoneContents}
-use Rattle.tss_protocol.specs.State.{State, Flying, Busy, CopyState}
-use Rattle.tss_protocol.specs.Stations.{is_complete, storages_of}
-use Rattle.tss_protocol.specs.Buffers.{buffer_bytes}
-use Rattle.tss_protocol.specs.Workers.{Stores, storage_byte, exec_stretch, busy_after, outputs_zeroed, busy_at_start}
-use Rattle.tss_protocol.specs.UnitMachine.{stores_of, IsEnabled, is_enabled, after_event, after_exec, start_task}
+use Rattle.tss_protocol.specs.Mail.{Source}
+use Rattle.tss_protocol.specs.State.{State, Busy}
+use Rattle.tss_protocol.specs.Workers.{Stores, storage_byte, exec_stretch, busy_after}
+use Rattle.tss_protocol.specs.UnitMachine.{stores_of, after_event, after_exec}
 use Rattle.tss_laws.specs.Buffers.{HasBuffers}
 use Rattle.tss_laws.specs.Readers.{Arrivals}
 use Rattle.tss_laws.specs.Control.{HasGroundwork, IsControlled}
 use Rattle.tss_laws.proofs.FlatFixed.{IsFixed}
 use Rattle.tss_laws.proofs.FlatOrder.{flat_stepped-ranges, started_at-by}
-use Rattle.tss_laws.proofs.RunKeeps.{HasGround, after_exec-kept, outputs_zeroed-ranges}
+use Rattle.tss_laws.proofs.RunKeeps.{HasGround, after_exec-kept}
 use Rattle.tss_laws.proofs.RoomyStores.{size_executed}
 use Rattle.tss_laws.proofs.StorageShares.{HoldsStorage}
-use Rattle.tss_laws.proofs.StoreStart.{room_stays}
-use Rattle.tss_laws.proofs.StoreFrames.{exec_stretch-left, outputs_zeroed-left}
+use Rattle.tss_laws.proofs.StoreFrames.{exec_stretch-left}
 use Rattle.tss_laws.proofs.StoreFollows.{RunsInOrder, runs-exec}
 use Rattle.tss_laws.proofs.Values.{HasWorkers}
-use Rattle.tss_laws.proofs.WorkersApart.{task_separate, holder_beside}
 use Rattle.tss_laws.proofs.WorkersRuns.{SameFixed, RunsAt, AllRun, runs_with, LeavesHeld, runs_left, worker_separate, worker_beside}
 
-module _ (m : Machine) (i : ImageState) (all ts : List Task) (g : Arrivals) (S : State) (ground : HasGroundwork m all ts S)
+module _ (m : Machine) (i : ImageState) (all ts : List Task) (g : Arrivals) (S : State)
+    (ground : HasGroundwork m all ts S)
     (control : IsControlled ts g S) (buffers : HasBuffers ts S) (image : HasGround i S) (workers : HasWorkers m i S)
   where
     -- ---- exec
@@ -112,6 +103,7 @@ module _ (m : Machine) (i : ImageState) (all ts : List Task) (g : Arrivals) (S :
     exec_by w (Some b) e fixed = run_executed w b e fixed
 
     -- exec
-    pub runs_exec : (w : ℕ) → SameFixed i S (after_event m S (event.Exec w)) → AllRun m i (after_event m S (event.Exec w))
+    pub runs_exec : (w : ℕ) → SameFixed i S (after_event m S (event.Exec w))
+        → AllRun m i (after_event m S (event.Exec w))
     unfolding after_event
     runs_exec w fixed = exec_by w (get S.workers w) refl fixed

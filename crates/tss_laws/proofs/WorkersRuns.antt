@@ -1,8 +1,8 @@
 -- A busy worker stands where it stood in program order as long as the storages of its operands are left.
-use Rattle.std.proofs.Common.{◌≡◌, ◌≢◌, ℕ, ◌≤◌, Bool, true, false, List, length, Option, Some, None, refl, sym, ap, ◌∙◌, subst, arith}
+use Rattle.std.proofs.Common.{◌≡◌, ◌≢◌, ℕ, ◌≤◌, true, false, List, length, Some, refl, sym, ap, ◌∙◌, subst}
 use Rattle.std.specs.Prelude.{slice_get}
 use Rattle.std.specs.FinMap.{get}
-use Rattle.std.proofs.lemmas.Option.{none-some, same_Some}
+use Rattle.std.proofs.lemmas.Option.{same_Some}
 use Rattle.tss_base.specs.declared.range.Range.{Range}
 use Rattle.tss_base.specs.declared.operand.OpName.{OpName}
 use Rattle.tss_base.specs.declared.operand.Operand.{Operand}
@@ -10,8 +10,7 @@ use Rattle.tss_base.specs.declared.operand.Task.{Task}
 use Rattle.tss_base.specs.declared.machine.Machine.{Machine}
 use Rattle.tss_base.specs.declared.event.Stage.TheVariants as stage
 use Rattle.tss_base.specs.Image.{ImageState}
-use Rattle.tss_base.specs.Range.{Covers}
-use Rattle.tss_model.specs.Memory.{MemoryRange, covers, byte_at, range_of, memory_ranges}
+use Rattle.tss_model.specs.Memory.{MemoryRange, covers, byte_at, range_of}
 use Rattle.tss_model.specs.Access.{operands_of}
 use Rattle.tss_model.specs.InOrder.{Started, started_at}
 use Rattle.tss_protocol.specs.Names.{operand_name}
@@ -36,7 +35,7 @@ use Rattle.tss_laws.proofs.StoreFrames.{IsBeside}
 use Rattle.tss_laws.proofs.StoreFollows.{RunsInOrder, runs-beside}
 use Rattle.tss_laws.proofs.Values.{Starts, HasWorkers}
 use Rattle.tss_laws.proofs.WorkersHold.{IsHeld}
-use Rattle.tss_laws.proofs.WorkersApart.{scope_left, held, task_separate, task_beside, holder_beside}
+use Rattle.tss_laws.proofs.WorkersApart.{scope_left, held, task_separate, holder_beside}
 
 -- memory that can't be written shows at home what was loaded there
 abbrev pub SameFixed : ImageState → State → State → Type 0
@@ -59,7 +58,8 @@ runs_with m i x b r s starts =
     let same = one_place i m.limits starts.0 r.place s t starts.1 r.started starts.2 in
     (r, same_Some s t (sym starts.1 ∙ ap (started_at i m.limits) same ∙ r.started))
 
-module _ (m : Machine) (i : ImageState) (all ts : List Task) (g : Arrivals) (S : State) (ground : HasGroundwork m all ts S)
+module _ (m : Machine) (i : ImageState) (all ts : List Task) (g : Arrivals) (S : State)
+    (ground : HasGroundwork m all ts S)
     (control : IsControlled ts g S) (buffers : HasBuffers ts S) (image : HasGround i S) (workers : HasWorkers m i S)
   where
     -- ---- what a worker has

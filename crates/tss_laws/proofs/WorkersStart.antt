@@ -1,11 +1,10 @@
--- A start: the task that begins finds its operands, and stands where program order has it. Other workers stand where they
--- stood.
-use Rattle.std.proofs.Common.{◌≡◌, ◌≢◌, inl, inr, ℕ, suc, ◌≤◌, Bool, true, false, List, [], ◌∷◌, length, Option, Some, None, refl, sym, ap, ◌∙◌, subst, arith, true≢false}
-use Rattle.std.specs.Prelude.{slice_get, unwrap_or, ◌&&◌, ◌||◌}
-use Rattle.std.specs.List.{list_any}
-use Rattle.std.specs.FinMap.{get, insert}
+-- A start: the task that begins finds its operands, and stands where program order has it. Other workers stand where
+-- they stood.
+use Rattle.std.proofs.Common.{◌≡◌, ◌≢◌, inl, inr, ℕ, suc, true, false, List, [], ◌∷◌, length, Option, Some, None, refl, sym, ap, ◌∙◌, subst, arith, true≢false}
+use Rattle.std.specs.Prelude.{slice_get, unwrap_or, ◌&&◌}
+use Rattle.std.specs.FinMap.{get}
 use Rattle.std.proofs.lemmas.Bool.{and_parts, or_cases}
-use Rattle.std.proofs.lemmas.Option.{none-some, same_Some}
+use Rattle.std.proofs.lemmas.Option.{same_Some}
 use Rattle.tss_base.specs.declared.range.Range.{Range}
 use Rattle.tss_base.specs.declared.operand.Mode.{Mode}
 use Rattle.tss_base.specs.declared.operand.Mode.TheVariants.{Input, Output, Inout}
@@ -15,17 +14,15 @@ use Rattle.tss_base.specs.declared.machine.Machine.{Machine}
 use Rattle.tss_base.specs.declared.event.Event.TheVariants as event
 use Rattle.tss_base.specs.declared.event.Stage.TheVariants as stage
 use Rattle.tss_base.specs.Image.{ImageState, IsAccepted}
-use Rattle.tss_base.specs.Range.{Covers}
 use Rattle.tss_maps.proofs.Keys.{nat_order}
 use Rattle.tss_maps.proofs.Changes.{from_inserted}
 use Rattle.tss_maps.proofs.Places.{find_there}
 use Rattle.tss_model.specs.Memory.{MemoryRange, Memory, covers, byte_at, range_of, memory_ranges, loaded}
 use Rattle.tss_model.specs.Access.{operands_of, reads, writes}
-use Rattle.tss_model.specs.InOrder.{Started, started_at, flat_stepped}
+use Rattle.tss_model.specs.InOrder.{started_at}
 use Rattle.tss_protocol.specs.Mail.{StorageName, Buffer}
 use Rattle.tss_protocol.specs.State.{State, Flying, Busy}
 use Rattle.tss_protocol.specs.Stations.{is_complete, storages_of}
-use Rattle.tss_protocol.specs.Buffers.{buffer_bytes}
 use Rattle.tss_protocol.specs.Workers.{Stores, Placed, placed_in, placed_at, byte_in, worker_byte, busy_with, busy_at_start, outputs_zeroed}
 use Rattle.tss_protocol.specs.UnitMachine.{stores_of, after_event, start_task, after_start}
 use Rattle.tss_laws.specs.Buffers.{HasBuffers}
@@ -33,7 +30,7 @@ use Rattle.tss_laws.specs.Readers.{Arrivals}
 use Rattle.tss_laws.specs.Control.{HasGroundwork, IsControlled}
 use Rattle.tss_laws.proofs.FlatFixed.{IsFixed, fixed_apart, flat_stepped-fixed}
 use Rattle.tss_laws.proofs.FlatOperands.{IsFit}
-use Rattle.tss_laws.proofs.FlatOrder.{flat_stepped-ranges, started_at-by}
+use Rattle.tss_laws.proofs.FlatOrder.{started_at-by}
 use Rattle.tss_laws.proofs.FlatStarted.{started-fit}
 use Rattle.tss_laws.proofs.FlatTaskRuns.{is_read}
 use Rattle.tss_laws.proofs.QueueLemmas.{in_queue, at_front}
@@ -41,7 +38,7 @@ use Rattle.tss_laws.proofs.RunKeeps.{HasGround, outputs_zeroed-ranges}
 use Rattle.tss_laws.proofs.StageEvents.{length-storages}
 use Rattle.tss_laws.proofs.StageLemmas.{queued≢running}
 use Rattle.tss_laws.proofs.StoredSettled.{FindsLeft}
-use Rattle.tss_laws.proofs.StoreBytes.{IsPlaced, AreSeparate, covers_parts, worker_byte-there}
+use Rattle.tss_laws.proofs.StoreBytes.{AreSeparate, covers_parts, worker_byte-there}
 use Rattle.tss_laws.proofs.StoreStart.{FindsOperands, placed_in-parts}
 use Rattle.tss_laws.proofs.StoreFollows.{RunsInOrder, runs-start}
 use Rattle.tss_laws.proofs.Values.{Starts, HasWorkers, HasStored, HasRoom, HasMain}
@@ -67,7 +64,8 @@ reads_unwritten Input unwritten = refl
 reads_unwritten Output unwritten = absurd (unwritten refl)
 reads_unwritten Inout unwritten = refl
 
-module _ (m : Machine) (i : ImageState) (all ts : List Task) (g : Arrivals) (S : State) (ground : HasGroundwork m all ts S)
+module _ (m : Machine) (i : ImageState) (all ts : List Task) (g : Arrivals) (S : State)
+    (ground : HasGroundwork m all ts S)
     (control : IsControlled ts g S) (buffers : HasBuffers ts S) (image : HasGround i S) (workers : HasWorkers m i S)
     (accepted : IsAccepted i) (fixed : (a : ℕ) → IsFixed i a → byte_at S.home a ≡ byte_at (loaded i) a)
     (stored : HasStored m i ts S) (room : HasRoom m ts S) (finds : FindsLeft m i ts) (main : HasMain m i all S) where
@@ -202,6 +200,7 @@ module _ (m : Machine) (i : ImageState) (all ts : List Task) (g : Arrivals) (S :
   by_queue w (n ∷ rest) queue left = by_task w n rest queue (get S.flight n) refl left
 
   -- start
-  pub runs_start : (w : ℕ) → SameFixed i S (after_event m S (event.Start w)) → AllRun m i (after_event m S (event.Start w))
+  pub runs_start : (w : ℕ) → SameFixed i S (after_event m S (event.Start w))
+      → AllRun m i (after_event m S (event.Start w))
   unfolding after_event
   runs_start w left = by_queue w S.queue refl left

@@ -1,9 +1,9 @@
--- Every event leaves each busy worker with the task in flight under its number, and with the storages that this was told.
-use Rattle.std.proofs.Common.{◌≡◌, ◌≢◌, ℕ, Bool, true, false, if◌then◌else◌, List, ◌∷◌, Option, Some, None, refl, sym, ap, ◌∙◌, subst, inl, inr, arith, true≢false}
-use Rattle.std.specs.Prelude.{◌&&◌}
+-- Every event leaves each busy worker with the task in flight under its number, and with the storages that this was
+-- told.
+use Rattle.std.proofs.Common.{◌≡◌, ◌≢◌, ℕ, Bool, true, false, if◌then◌else◌, List, Option, Some, None, refl, sym, ap, ◌∙◌, subst, inl, inr, arith, true≢false}
 use Rattle.std.specs.FinMap.{get, insert, remove}
 use Rattle.std.proofs.lemmas.Bool.{and_parts}
-use Rattle.std.proofs.lemmas.Option.{none-some, same_Some}
+use Rattle.std.proofs.lemmas.Option.{none-some}
 use Rattle.tss_base.specs.declared.operand.OpName.{OpName}
 use Rattle.tss_base.specs.declared.operand.Task.{Task}
 use Rattle.tss_base.specs.declared.machine.Machine.{Machine}
@@ -13,20 +13,17 @@ use Rattle.tss_base.specs.Names.{Numbered}
 use Rattle.tss_maps.proofs.Keys.{nat_order, decide_key}
 use Rattle.tss_maps.proofs.Changes.{at_inserted, beside_inserted, from_inserted, beside_removed, from_removed, one_value}
 use Rattle.tss_protocol.specs.State.{State, Flying, Busy}
-use Rattle.tss_protocol.specs.Stations.{is_gone, has_finished, remaining_tasks, entered, storages_of, flight_after_start, finished_in, awaited, task_after_ready}
+use Rattle.tss_protocol.specs.Stations.{is_gone, has_finished, remaining_tasks, entered, storages_of, finished_in, awaited, task_after_ready}
 use Rattle.tss_protocol.specs.Workers.{busy_at_start}
 use Rattle.tss_protocol.specs.UnitMachine.{IsEnabled, after_event}
-use Rattle.tss_laws.specs.Tasks.{spawned_after_event}
 use Rattle.tss_laws.specs.Control.{HasGroundwork, IsControlled}
 use Rattle.tss_laws.specs.Readers.{Arrivals}
 use Rattle.tss_laws.proofs.FrontLemmas.{KeepsFront}
-use Rattle.tss_laws.proofs.SpawnLemmas.{SpawnsOne}
 use Rattle.tss_laws.proofs.TakeLemmas.{TakesTask}
 use Rattle.tss_laws.proofs.NumberLemmas.{taken_newest, last_taken_before}
 use Rattle.tss_laws.proofs.BackLemmas.{Standing, standing_by, standing_of, ReadiesOperand, ChangesTask, StartsTask, ExecutesTask, FinishesTask, kept_by_standing}
 use Rattle.tss_laws.proofs.StageLemmas.{waiting≢running}
 use Rattle.tss_laws.proofs.HoldersStages.{IsRunning, waits}
-use Rattle.tss_laws.proofs.HoldersRunners.{Runs}
 
 -- a task in flight is that of a worker, with the storages that it has
 pub record IsToldTo (flight : Numbered Flying) (b : Busy) : Type 0 where
