@@ -288,6 +288,7 @@ pub mod ValuesHomeGone
 pub mod ValuesEvents
 pub mod WorkersStart
 pub mod FlatUnnamed
+pub mod ValuesFinds
 pub mod ValuesFirst
 pub mod WorkersEvents
 pub mod NamingMain

@@ -1,24 +1,15 @@
 -- Every event keeps the values, where what is left of it does.
-use Rattle.std.proofs.Common.{◌≡◌, ◌⊎◌, ℕ, List, [], Some}
-use Rattle.std.specs.FinMap.{get}
-use Rattle.tss_base.specs.declared.operand.OpName.{OpName}
+use Rattle.std.proofs.Common.{ℕ, List, [], ◌∙◌}
 use Rattle.tss_base.specs.declared.operand.Task.{Task}
 use Rattle.tss_base.specs.declared.machine.Machine.{Machine}
 use Rattle.tss_base.specs.declared.event.Event.{Event}
 use Rattle.tss_base.specs.declared.event.Event.TheVariants as event
-use Rattle.tss_base.specs.Image.{ImageState, IsAccepted}
-use Rattle.tss_base.specs.Machine.{IsAdmissible}
+use Rattle.tss_base.specs.Image.{ImageState}
 use Rattle.tss_protocol.specs.State.{State, initial_state}
-use Rattle.tss_protocol.specs.UnitMachine.{IsEnabled, after_event}
-use Rattle.tss_protocol.specs.Needs.{round_after_event, round_of}
-use Rattle.tss_protocol.specs.Run.{IsRun}
-use Rattle.tss_phases.specs.Orderly.{KeepsOrder}
-use Rattle.tss_laws.specs.Tasks.{spawned_after_event, spawned_tasks}
-use Rattle.tss_laws.specs.Readers.{Arrivals, arrivals_from, no_arrivals}
-use Rattle.tss_laws.specs.Buffers.{HasBuffers}
-use Rattle.tss_laws.specs.Control.{HasGroundwork, IsControlled}
-use Rattle.tss_laws.proofs.RunKeeps.{HasGround, HasGround-run}
-use Rattle.tss_laws.proofs.FlatPieces.{NoneAfter}
+use Rattle.tss_protocol.specs.Needs.{round_of}
+use Rattle.tss_laws.specs.Tasks.{spawned_tasks}
+use Rattle.tss_laws.specs.Readers.{arrivals_from, no_arrivals}
+use Rattle.tss_laws.proofs.RunKeeps.{HasGround-run}
 use Rattle.tss_laws.proofs.MainEvent.{pieces-run}
 use Rattle.tss_laws.proofs.GroundworkRuns.{HasGroundwork-Run}
 use Rattle.tss_laws.proofs.GroundworkControl.{IsControlled-Run}
@@ -26,7 +17,7 @@ use Rattle.tss_laws.proofs.HoldersKeepsOrder.{keeps_order}
 use Rattle.tss_laws.proofs.BuffersEvents.{HasBuffers-Run}
 use Rattle.tss_laws.proofs.RoomyEvents.{HasRoom-after_event}
 use Rattle.tss_laws.proofs.FindsLeft.{finds_left}
-use Rattle.tss_laws.proofs.StoredSettled.{FindsLeft}
+use Rattle.tss_laws.proofs.NamingMain.{HasNaming-after_event}
 use Rattle.tss_laws.proofs.StoredQuiet.{HasStored-decode, HasStored-ack, HasStored-ready, HasStored-link, HasStored-bye, HasStored-idle, HasStored-retire, HasStored-use}
 use Rattle.tss_laws.proofs.StoredTaken.{HasStored-take, HasStored-gone}
 use Rattle.tss_laws.proofs.StoredReleased.{HasStored-release, HasStored-nack}
@@ -37,59 +28,40 @@ use Rattle.tss_laws.proofs.ValuesReturnsEvents.{copied_room, HasReturns-beside}
 use Rattle.tss_laws.proofs.ValuesHomeEvents.{HasHome-ack, HasHome-open, HasHome-use, HasHome-release, HasHome-nack, HasHome-retire, HasHome-idle, HasHome-ready, HasHome-link, HasHome-bye, HasHome-finish, HasHome-take}
 use Rattle.tss_laws.proofs.ValuesHomeCopy.{HasHome-copy}
 use Rattle.tss_laws.proofs.ValuesHomeDecode.{HasHome-decode}
-use Rattle.tss_laws.proofs.BoundObjects.{HaveFitObjects, no_objects, HaveFitObjects-after_event}
-use Rattle.tss_laws.proofs.RunLemmas.{kept_after}
 use Rattle.tss_laws.proofs.TrapsHeld.{HasTraps, HasTraps-after_event}
-use Rattle.tss_laws.proofs.ValuesJoin.{ValueFact, IsValueKept}
-use Rattle.tss_laws.proofs.Values.{HasStored, HasWorkers, HasReturns, HasHome, HasRoom, HasMain, HasNaming, HasValues}
-
--- what an event that may happen finds in a state that a run leaves
-pub record Finds (m : Machine) (i : ImageState) (all ts : List Task) (g : Arrivals) (S : State) : Type 0 where
-  pub accepted : IsAccepted i
-  pub admissible : IsAdmissible m
-  pub ground : HasGroundwork m all ts S
-  pub control : IsControlled ts g S
-  pub buffers : HasBuffers ts S
-  pub code : HasGround i S
-  pub pieces : NoneAfter S.main.spawned S.main.pieces
-  pub fit : HaveFitObjects m.limits all
-  pub values : HasValues m i all ts S
-
--- it keeps a part of the values
-abbrev pub IsPartKept : Event → ValueFact → Type 0
-IsPartKept e P =
-    (m : Machine) (i : ImageState) (all ts : List Task) (g : Arrivals) (S : State)
-    → Finds m i all ts g S
-    → IsEnabled m S e
-    → P m i (spawned_after_event m S all e) (round_after_event m S ts e) (after_event m S e)
+use Rattle.tss_laws.proofs.ValuesJoin.{IsValueKept, values_of_run, result_of_values, HaveValues}
+use Rattle.tss_laws.proofs.MainEndings.{EndsItself-Run}
+use Rattle.tss_laws.proofs.FixedBytes.{HasFixed, HasFixed-initial_state, same_fixed}
+use Rattle.tss_laws.proofs.StoredMain.{HasStored-main}
+use Rattle.tss_laws.proofs.StoredFinish.{HasStored-finish}
+use Rattle.tss_laws.proofs.ValuesHomeGone.{HasHome-gone}
+use Rattle.tss_laws.proofs.Values.{HasStored, HasWorkers, HasReturns, HasHome, HasMain, HasValues}
+use Rattle.tss_laws.proofs.WorkersEvents.{HasWorkers-after_event}
+use Rattle.tss_laws.proofs.ValuesFirst.{HasValues-initial_state}
+use Rattle.tss_laws.proofs.ValuesFinds.{IsPartKept, fit_run, bytes_run, placed_run, operands_run, outputs_run}
+use Rattle.tss_laws.specs.Refinement.{ResultLaw}
 
 -- the parts that are shown elsewhere
 pub record KeepsRest : Type 0 where
-  pub workers : (e : Event) → IsPartKept e (λ m i all ts S. HasWorkers m i S)
-  pub naming : (e : Event) → IsPartKept e HasNaming
-  pub stored_main : IsPartKept event.Main (λ m i all ts S. HasStored m i ts S)
   pub stored_start : (w : ℕ) → IsPartKept (event.Start w) (λ m i all ts S. HasStored m i ts S)
   pub stored_exec : (w : ℕ) → IsPartKept (event.Exec w) (λ m i all ts S. HasStored m i ts S)
-  pub stored_finish : (w : ℕ) → IsPartKept (event.Finish w) (λ m i all ts S. HasStored m i ts S)
   pub returns_start : (w : ℕ) → IsPartKept (event.Start w) (λ m i all ts S. HasReturns m i ts S)
   pub returns_exec : (w : ℕ) → IsPartKept (event.Exec w) (λ m i all ts S. HasReturns m i ts S)
   pub home_main : IsPartKept event.Main (λ m i all ts S. HasHome m i ts S)
   pub home_start : (w : ℕ) → IsPartKept (event.Start w) (λ m i all ts S. HasHome m i ts S)
   pub home_exec : (w : ℕ) → IsPartKept (event.Exec w) (λ m i all ts S. HasHome m i ts S)
-  pub home_gone : (v : OpName) → IsPartKept (event.Gone v) (λ m i all ts S. HasHome m i ts S)
 
--- objects of spawned tasks are fit in every run
-fit_run : (m : Machine) (i : ImageState) (es : List Event) (S : State) → IsRun m i es S
-    → HaveFitObjects m.limits (spawned_tasks m i es)
-fit_run m i es S run =
-    kept_after (λ m all S. HaveFitObjects m.limits all) (λ m all S e fit on. HaveFitObjects-after_event m all S fit e) m es []
-    (initial_state i) S (no_objects m.limits) run
+-- the values, and what can't be written as loaded
+record HasCarried (m : Machine) (i : ImageState) (all ts : List Task) (S : State) : Type 0 where
+  values : HasValues m i all ts S
+  fixed : HasFixed i S
 
 module _ (rest : KeepsRest) where
   -- ---- storages
 
   keeps_stored : (e : Event) → IsPartKept e (λ m i all ts S. HasStored m i ts S)
-  keeps_stored event.Main m i all ts g S f on = rest.stored_main m i all ts g S f on
+  keeps_stored event.Main m i all ts g S f on =
+      HasStored-main m i all ts S f.ground f.control.chains f.values.stored on
   keeps_stored event.Take m i all ts g S f on = HasStored-take m i all ts g S f.ground f.values.stored on
   keeps_stored (event.Decode o) m i all ts g S f on = HasStored-decode m i ts g S f.control f.values.stored o on
   keeps_stored (event.Ack o) m i all ts g S f on = HasStored-ack m i ts g S f.control f.values.stored o on
@@ -106,7 +78,8 @@ module _ (rest : KeepsRest) where
       (keeps_order m all ts g S f.ground f.control (event.Link o))
   keeps_stored (event.Start w) m i all ts g S f on = rest.stored_start w m i all ts g S f on
   keeps_stored (event.Exec w) m i all ts g S f on = rest.stored_exec w m i all ts g S f on
-  keeps_stored (event.Finish w) m i all ts g S f on = rest.stored_finish w m i all ts g S f on
+  keeps_stored (event.Finish w) m i all ts g S f on =
+      HasStored-finish m i all ts g S f.ground f.control f.values.stored f.values.workers w on
   keeps_stored (event.Release o) m i all ts g S f on =
       HasStored-release m i all ts g S f.ground f.control f.values.stored
       (finds_left m i all ts S f.ground f.values.main f.values.naming) o on
@@ -199,7 +172,9 @@ module _ (rest : KeepsRest) where
   keeps_home (event.Retire v) m i all ts g S f on = HasHome-retire m i all ts g S f.ground f.control f.values.home v on
   keeps_home (event.Copy b) m i all ts g S f on =
       HasHome-copy m i all ts g S f.ground f.control f.values.returns f.values.home b on
-  keeps_home (event.Gone v) m i all ts g S f on = rest.home_gone v m i all ts g S f on
+  keeps_home (event.Gone v) m i all ts g S f on =
+      HasHome-gone m i all ts g S f.ground f.control f.values.main f.values.naming f.values.returns f.values.home f.bytes
+      f.placed f.own v on
 
   -- ---- main and the whole
 
@@ -218,24 +193,37 @@ module _ (rest : KeepsRest) where
         judged = traps.judged;
       }
 
-  values_after : (e : Event) → IsPartKept e HasValues
-  values_after e m i all ts g S f on = record {
-    stored = keeps_stored e m i all ts g S f on;
-    workers = rest.workers e m i all ts g S f on;
-    returns = keeps_returns e m i all ts g S f on;
-    home = keeps_home e m i all ts g S f on;
-    room = HasRoom-after_event m all ts g S f.ground f.control f.values.room f.buffers e on;
-    main = keeps_main e m i all ts g S f on;
-    naming = rest.naming e m i all ts g S f on;
+  keeps_workers : (e : Event) → IsPartKept e (λ m i all ts S. HasWorkers m i S)
+  keeps_workers e m i all ts g S f on =
+      HasWorkers-after_event m i all ts g S f.ground f.control f.buffers f.code f.accepted f.fixed
+      (λ e a fixed. same_fixed m i f.accepted all ts g S f.ground f.control f.buffers f.code f.values.workers f.values.returns
+      f.operands f.outputs a fixed e)
+      (finds_left m i all ts S f.ground f.values.main f.values.naming) f.values e on
+
+  carried_after : (e : Event) → IsPartKept e HasCarried
+  carried_after e m i all ts g S f on = record {
+    values = record {
+      stored = keeps_stored e m i all ts g S f on;
+      workers = keeps_workers e m i all ts g S f on;
+      returns = keeps_returns e m i all ts g S f on;
+      home = keeps_home e m i all ts g S f on;
+      room = HasRoom-after_event m all ts g S f.ground f.control f.values.room f.buffers e on;
+      main = keeps_main e m i all ts g S f on;
+      naming =
+      HasNaming-after_event m i all ts g S f.ground f.code f.pieces f.values.home f.values.main f.values.naming e on;
+    };
+    fixed =
+    λ a fixed. same_fixed m i f.accepted all ts g S f.ground f.control f.buffers f.code f.values.workers f.values.returns
+    f.operands f.outputs a fixed e ∙ f.fixed a fixed;
   }
 
   -- every event keeps the values
-  pub keeps_values : IsValueKept HasValues
-  keeps_values m i es S e accepted admissible run values on =
+  keeps_carried : IsValueKept HasCarried
+  keeps_carried m i es S e accepted admissible run h on =
       let all = spawned_tasks m i es in
       let ts = round_of m (initial_state i) es in
       let g = arrivals_from m (initial_state i) no_arrivals es in
-      values_after e m i all ts g S (record {
+      carried_after e m i all ts g S (record {
         accepted = accepted;
         admissible = admissible;
         ground = HasGroundwork-Run m i es S run;
@@ -244,5 +232,22 @@ module _ (rest : KeepsRest) where
         code = HasGround-run m i es S run;
         pieces = pieces-run m i es S run;
         fit = fit_run m i es S run;
-        values = values;
+        own = EndsItself-Run m i es S run;
+        bytes = bytes_run m i es S run;
+        placed = placed_run m i accepted admissible es S run;
+        operands = operands_run m i accepted admissible es S run;
+        outputs = outputs_run m i accepted admissible es S run;
+        fixed = h.fixed;
+        values = h.values;
       }) on
+
+  -- every run has them
+  pub HasValues-Run : HaveValues
+  HasValues-Run m i es S accepted admissible run =
+      let first : HasCarried m i [] [] (initial_state i) =
+      record { values = HasValues-initial_state m i; fixed = HasFixed-initial_state i } in
+      (values_of_run HasCarried keeps_carried m i accepted admissible first es S run).values
+
+  -- so a finished run has the result of program order
+  pub result_of_rest : ResultLaw
+  result_of_rest = result_of_values HasValues-Run

@@ -121,15 +121,22 @@ module _ (P : ValueFact) (kept : IsValueKept P) (m : Machine) (i : ImageState) (
 
 -- ---- the result
 
--- where every event keeps the values, a finished run has the result of program order
-pub result_of_values : IsValueKept HasValues
-    → ((m : Machine) (i : ImageState) → IsAccepted i → IsAdmissible m → HasValues m i [] [] (initial_state i))
-    → ResultLaw
-result_of_values kept first m i es S accepted admissible run finished =
+-- every run has the values
+abbrev pub HaveValues : Type 0
+HaveValues =
+    (m : Machine) (i : ImageState) (es : List Event) (S : State)
+    → IsAccepted i
+    → IsAdmissible m
+    → IsRun m i es S
+    → HasValues m i (spawned_tasks m i es) (round_of m (initial_state i) es) S
+
+-- then a finished run has the result of program order
+pub result_of_values : HaveValues → ResultLaw
+result_of_values have m i es S accepted admissible run finished =
     let all = spawned_tasks m i es in
     let ts = round_of m (initial_state i) es in
     let g = arrivals_from m (initial_state i) no_arrivals es in
-    let values = values_of_run HasValues kept m i accepted admissible (first m i accepted admissible) es S run in
+    let values = have m i es S accepted admissible run in
     finished_result m i all ts g S (HasGroundwork-Run m i es S run) (IsControlled-Run m i es S run) values.home values.main
     (HasGround-run m i es S run) (no_task_trap S.main (EndsItself-Run m i es S run))
     (and_parts (is_drained S) (is_some S.main.ending || is_some S.trap) finished).0 finished
