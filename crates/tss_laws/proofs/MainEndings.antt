@@ -95,7 +95,8 @@ module _ (m : Machine) (S : State) (h : EndsItself S.main) where
   own_call (Some Print) = own_print m.limits S.home S.main (print_range S.main.registers) h
   own_call (Some (Unknown n)) = refl
 
-  own_main : EndsItself (after_event m S event.Main).main
+  -- main's event keeps it so
+  pub own_main : EndsItself (after_event m S event.Main).main
   unfolding after_event
   own_main = own_call (call_next m S)
 

@@ -32,6 +32,7 @@ use Rattle.tss_phases.proofs.MainEvent.{phase_of-main}
 use Rattle.tss_locality.specs.Rounds.{IsRounded}
 use Rattle.tss_locality.specs.Agreement.{operand_in}
 use Rattle.tss_locality.proofs.Subjects.{arrival_task}
+use Rattle.tss_locality.proofs.RunRounds.{IsRounded-after_event}
 use Rattle.tss_laws.specs.Members.{operand_among}
 use Rattle.tss_laws.specs.Readers.{Arrivals}
 use Rattle.tss_laws.specs.MainInOrder.{Agrees, FollowsAfter, IsCutOff, steps_taken, flat_beside, started_next, inbox_with, is_operand_of}
@@ -47,7 +48,7 @@ use Rattle.tss_laws.proofs.SpawnLemmas.{IsNext-spawn_of}
 use Rattle.tss_laws.proofs.GroundworkSpawn.{operand_among-more, from_operand_among, of_spawned, decoded_spawned}
 use Rattle.tss_laws.proofs.GroundworkEmpty.{IsBare, IsBare-drained}
 use Rattle.tss_laws.proofs.GroundworkMain.{KeepsControl, kept_main}
-use Rattle.tss_laws.proofs.MainEndings.{EndsItself, no_task_trap}
+use Rattle.tss_laws.proofs.MainEndings.{EndsItself, own_main, no_task_trap}
 use Rattle.tss_laws.proofs.NamingLemmas.{done_taken}
 use Rattle.tss_laws.proofs.WaitsUsers.{from_any}
 use Rattle.tss_laws.proofs.WaitsRound.{among_tasks}
@@ -158,13 +159,15 @@ cut_off_apart i m s own cut same =
 module _ (m : Machine) (i : ImageState) (all ts : List Task) (g : Arrivals) (S : State)
     (ground : HasGroundwork m all ts S) (k : IsControlled ts g S) (code : HasGround i S)
     (few : NoneAfter S.main.spawned S.main.pieces) (h : HasHome m i ts S) (main : HasMain m i all S)
-    (on : IsEnabled m S event.Main) (round : IsRounded (after_event m S event.Main) (round_after_event m S ts event.Main))
-    (own : EndsItself (after_event m S event.Main).main) where
+    (on : IsEnabled m S event.Main) (own : EndsItself S.main) where
   abbrev T : State
   T = after_event m S event.Main
 
   abbrev us : List Task
   us = round_after_event m S ts event.Main
+
+  round : IsRounded T us
+  round = IsRounded-after_event m S ts ground.round event.Main on
 
   kept : KeepsControl S T
   unfolding after_event
@@ -292,7 +295,7 @@ module _ (m : Machine) (i : ImageState) (all ts : List Task) (g : Arrivals) (S :
       by : (S.main ≡ (flat_beside i m.limits S.main).main) ⊎ IsCutOff i m.limits S.main → Agrees m i T a
       by (inl same) = by_round same (round_goes_on m ts S on)
       by (inr cut) =
-          absurd (cut_off_apart i m T.main own (cut_off_rises i m.limits S.main T.main (main_rises m S) cut) is)
+          absurd (cut_off_apart i m T.main (own_main m S own) (cut_off_rises i m.limits S.main T.main (main_rises m S) cut) is)
 
   -- ---- the first operand on an object
 
