@@ -27,6 +27,7 @@ use Rattle.tss_laws.proofs.ValuesMain.{follows-after_event, same-after_event}
 use Rattle.tss_laws.proofs.ValuesReturnsEvents.{copied_room, HasReturns-beside}
 use Rattle.tss_laws.proofs.ValuesHomeEvents.{HasHome-ack, HasHome-open, HasHome-use, HasHome-release, HasHome-nack, HasHome-retire, HasHome-idle, HasHome-ready, HasHome-link, HasHome-bye, HasHome-finish, HasHome-take}
 use Rattle.tss_laws.proofs.ValuesHomeCopy.{HasHome-copy}
+use Rattle.tss_laws.proofs.ValuesHomeMain.{HasHome-main}
 use Rattle.tss_laws.proofs.ValuesHomeDecode.{HasHome-decode}
 use Rattle.tss_laws.proofs.TrapsHeld.{HasTraps, HasTraps-after_event}
 use Rattle.tss_laws.proofs.ValuesJoin.{IsValueKept, values_of_run, result_of_values, HaveValues}
@@ -47,7 +48,6 @@ pub record KeepsRest : Type 0 where
   pub stored_exec : (w : ℕ) → IsPartKept (event.Exec w) (λ m i all ts S. HasStored m i ts S)
   pub returns_start : (w : ℕ) → IsPartKept (event.Start w) (λ m i all ts S. HasReturns m i ts S)
   pub returns_exec : (w : ℕ) → IsPartKept (event.Exec w) (λ m i all ts S. HasReturns m i ts S)
-  pub home_main : IsPartKept event.Main (λ m i all ts S. HasHome m i ts S)
   pub home_start : (w : ℕ) → IsPartKept (event.Start w) (λ m i all ts S. HasHome m i ts S)
   pub home_exec : (w : ℕ) → IsPartKept (event.Exec w) (λ m i all ts S. HasHome m i ts S)
 
@@ -154,7 +154,8 @@ module _ (rest : KeepsRest) where
   -- ---- home
 
   keeps_home : (e : Event) → IsPartKept e (λ m i all ts S. HasHome m i ts S)
-  keeps_home event.Main m i all ts g S f on = rest.home_main m i all ts g S f on
+  keeps_home event.Main m i all ts g S f on =
+      HasHome-main m i all ts g S f.ground f.control f.code f.pieces f.values.home f.values.main on f.own
   keeps_home event.Take m i all ts g S f on = HasHome-take m i all ts g S f.ground f.control f.values.home on
   keeps_home (event.Decode o) m i all ts g S f on = HasHome-decode m i all ts g S f.ground f.control f.values.home o on
   keeps_home (event.Ack o) m i all ts g S f on = HasHome-ack m i all ts g S f.ground f.control f.values.home o
