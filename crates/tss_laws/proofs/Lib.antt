@@ -264,6 +264,7 @@ pub mod StoredSettled
 pub mod StoredReleased
 pub mod StoredTaken
 pub mod WorkersRuns
+pub mod WorkersUnseen
 pub mod NamingLemmas
 pub mod LoadedBytes
 pub mod KeptBytes
@@ -278,6 +279,8 @@ pub mod UnfinishedTasks
 pub mod TrapsHeld
 pub mod ValuesHomeBeside
 pub mod ValuesHomeCopy
+pub mod ValuesHomeWorkers
+pub mod ValuesReturnsWorkers
 pub mod WorkersBeside
 pub mod StoredOpen
 pub mod ValuesJoin
