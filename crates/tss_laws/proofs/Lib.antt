@@ -296,3 +296,5 @@ pub mod ValuesFirst
 pub mod WorkersEvents
 pub mod NamingMain
 pub mod ValuesHomeMain
+pub mod ValuesWorkerLaw
+pub mod ValuesProducedLaw
