@@ -273,6 +273,7 @@ pub mod StoredCopy
 pub mod StoredMain
 pub mod StoredFinish
 pub mod StoredFirst
+pub mod StoredWorkers
 pub mod WorkersKept
 pub mod FindsLeft
 pub mod UnfinishedTasks
