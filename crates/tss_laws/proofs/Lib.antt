@@ -274,6 +274,7 @@ pub mod StoredMain
 pub mod StoredFinish
 pub mod StoredFirst
 pub mod StoredWorkers
+pub mod StoredExec
 pub mod WorkersKept
 pub mod FindsLeft
 pub mod UnfinishedTasks
