@@ -275,6 +275,7 @@ pub mod StoredFinish
 pub mod StoredFirst
 pub mod StoredWorkers
 pub mod StoredExec
+pub mod StoredStart
 pub mod WorkersKept
 pub mod FindsLeft
 pub mod UnfinishedTasks
