@@ -35,6 +35,8 @@ use Rattle.tss_laws.proofs.MainEndings.{EndsItself-Run}
 use Rattle.tss_laws.proofs.FixedBytes.{HasFixed, HasFixed-initial_state, same_fixed}
 use Rattle.tss_laws.proofs.StoredMain.{HasStored-main}
 use Rattle.tss_laws.proofs.StoredFinish.{HasStored-finish}
+use Rattle.tss_laws.proofs.ValuesHomeWorkers.{HasHome-start, HasHome-exec}
+use Rattle.tss_laws.proofs.ValuesReturnsWorkers.{HasReturns-start, HasReturns-exec}
 use Rattle.tss_laws.proofs.ValuesHomeGone.{HasHome-gone}
 use Rattle.tss_laws.proofs.Values.{HasStored, HasWorkers, HasReturns, HasHome, HasMain, HasValues}
 use Rattle.tss_laws.proofs.WorkersEvents.{HasWorkers-after_event}
@@ -46,10 +48,6 @@ use Rattle.tss_laws.specs.Refinement.{ResultLaw}
 pub record KeepsRest : Type 0 where
   pub stored_start : (w : ℕ) → IsPartKept (event.Start w) (λ m i all ts S. HasStored m i ts S)
   pub stored_exec : (w : ℕ) → IsPartKept (event.Exec w) (λ m i all ts S. HasStored m i ts S)
-  pub returns_start : (w : ℕ) → IsPartKept (event.Start w) (λ m i all ts S. HasReturns m i ts S)
-  pub returns_exec : (w : ℕ) → IsPartKept (event.Exec w) (λ m i all ts S. HasReturns m i ts S)
-  pub home_start : (w : ℕ) → IsPartKept (event.Start w) (λ m i all ts S. HasHome m i ts S)
-  pub home_exec : (w : ℕ) → IsPartKept (event.Exec w) (λ m i all ts S. HasHome m i ts S)
 
 -- the values, and what can't be written as loaded
 record HasCarried (m : Machine) (i : ImageState) (all ts : List Task) (S : State) : Type 0 where
@@ -100,8 +98,10 @@ module _ (rest : KeepsRest) where
   -- ---- what comes home
 
   keeps_returns : (e : Event) → IsPartKept e (λ m i all ts S. HasReturns m i ts S)
-  keeps_returns (event.Start w) m i all ts g S f on = rest.returns_start w m i all ts g S f on
-  keeps_returns (event.Exec w) m i all ts g S f on = rest.returns_exec w m i all ts g S f on
+  keeps_returns (event.Start w) m i all ts g S f on =
+      HasReturns-start m i all ts g S f.ground f.control f.buffers f.code f.values.workers f.values.returns w
+  keeps_returns (event.Exec w) m i all ts g S f on =
+      HasReturns-exec m i all ts g S f.ground f.control f.buffers f.code f.values.workers f.values.returns w
   keeps_returns event.Main m i all ts g S f on =
       HasReturns-beside m i all ts g S f.ground f.control f.fit f.values.stored f.buffers f.values.room f.values.returns
       event.Main tt on
@@ -163,8 +163,10 @@ module _ (rest : KeepsRest) where
   keeps_home (event.Use o) m i all ts g S f on = HasHome-use m i all ts g S f.ground f.control f.values.home o on
   keeps_home (event.Ready o) m i all ts g S f on = HasHome-ready m i all ts g S f.ground f.control f.values.home o on
   keeps_home (event.Link o) m i all ts g S f on = HasHome-link m i all ts g S f.ground f.control f.values.home o on
-  keeps_home (event.Start w) m i all ts g S f on = rest.home_start w m i all ts g S f on
-  keeps_home (event.Exec w) m i all ts g S f on = rest.home_exec w m i all ts g S f on
+  keeps_home (event.Start w) m i all ts g S f on =
+      HasHome-start m i all ts g S f.ground f.control f.values.home f.buffers f.code f.values.workers w on
+  keeps_home (event.Exec w) m i all ts g S f on =
+      HasHome-exec m i all ts g S f.ground f.control f.values.home f.buffers f.code f.values.workers w on
   keeps_home (event.Finish w) m i all ts g S f on = HasHome-finish m i all ts g S f.ground f.control f.values.home w on
   keeps_home (event.Release o) m i all ts g S f on = HasHome-release m i all ts g S f.ground f.control f.values.home o on
   keeps_home (event.Bye o) m i all ts g S f on = HasHome-bye m i all ts g S f.ground f.control f.values.home o on
