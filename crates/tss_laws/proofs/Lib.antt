@@ -301,3 +301,5 @@ pub mod NamingMain
 pub mod ValuesHomeMain
 pub mod ValuesWorkerLaw
 pub mod ValuesProducedLaw
+pub mod UndecodedOperands
+pub mod RoundSteps

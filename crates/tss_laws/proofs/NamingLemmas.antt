@@ -1,8 +1,7 @@
--- Two operands of the round on one object with no writer between: in program order the later task finds what the earlier
--- one leaves.
-use Rattle.std.proofs.Common.{◌≡◌, ℕ, zero, suc, ◌+◌, ◌-◌, ◌<◌, ◌≤◌, ◌⊎◌, inl, inr, Bool, true, false, ◌&&◌, Option, Some, None, List, [], ◌∷◌, length, refl, sym, ap, ◌∙◌, subst, arith, true≢false, cond}
-use Rattle.std.specs.Prelude.{slice_get, is_some, option_map, if◌then◌else◌, ◌==◌}
-use Rattle.std.specs.List.{list_any}
+-- Two operands of the round on one object with no writer between: in program order the later task finds what the
+-- earlier one leaves.
+use Rattle.std.proofs.Common.{◌≡◌, ℕ, suc, ◌+◌, ◌-◌, ◌<◌, ◌≤◌, ◌⊎◌, inl, inr, Bool, true, false, ◌&&◌, Option, Some, None, List, [], ◌∷◌, length, refl, sym, ap, ◌∙◌, arith, true≢false, cond}
+use Rattle.std.specs.Prelude.{slice_get, option_map}
 use Rattle.std.proofs.lemmas.Bool.{and_parts, cases_lt, cases_order}
 use Rattle.std.proofs.lemmas.Option.{none-some, same_Some, slice_get-map}
 use Rattle.tss_base.specs.declared.range.Range.{Range}
@@ -10,13 +9,12 @@ use Rattle.tss_base.specs.declared.operand.OpName.{OpName}
 use Rattle.tss_base.specs.declared.operand.Operand.{Operand}
 use Rattle.tss_base.specs.declared.operand.Task.{Task}
 use Rattle.tss_base.specs.declared.ending.Trap.{Trap}
-use Rattle.tss_base.specs.declared.ending.Ending.{Ending}
 use Rattle.tss_base.specs.declared.machine.Machine.{Machine}
 use Rattle.tss_base.specs.Image.{ImageState}
 use Rattle.tss_model.specs.Memory.{frozen, bytes_of}
 use Rattle.tss_model.specs.Access.{writes, operands_of}
 use Rattle.tss_model.specs.Spawn.{same_range, objects_of}
-use Rattle.tss_model.specs.MainStep.{MainState, Flat}
+use Rattle.tss_model.specs.MainStep.{MainState}
 use Rattle.tss_model.specs.InOrder.{Started, is_executed, flat_stepped, started_at, started_in, end_of_started}
 use Rattle.tss_protocol.specs.Names.{operand_name}
 use Rattle.tss_protocol.specs.State.{State}
@@ -25,15 +23,15 @@ use Rattle.tss_laws.specs.Tasks.{task_at}
 use Rattle.tss_laws.specs.MainInOrder.{steps_taken, flat_beside, IsCutOff}
 use Rattle.tss_laws.specs.Control.{HasGroundwork}
 use Rattle.tss_laws.proofs.FlatNames.{Has, Has-at, same_range-equal}
-use Rattle.tss_laws.proofs.FlatNaming.{writes_object, IsUnbroken, left_found, left_stays, unwritten_left}
-use Rattle.tss_laws.proofs.FlatNumbers.{HasNumber, number_there, numbers_rise, one_place, spawned_rises, step_one}
+use Rattle.tss_laws.proofs.FlatNaming.{writes_object, IsUnbroken, left_stays, unwritten_left}
+use Rattle.tss_laws.proofs.FlatNumbers.{number_there, numbers_rise, one_place, spawned_rises, step_one}
 use Rattle.tss_laws.proofs.FlatOrder.{trapped_after, started_at-by}
 use Rattle.tss_laws.proofs.FlatStarts.{started-number, task_started-by}
 use Rattle.tss_laws.proofs.NumberLemmas.{at_newest, still_at}
 use Rattle.tss_laws.proofs.GroundworkSpawn.{of_spawned}
 use Rattle.tss_laws.proofs.WaitsUsers.{from_any}
 use Rattle.tss_laws.proofs.WaitsRound.{among_tasks}
-use Rattle.tss_laws.proofs.Values.{Starts, RunsOut, IsKnown, IsGood, bytes_before, bytes_after, HasMain, HasNaming}
+use Rattle.tss_laws.proofs.Values.{Starts, RunsOut, bytes_before, bytes_after, HasMain, HasNaming}
 
 -- each number up to those spawned is that of a task
 pub task_there : (ts : List Task) (n : ℕ) → 1 ≤ n → n ≤ length ts → (t : Task) × (task_at ts n ≡ Some t)

@@ -1,6 +1,6 @@
 -- What stands at home after an event that writes there only in objects that have an entry, and not in one whose first
 -- version is being opened.
-use Rattle.std.proofs.Common.{◌≡◌, ℕ, ◌+◌, ◌<◌, ◌≤◌, nat_le, nat_lt, Bool, true, false, List, Option, Some, None, refl, sym, ap, ◌∙◌, subst}
+use Rattle.std.proofs.Common.{◌≡◌, ℕ, ◌+◌, ◌<◌, ◌≤◌, nat_le, nat_lt, true, List, Option, Some, None, sym, ap, ◌∙◌, subst}
 use Rattle.std.specs.Prelude.{unwrap_or}
 use Rattle.std.specs.FinMap.{get}
 use Rattle.std.proofs.lemmas.Bool.{and_from, le-leb, lt-ltb}
@@ -57,8 +57,8 @@ operand_named S ts r o p e =
     r.named f.place f.task f.there o.place p (arrival_operand f.task o p f.arrives)
 
 -- two operands whose objects share an address have one object
-pub one_inside : (S : State) (ts : List Task) → IsRounded S ts → (o q : OpName) (p r : Operand) → operand_among ts o ≡ Some p
-    → operand_among ts q ≡ Some r → (a : ℕ) → IsInside p.object a → IsInside r.object a → p.object ≡ r.object
+pub one_inside : (S : State) (ts : List Task) → IsRounded S ts → (o q : OpName) (p r : Operand)
+    → operand_among ts o ≡ Some p → operand_among ts q ≡ Some r → (a : ℕ) → IsInside p.object a → IsInside r.object a → p.object ≡ r.object
 one_inside S ts round o q p r e d a in_p in_r =
     round.separate.one p.object r.object (operand_named S ts round o p e) (operand_named S ts round q r d)
     (covers-meet p.object r.object a (inside_covers p.object a in_p) (inside_covers r.object a in_r))

@@ -1,10 +1,9 @@
 -- What stands at home after main's event: its stores lie beside all named objects, and the first operand on an object
 -- finds what main has there.
-use Rattle.std.proofs.Common.{◌≡◌, ℕ, zero, suc, ◌+◌, ◌-◌, ◌<◌, ◌≤◌, nat_le, nat_lt, ◌⊎◌, inl, inr, Bool, true, false, ◌&&◌, List, [], ◌∷◌, ◌++◌, append-nil, length, Option, Some, None, is_none, Result, Ok, Err, refl, sym, ap, ◌∙◌, subst, arith, true≢false}
-use Rattle.std.specs.Prelude.{is_some, unwrap_or, option_to_list, slice_get, ◌==◌}
+use Rattle.std.proofs.Common.{◌≡◌, ℕ, suc, ◌<◌, ◌⊎◌, inl, inr, Bool, true, false, List, [], ◌∷◌, ◌++◌, length, Option, Some, None, refl, sym, ap, ◌∙◌, subst, arith, true≢false}
+use Rattle.std.specs.Prelude.{is_some, unwrap_or, slice_get}
 use Rattle.std.specs.List.{list_any}
-use Rattle.std.specs.FinMap.{get, len}
-use Rattle.std.proofs.lemmas.Bool.{and_parts, leb-true, ltb-true}
+use Rattle.std.specs.FinMap.{get}
 use Rattle.std.proofs.lemmas.Option.{none-some, same_Some}
 use Rattle.tss_base.specs.declared.range.Range.{Range}
 use Rattle.tss_base.specs.declared.operand.OpName.{OpName}
@@ -12,147 +11,46 @@ use Rattle.tss_base.specs.declared.operand.Operand.{Operand}
 use Rattle.tss_base.specs.declared.operand.Task.{Task}
 use Rattle.tss_base.specs.declared.machine.Machine.{Machine}
 use Rattle.tss_base.specs.declared.event.Event.TheVariants as event
-use Rattle.tss_base.specs.Range.{end_of}
 use Rattle.tss_base.specs.Image.{ImageState}
 use Rattle.tss_model.specs.Memory.{Memory, covers, byte_at, bytes_of}
 use Rattle.tss_model.specs.Access.{operands_of}
-use Rattle.tss_model.specs.Spawn.{spawn_of}
-use Rattle.tss_model.specs.MainStep.{MainState, Flat, Call, ExitCall, Spawn, Barrier, Print, Unknown, main_call, spawn_call, spawn_on}
-use Rattle.tss_model.specs.InOrder.{Started, flat_stepped, started_at}
+use Rattle.tss_model.specs.MainStep.{MainState}
+use Rattle.tss_model.specs.InOrder.{Started, flat_stepped}
 use Rattle.tss_protocol.specs.Names.{operand_name}
-use Rattle.tss_protocol.specs.Mail.{OpenContents, Mail, is_silent}
+use Rattle.tss_protocol.specs.Mail.{Mail}
 use Rattle.tss_protocol.specs.State.{State}
-use Rattle.tss_protocol.specs.Gateway.{is_idle}
-use Rattle.tss_protocol.specs.MainEvent.{call_next, may_call, after_call, main_by, has_no_task, has_no_object, is_drained}
-use Rattle.tss_protocol.specs.Needs.{is_in_inbox, round_after_main, round_after_event}
-use Rattle.tss_protocol.specs.UnitMachine.{IsEnabled, is_enabled, after_event}
+use Rattle.tss_protocol.specs.MainEvent.{call_next, is_drained}
+use Rattle.tss_protocol.specs.Needs.{is_in_inbox, round_after_event}
+use Rattle.tss_protocol.specs.UnitMachine.{IsEnabled, after_event}
 use Rattle.tss_phases.specs.Phase.{is_decoded, phase_of}
-use Rattle.tss_phases.specs.Orderly.{AreOrderly}
 use Rattle.tss_phases.proofs.MainEvent.{phase_of-main}
 use Rattle.tss_locality.specs.Rounds.{IsRounded}
-use Rattle.tss_locality.specs.Agreement.{operand_in}
 use Rattle.tss_locality.proofs.Subjects.{arrival_task}
 use Rattle.tss_locality.proofs.RunRounds.{IsRounded-after_event}
 use Rattle.tss_laws.specs.Members.{operand_among}
 use Rattle.tss_laws.specs.Readers.{Arrivals}
-use Rattle.tss_laws.specs.MainInOrder.{Agrees, FollowsAfter, IsCutOff, steps_taken, flat_beside, started_next, inbox_with, is_operand_of}
+use Rattle.tss_laws.specs.MainInOrder.{Agrees, FollowsAfter, IsCutOff, flat_beside, started_next, inbox_with, is_operand_of}
 use Rattle.tss_laws.specs.Control.{HasGroundwork, IsControlled}
 use Rattle.tss_laws.proofs.FlatLoads.{same_bytes}
 use Rattle.tss_laws.proofs.FlatNumbers.{one_place}
-use Rattle.tss_laws.proofs.FlatOrder.{steps_taken-on, trapped_next, started_at-by, flat_stepped-ended}
+use Rattle.tss_laws.proofs.FlatOrder.{steps_taken-on, started_at-by}
 use Rattle.tss_laws.proofs.FlatPieces.{NoneAfter}
 use Rattle.tss_laws.proofs.FlatStarts.{started-number}
 use Rattle.tss_laws.proofs.RunKeeps.{HasGround}
 use Rattle.tss_laws.proofs.MainEvent.{main_on-enabled, follows_main, main_rises, cut_off_rises}
-use Rattle.tss_laws.proofs.SpawnLemmas.{IsNext-spawn_of}
 use Rattle.tss_laws.proofs.GroundworkSpawn.{operand_among-more, from_operand_among, of_spawned, decoded_spawned}
 use Rattle.tss_laws.proofs.GroundworkEmpty.{IsBare, IsBare-drained}
 use Rattle.tss_laws.proofs.GroundworkMain.{KeepsControl, kept_main}
-use Rattle.tss_laws.proofs.MainEndings.{EndsItself, own_main, no_task_trap}
-use Rattle.tss_laws.proofs.NamingLemmas.{done_taken}
+use Rattle.tss_laws.proofs.MainEndings.{EndsItself, own_main}
 use Rattle.tss_laws.proofs.WaitsUsers.{from_any}
 use Rattle.tss_laws.proofs.WaitsRound.{among_tasks}
 use Rattle.tss_laws.proofs.Values.{Starts, bytes_before, IsFirstAhead, HasHome, HasMain}
 use Rattle.tss_laws.proofs.ValuesMain.{follows_home, none_later}
 use Rattle.tss_laws.proofs.ValuesReturns.{same_at_home}
 use Rattle.tss_laws.proofs.ValuesReturnsMain.{main_at_home}
-use Rattle.tss_laws.proofs.ValuesHomeBeside.{IsInside, SameByte, operand_named, one_inside, bytes_same}
-use Rattle.tss_laws.proofs.ValuesHomeGone.{undecoded}
-
--- ---- what becomes of the round
-
--- it stays, with the inbox
-pub record RoundStays (ts us : List Task) (S T : State) : Type 0 where
-  pub list : us ≡ ts
-  pub inbox : T.inbox ≡ S.inbox
-
--- it has one more task, which main has put into the empty inbox
-pub record RoundGrows (ts us : List Task) (S T : State) : Type 0 where
-  pub task : Task
-  pub list : us ≡ ts ++ task ∷ []
-  pub empty : S.inbox ≡ None
-  pub inbox : T.inbox ≡ Some task
-  pub number : task.number ≡ suc S.main.spawned
-  pub home : T.home ≡ S.home
-
--- or it is over, in a drained state
-pub record RoundEnds (us : List Task) (S T : State) : Type 0 where
-  pub list : us ≡ []
-  pub drained : is_drained S ≡ true
-  pub inbox : T.inbox ≡ S.inbox
-
--- one of these
-abbrev pub RoundGoesOn : List Task → List Task → State → State → Type 0
-RoundGoesOn ts us S T = RoundStays ts us S T ⊎ (RoundGrows ts us S T ⊎ RoundEnds us S T)
-
-no_inbox : (o : Option Task) → is_none o ≡ true → o ≡ None
-no_inbox None e = refl
-no_inbox (Some t) e = absurd (cc)
-
--- a drained state has no task in the inbox
-drained_inbox : (S : State) → is_drained S ≡ true → S.inbox ≡ None
-drained_inbox S drained =
-    let outer = and_parts (has_no_task S && has_no_object S) (is_silent S.mail) drained in
-    let inner = and_parts (has_no_task S) (has_no_object S) outer.0 in
-    let i = is_none S.inbox in
-    let g = is_idle S.gateway in
-    let t4 = and_parts (i && g && (len S.flight == 0) && (length S.queue == 0)) (len S.workers == 0) inner.0 in
-    let t3 = and_parts (i && g && (len S.flight == 0)) (length S.queue == 0) t4.0 in
-    let t2 = and_parts (i && g) (len S.flight == 0) t3.0 in
-    no_inbox S.inbox (and_parts i g t2.0).0
-
--- an address that an object covers lies in it
-covers_inside : (x : Range) (a : ℕ) → covers x a ≡ true → IsInside x a
-covers_inside x a e =
-    let p = and_parts (nat_le x.base a) (nat_lt a (end_of x)) e in
-    (leb-true x.base a p.0, ltb-true a (end_of x) p.1)
-
-module _ (m : Machine) (ts : List Task) (S : State) where
-  goes_on_spawn : (r : Result Task ℕ) → spawn_of (spawn_call S.main.registers) S.home S.main.epoch m.limits S.main.spawned ≡ r
-      → S.inbox ≡ None
-      → RoundGoesOn ts (ts ++ option_to_list (spawn_on S.main r).1) S (after_call S (spawn_on S.main r))
-  goes_on_spawn (Err n) e empty = inl (record { list = append-nil ts; inbox = refl })
-  goes_on_spawn (Ok t) e empty = inr (inl (record {
-    task = t;
-    list = refl;
-    empty = empty;
-    inbox = refl;
-    number = (IsNext-spawn_of (spawn_call S.main.registers) S.home S.main.epoch m.limits S.main.spawned t e).number;
-    home = refl;
-  }))
-
-  goes_on_call : (c : Option Call) → may_call S c ≡ true → RoundGoesOn ts (round_after_main m S ts c) S (main_by m S c)
-  goes_on_call None may = inl (record { list = refl; inbox = refl })
-  goes_on_call (Some ExitCall) may = inl (record { list = refl; inbox = refl })
-  goes_on_call (Some Spawn) may =
-      goes_on_spawn (spawn_of (spawn_call S.main.registers) S.home S.main.epoch m.limits S.main.spawned) refl
-      (no_inbox S.inbox may)
-  goes_on_call (Some Barrier) may = inr (inr (record { list = refl; drained = may; inbox = refl }))
-  goes_on_call (Some Print) may = inl (record { list = refl; inbox = refl })
-  goes_on_call (Some (Unknown n)) may = inl (record { list = refl; inbox = refl })
-
-  -- after main's event
-  pub round_goes_on : IsEnabled m S event.Main
-      → RoundGoesOn ts (round_after_event m S ts event.Main) S (after_event m S event.Main)
-  unfolding after_event is_enabled
-  round_goes_on on =
-      goes_on_call (call_next m S)
-      (and_parts (is_none S.main.ending && is_none S.trap) (may_call S (call_next m S)) on).1
-
--- where program order is cut off main doesn't stand in it
-pub cut_off_apart : (i : ImageState) (m : Machine) (s : MainState) → EndsItself s → IsCutOff i m.limits s
-    → s ≡ (flat_beside i m.limits s).main → ⊥
-cut_off_apart i m s own cut same =
-    let ending = trapped_next i m.limits cut.place cut.started cut.trap
-    (started_at-by i m.limits cut.place cut.started cut.start) cut.trapped in
-    let done = done_taken s in
-    let count : steps_taken s ≡ suc cut.place + (steps_taken s - suc cut.place) = omega (arith, done, cut.before) in
-    no_task_trap s own cut.started.task.number cut.trap
-    (ap (λ (x : MainState). x.ending) same
-    ∙ ap (λ l. (flat_stepped i m.limits l).main.ending) count
-    ∙ ap (λ (f : Flat). f.main.ending)
-    (flat_stepped-ended i m.limits (suc cut.place) (steps_taken s - suc cut.place) (ap is_some ending))
-    ∙ ending)
+use Rattle.tss_laws.proofs.ValuesHomeBeside.{IsInside, operand_named, one_inside, bytes_same}
+use Rattle.tss_laws.proofs.UndecodedOperands.{undecoded}
+use Rattle.tss_laws.proofs.RoundSteps.{RoundGrows, RoundGoesOn, round_goes_on, drained_inbox, covers_inside, cut_off_apart}
 
 -- ---- the event
 
@@ -295,7 +193,8 @@ module _ (m : Machine) (i : ImageState) (all ts : List Task) (g : Arrivals) (S :
       by : (S.main ≡ (flat_beside i m.limits S.main).main) ⊎ IsCutOff i m.limits S.main → Agrees m i T a
       by (inl same) = by_round same (round_goes_on m ts S on)
       by (inr cut) =
-          absurd (cut_off_apart i m T.main (own_main m S own) (cut_off_rises i m.limits S.main T.main (main_rises m S) cut) is)
+          absurd (cut_off_apart i m T.main (own_main m S own)
+          (cut_off_rises i m.limits S.main T.main (main_rises m S) cut) is)
 
   -- ---- the first operand on an object
 
@@ -345,7 +244,8 @@ module _ (m : Machine) (i : ImageState) (all ts : List Task) (g : Arrivals) (S :
       by_next : (same : S.main ≡ (flat_beside i m.limits S.main).main) → (z : Option Started)
           → started_next m i S ≡ z → bytes_of T.home p.object ≡ bytes_before s p
       by_next same None e =
-          absurd (none-some r.task (sym (sym r.inbox ∙ (follows same).inbox ∙ ap (λ o. inbox_with o S.inbox) e ∙ r.empty)))
+          absurd (none-some r.task
+          (sym (sym r.inbox ∙ (follows same).inbox ∙ ap (λ o. inbox_with o S.inbox) e ∙ r.empty)))
       by_next same (Some z) e =
           let number = started_new same z e in
           let here = one_place i m.limits starts.0 S.main.registers.done s z starts.1 e
