@@ -58,7 +58,8 @@ operand_named S ts r o p e =
 
 -- two operands whose objects share an address have one object
 pub one_inside : (S : State) (ts : List Task) → IsRounded S ts → (o q : OpName) (p r : Operand)
-    → operand_among ts o ≡ Some p → operand_among ts q ≡ Some r → (a : ℕ) → IsInside p.object a → IsInside r.object a → p.object ≡ r.object
+    → operand_among ts o ≡ Some p → operand_among ts q ≡ Some r → (a : ℕ) → IsInside p.object a
+    → IsInside r.object a → p.object ≡ r.object
 one_inside S ts round o q p r e d a in_p in_r =
     round.separate.one p.object r.object (operand_named S ts round o p e) (operand_named S ts round q r d)
     (covers-meet p.object r.object a (inside_covers p.object a in_p) (inside_covers r.object a in_r))
