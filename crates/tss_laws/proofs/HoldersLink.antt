@@ -24,7 +24,7 @@ use Rattle.tss_phases.specs.Told.{tells, phase_told}
 use Rattle.tss_phases.specs.Openers.{produced_opener, open_opener, opener_by, version_opener}
 use Rattle.tss_phases.specs.Orderly.{IsOrderly, AreOrderly, LinksWaiting, TellWaiting}
 use Rattle.tss_phases.proofs.Received.{received_all}
-use Rattle.tss_phases.proofs.News.{untold, told}
+use Rattle.tss_phases.proofs.News.{untold}
 use Rattle.tss_phases.proofs.Records.{record_put}
 use Rattle.tss_phases.proofs.PhaseLemmas.{same_station}
 use Rattle.tss_phases.proofs.LeavingTasks.{remaining_beside, done_from_test}

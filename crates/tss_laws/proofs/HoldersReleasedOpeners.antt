@@ -33,7 +33,7 @@ use Rattle.tss_laws.proofs.HoldersSent.{told_own, waiting_opener, same_opener}
 use Rattle.tss_laws.proofs.HoldersReady.{reader_operand, waiting_input}
 use Rattle.tss_laws.proofs.HoldersSettled.{from_alike}
 use Rattle.tss_laws.proofs.HoldersReleases.{z_parts}
-use Rattle.tss_laws.proofs.HoldersReleasing.{settles, versions, after, waits, not_waiting, came, now_leaving, other_phase, same_tells}
+use Rattle.tss_laws.proofs.HoldersReleasing.{settles, versions, waits, not_waiting, came, now_leaving, other_phase, same_tells}
 
 -- one that doesn't write is an input
 pub reads_input : (mode : Mode) → writes mode ≡ false → mode ≡ Input

@@ -20,7 +20,7 @@ use Rattle.tss_phases.specs.Openers.{version_opener}
 use Rattle.tss_phases.specs.Alone.{IsSilent}
 use Rattle.tss_phases.specs.Orderly.{IsInformed, AreOrderly, ReleasesRegistered}
 use Rattle.tss_phases.proofs.Received.{received_all}
-use Rattle.tss_phases.proofs.News.{AreNews, news_both, told}
+use Rattle.tss_phases.proofs.News.{AreNews, news_both}
 use Rattle.tss_phases.proofs.ToldPhases.{not_told, bye_tells}
 use Rattle.tss_phases.proofs.ReleaseEvent.{versions_released, heads_told, bye_promised, sent_by_release, news_heads, news_released, release_sends_here, look_ups-release-own, look_ups-release-other, phase_of-release, phase_of-release-other}
 use Rattle.tss_phases.proofs.OrderlyLemmas.{releasing_stands}

@@ -14,7 +14,6 @@ use Rattle.tss_protocol.specs.Mail.{OpenContents}
 use Rattle.tss_protocol.specs.State.{State, Version}
 use Rattle.tss_protocol.specs.Versions.{put_version, may_die, version_changed, new_version, followed, after_nack, refused_once, unlinked}
 use Rattle.tss_phases.specs.Phase.{Phase, Ahead, Decoding, Sent, Waiting, Told, Ready, Releasing, Leaving, Promised, Left, phase_of}
-use Rattle.tss_phases.specs.Told.{tells}
 use Rattle.tss_phases.specs.Openers.{is_waiting, opener_by}
 use Rattle.tss_phases.specs.Orderly.{TellWaiting, OpensForWaiting}
 use Rattle.tss_phases.specs.Settling.{GivesWay, GoesOn, SettleTells}

@@ -17,7 +17,7 @@ use Rattle.tss_model.specs.Access.{touches}
 use Rattle.tss_model.specs.Core.{Stepped, Executed, Called, Ended, Trapped, Touched}
 use Rattle.tss_model.specs.TaskRun.{repeated}
 use Rattle.tss_model.specs.Causes.{main_budget_spent, main_touch, load_denied, output_full}
-use Rattle.tss_model.specs.MainStep.{MainState, Flat, Call, ExitCall, Spawn, Barrier, Print, Unknown, main_refused, main_trapped, call_done, output_of, print_done, print_some, has_spent, main_on, main_core, main_step, main_stretch, spawn_call, spawn_on, print_call, print_range, main_call}
+use Rattle.tss_model.specs.MainStep.{MainState, Flat, Call, ExitCall, Spawn, Barrier, Print, Unknown, main_refused, main_trapped, call_done, output_of, print_done, print_some, has_spent, main_on, main_core, main_step, main_stretch, spawn_call, spawn_on, print_call, print_range}
 use Rattle.tss_model.specs.Spawn.{spawn_of}
 use Rattle.tss_protocol.specs.State.{State, initial_state}
 use Rattle.tss_protocol.specs.MainEvent.{flat_of, call_next, after_call, main_by}

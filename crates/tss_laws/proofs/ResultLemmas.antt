@@ -1,8 +1,8 @@
 -- A finished state has the result of program order, where its values are those of program order.
-use Rattle.std.proofs.Common.{◌≡◌, ◌≢◌, ◌⊎◌, ℕ, suc, ◌+◌, ◌<◌, ◌≤◌, Bool, true, false, ◌&&◌, ◌||◌, cond, List, [], ◌∷◌, Option, Some, None, refl, sym, ap, ◌∙◌, subst, inl, inr, arith, true≢false}
+use Rattle.std.proofs.Common.{◌≡◌, ◌≢◌, ℕ, suc, ◌+◌, ◌<◌, ◌≤◌, true, false, ◌&&◌, ◌||◌, cond, List, Option, Some, None, refl, sym, ap, ◌∙◌, subst, inl, inr, arith, true≢false}
 use Rattle.std.specs.Prelude.{◌-◌, ◌==◌, is_some, is_none, nat_lt, length}
 use Rattle.std.specs.FinMap.{get, len}
-use Rattle.std.proofs.lemmas.Bool.{and_parts, or_cases, ltb-false, lt-ltb, cases_order}
+use Rattle.std.proofs.lemmas.Bool.{and_parts, cases_order}
 use Rattle.std.proofs.lemmas.Bool.Decides.{nat_tests}
 use Rattle.std.proofs.lemmas.Option.{none-some, same_Some}
 use Rattle.tss_base.specs.declared.operand.OpName.{OpName}
@@ -15,28 +15,27 @@ use Rattle.tss_base.specs.declared.machine.Machine.{Machine}
 use Rattle.tss_base.specs.Image.{ImageState}
 use Rattle.tss_maps.proofs.Keys.{nat_order, decide_key}
 use Rattle.tss_maps.proofs.Changes.{same_by_get}
-use Rattle.tss_model.specs.Memory.{Memory, memory_ranges, frozen}
-use Rattle.tss_model.specs.MainStep.{MainState, Flat, Piece, output_of}
-use Rattle.tss_model.specs.InOrder.{Started, ReferenceState, flat_stepped, started_in, started_at, end_of_started, in_order}
-use Rattle.tss_protocol.specs.State.{State, HeldTrap, Flying}
+use Rattle.tss_model.specs.Memory.{frozen}
+use Rattle.tss_model.specs.MainStep.{MainState, Flat, output_of}
+use Rattle.tss_model.specs.InOrder.{Started, flat_stepped, started_in, started_at, end_of_started}
+use Rattle.tss_protocol.specs.State.{State, HeldTrap}
 use Rattle.tss_protocol.specs.Mail.{is_silent}
 use Rattle.tss_protocol.specs.Gateway.{is_idle}
 use Rattle.tss_protocol.specs.MainEvent.{is_drained, has_no_task, has_no_object}
-use Rattle.tss_protocol.specs.Result.{RunResult, IsFinished, is_finished, ending_by, tasks_by, tasks_of, printed_of, pieces_by, result_with, result_of}
-use Rattle.tss_phases.specs.Phase.{Ahead, Decoding, phase_of, is_decoded, look_ups, is_ahead, inbox_has}
+use Rattle.tss_protocol.specs.Result.{RunResult, IsFinished, ending_by, tasks_by, tasks_of, printed_of, pieces_by, result_with, result_of}
+use Rattle.tss_phases.specs.Phase.{phase_of, is_decoded, look_ups, inbox_has}
 use Rattle.tss_phases.proofs.OrderlyLemmas.{left_by_absence}
 use Rattle.tss_locality.proofs.Flights.{record_in}
 use Rattle.tss_laws.specs.Members.{operand_among}
-use Rattle.tss_laws.specs.Tasks.{taken_by, IsTaken, HasTaskNumbers}
+use Rattle.tss_laws.specs.Tasks.{taken_by, IsTaken}
 use Rattle.tss_laws.specs.Readers.{Arrivals}
-use Rattle.tss_laws.specs.Refinement.{reference_result, HasReferenceResult, is_task_trap}
+use Rattle.tss_laws.specs.Refinement.{HasReferenceResult, is_task_trap}
 use Rattle.tss_laws.specs.MainInOrder.{flat_beside, steps_taken, FollowsInOrder, IsCutOff}
 use Rattle.tss_laws.specs.Control.{HasGroundwork, IsControlled}
 use Rattle.tss_laws.proofs.FlatOrder.{flat_stepped-ranges, flat_stepped-ended, started_at-by, trapped_next, trapped_after}
 use Rattle.tss_laws.proofs.FlatStarts.{started-number}
 use Rattle.tss_laws.proofs.FlatNumbers.{number_there, numbers_rise, HasNumber}
-use Rattle.tss_laws.proofs.FlatEnds.{in_order-trap, in_order-tasks, in_order-output}
-use Rattle.tss_laws.proofs.MainFollows.{EndsInOrder, follows_to_end}
+use Rattle.tss_laws.proofs.MainFollows.{follows_to_end}
 use Rattle.tss_laws.proofs.RunKeeps.{HasGround}
 use Rattle.tss_laws.proofs.GroundworkSpawn.{of_spawned}
 use Rattle.tss_laws.proofs.GroundworkEmpty.{IsBare, IsBare-drained}

@@ -1,11 +1,10 @@
 -- The held trap is that of program order, where its task is started there, and no task that traps there ends without it.
-use Rattle.std.proofs.Common.{◌≡◌, ◌≢◌, ◌⊎◌, ℕ, suc, ◌+◌, ◌<◌, ◌≤◌, Bool, true, false, cond, List, [], ◌∷◌, Option, Some, None, refl, sym, ap, ◌∙◌, subst, inl, inr, arith, true≢false}
+use Rattle.std.proofs.Common.{◌≡◌, ◌≢◌, ◌⊎◌, ℕ, suc, ◌+◌, ◌<◌, ◌≤◌, Bool, true, false, cond, List, Option, Some, None, refl, sym, ap, ◌∙◌, subst, inl, inr, arith}
 use Rattle.std.specs.Prelude.{◌-◌, nat_lt}
 use Rattle.std.specs.FinMap.{get, insert}
-use Rattle.std.proofs.lemmas.Bool.{cases_Bool, ltb-false, ltb-true}
+use Rattle.std.proofs.lemmas.Bool.{ltb-false, ltb-true}
 use Rattle.std.proofs.lemmas.Bool.Decides.{nat_tests}
 use Rattle.std.proofs.lemmas.Option.{none-some, same_Some}
-use Rattle.tss_base.specs.declared.operand.OpName.{OpName}
 use Rattle.tss_base.specs.declared.operand.Task.{Task}
 use Rattle.tss_base.specs.declared.ending.Trap.{Trap}
 use Rattle.tss_base.specs.declared.machine.Machine.{Machine}
@@ -24,11 +23,11 @@ use Rattle.tss_phases.proofs.Tests.{something}
 use Rattle.tss_locality.proofs.LeftFields.{Leaves-after_event}
 use Rattle.tss_laws.specs.Tasks.{taken_by, IsTaken}
 use Rattle.tss_laws.specs.Control.{HasGroundwork}
-use Rattle.tss_laws.proofs.SpawnLemmas.{SpawnsNothing, SpawnsOne, SpawnsAtMostOne, spawns_main}
-use Rattle.tss_laws.proofs.TakeLemmas.{TakesTask, takes_take}
+use Rattle.tss_laws.proofs.SpawnLemmas.{SpawnsAtMostOne, spawns_main}
+use Rattle.tss_laws.proofs.TakeLemmas.{takes_take}
 use Rattle.tss_laws.proofs.NumberLemmas.{taken_newest, last_taken_now, last_taken_before}
 use Rattle.tss_laws.proofs.StoreFollows.{runs-end}
-use Rattle.tss_laws.proofs.UnfinishedTasks.{IsUnder, StayUnder, entered_under, stay-finish, StayUnder-after_event}
+use Rattle.tss_laws.proofs.UnfinishedTasks.{StayUnder, entered_under, stay-finish, StayUnder-after_event}
 use Rattle.tss_laws.proofs.Values.{Starts, HasWorkers, IsUnfinished, HoldsTrapBy}
 
 -- what is to be shown

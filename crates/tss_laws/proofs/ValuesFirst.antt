@@ -1,13 +1,13 @@
 -- The first state has the values of program order.
-use Rattle.std.proofs.Common.{◌≡◌, ℕ, List, [], Some, None, refl, sym, ◌∙◌, inl}
+use Rattle.std.proofs.Common.{[], refl, sym, ◌∙◌, inl}
 use Rattle.std.specs.Ordering.{nat_cmp}
-use Rattle.std.specs.FinMap.{get, get-empty}
+use Rattle.std.specs.FinMap.{get-empty}
 use Rattle.std.proofs.lemmas.Option.{none-some}
 use Rattle.tss_base.specs.declared.machine.Machine.{Machine}
 use Rattle.tss_base.specs.Names.{name_cmp}
 use Rattle.tss_base.specs.Image.{ImageState}
 use Rattle.tss_model.specs.TaskRun.{repeated}
-use Rattle.tss_protocol.specs.State.{State, initial_state}
+use Rattle.tss_protocol.specs.State.{initial_state}
 use Rattle.tss_laws.proofs.ValuesReturnsEvents.{HasReturns-initial_state}
 use Rattle.tss_laws.proofs.RoomyEvents.{HasRoom-initial_state}
 use Rattle.tss_laws.proofs.TrapsHeld.{HasTraps-initial_state}

@@ -3,7 +3,7 @@ use Rattle.std.proofs.Common.{◌≡◌, Bool, true, false, cond, List, [], ◌�
 use Rattle.std.proofs.lemmas.Bool.{and_parts}
 use Rattle.std.proofs.lemmas.List.{append_assoc}
 use Rattle.std.proofs.lemmas.Option.{none-some, same_Some}
-use Rattle.std.specs.Prelude.{◌&&◌, ◌||◌, is_some}
+use Rattle.std.specs.Prelude.{◌||◌, is_some}
 use Rattle.tss_base.specs.declared.operand.Task.{Task}
 use Rattle.tss_base.specs.declared.machine.Machine.{Machine}
 use Rattle.tss_base.specs.declared.event.Event.{Event}
@@ -14,10 +14,9 @@ use Rattle.tss_protocol.specs.MainEvent.{is_drained}
 use Rattle.tss_protocol.specs.UnitMachine.{is_enabled, IsEnabled, after_event}
 use Rattle.tss_protocol.specs.Needs.{round_after_event, round_from, round_of}
 use Rattle.tss_protocol.specs.Run.{after_events, IsRun}
-use Rattle.tss_protocol.specs.Result.{IsFinished}
 use Rattle.tss_laws.specs.Tasks.{spawned_after_event, spawned_after, spawned_tasks}
 use Rattle.tss_laws.specs.Readers.{arrivals_from, no_arrivals}
-use Rattle.tss_laws.specs.Refinement.{HasReferenceResult, ResultLaw}
+use Rattle.tss_laws.specs.Refinement.{ResultLaw}
 use Rattle.tss_laws.proofs.RunKeeps.{HasGround-run}
 use Rattle.tss_laws.proofs.MainEndings.{EndsItself-Run, no_task_trap}
 use Rattle.tss_laws.proofs.GroundworkRuns.{HasGroundwork-Run}
