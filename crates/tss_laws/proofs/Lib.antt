@@ -303,3 +303,4 @@ pub mod ValuesWorkerLaw
 pub mod ValuesProducedLaw
 pub mod UndecodedOperands
 pub mod RoundSteps
+pub mod FlatStill
