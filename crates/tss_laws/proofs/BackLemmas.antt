@@ -1,5 +1,5 @@
 -- What each event does to where tasks stand: the counter and the inbox, the tasks in flight, the queue and the workers.
-use Rattle.std.proofs.Common.{◌≡◌, ℕ, zero, suc, ◌<◌, ◌≤◌, ◌⊎◌, inl, inr, Bool, true, List, [], ◌∷◌, Option, Some, None, refl, sym, ap, ◌∙◌, subst, true≢false}
+use Rattle.std.proofs.Common.{◌≡◌, ℕ, zero, suc, ◌<◌, ◌≤◌, ◌⊎◌, inl, inr, Bool, true, List, [], ◌∷◌, map, Option, Some, None, refl, sym, ap, ◌∙◌, subst, true≢false}
 use Rattle.std.specs.Prelude.{◌&&◌, nat_lt, is_none, slice_get, slice_set}
 use Rattle.std.specs.List.{list_all}
 use Rattle.std.specs.FinMap.{get, insert, remove}
@@ -9,9 +9,9 @@ use Rattle.tss_base.specs.declared.operand.Task.{Task}
 use Rattle.tss_base.specs.declared.machine.Machine.{Machine}
 use Rattle.tss_base.specs.declared.event.Event.TheVariants as event
 use Rattle.tss_base.specs.Names.{Numbered}
-use Rattle.tss_protocol.specs.Mail.{Source, OpenContents, ReleaseContents, IdleContents, GoneContents}
+use Rattle.tss_protocol.specs.Mail.{Source, StorageName, OpenContents, ReleaseContents, IdleContents, GoneContents}
 use Rattle.tss_protocol.specs.State.{State, OperandState, Flying, Busy, Version, CopyState}
-use Rattle.tss_protocol.specs.Stations.{is_ready, is_complete, awaited, with_operand, remaining_tasks, woken_in, woken_by, task_after_ready, linked_in, linked_by, operand_after_link, flight_after_start, flight_after_finish, parted_in, parted_by, operand_after_bye}
+use Rattle.tss_protocol.specs.Stations.{is_ready, is_complete, storage_of, storages_of, awaited, with_operand, remaining_tasks, woken_in, woken_by, task_after_ready, linked_in, linked_by, operand_after_link, flight_after_start, flight_after_finish, parted_in, parted_by, operand_after_bye}
 use Rattle.tss_protocol.specs.Workers.{can_start, busy_at_start, busy_after, can_exec, can_finish, exec_stretch, placed_in, worker_byte, worker_write, task_state_of}
 use Rattle.tss_protocol.specs.MainEvent.{call_next}
 use Rattle.tss_protocol.specs.UnitMachine.{is_enabled, after_event, queue_with, with_woken, with_flight, without, stores_of, open_message_taken, use_message_taken, ready_message_taken, link_message_taken, after_start, start_task, after_exec, after_finish, release_message_taken, bye_message_taken, idle_message_taken, retire_version, after_copy, gone_message_taken}
@@ -61,6 +61,18 @@ still_ready-slice_set (q ∷ rs) zero s all one =
 still_ready-slice_set (q ∷ rs) (suc i) s all one =
     let parts = and_parts (is_ready q) (list_all is_ready rs) all in
     and_from (is_ready q) _ parts.0 (still_ready-slice_set rs i s parts.1 one)
+
+-- one that is written over with one that was told the same has the same storage
+storages-slice_set : (rs : List OperandState) (i : ℕ) (r s : OperandState) → slice_get rs i ≡ Some r
+    → storage_of s.source ≡ storage_of r.source
+    → map (λ r. storage_of r.source) (slice_set rs i s) ≡ map (λ r. storage_of r.source) rs
+storages-slice_set [] i r s e same = refl
+storages-slice_set (q ∷ rs) zero r s e same =
+    let is : q ≡ r = cc in
+    ap (λ (x : StorageName). x ∷ map (λ r. storage_of r.source) rs)
+    (same ∙ ap (λ (r : OperandState). storage_of r.source) (sym is))
+storages-slice_set (q ∷ rs) (suc i) r s e same =
+    ap (λ (xs : List StorageName). storage_of q.source ∷ xs) (storages-slice_set rs i r s e same)
 
 -- ---- ready
 
@@ -116,6 +128,8 @@ pub record ChangesTask (S T : State) (n : ℕ) : Type 0 where
   pub changed : Flying
   pub stage : changed.stage ≡ task.stage
   pub complete : is_complete changed ≡ is_complete task
+  pub itself : changed.task ≡ task.task
+  pub storages : storages_of changed ≡ storages_of task
   pub back : back_of T ≡ record (back_of S) { flight = remaining_tasks S.flight n changed }
 
 -- or nothing changes
@@ -133,6 +147,8 @@ module _ (S : State) (o : OpName) where
     changed = with_operand x o.place (operand_after_link r next);
     stage = refl;
     complete = all_ready-slice_set x.operands o.place r (operand_after_link r next) e refl;
+    itself = refl;
+    storages = storages-slice_set x.operands o.place r (operand_after_link r next) e refl;
     back = refl;
   })
 
@@ -155,6 +171,8 @@ module _ (S : State) (o : OpName) where
     changed = with_operand x o.place (operand_after_bye r promised);
     stage = refl;
     complete = all_ready-slice_set x.operands o.place r (operand_after_bye r promised) e refl;
+    itself = refl;
+    storages = storages-slice_set x.operands o.place r (operand_after_bye r promised) e refl;
     back = refl;
   })
 

@@ -25,6 +25,7 @@ use Rattle.tss_laws.specs.Bound.{EventsLaw}
 use Rattle.tss_laws.proofs.GroundworkRuns.{IsGrounded, IsGrounded-after_event, IsGrounded-initial_state, has_groundwork}
 use Rattle.tss_laws.proofs.GroundworkEmpty.{IsControlled-bare, IsBare-initial_state}
 use Rattle.tss_laws.proofs.GroundworkJoin.{AreGroupsKept, IsControlled-event}
+use Rattle.tss_laws.proofs.GroundworkControl.{keeps_groups}
 use Rattle.tss_laws.proofs.BoundMeasure.{each_left, mail_left, flying_left, busy_left, version_left, copy_left, measure}
 use Rattle.tss_laws.proofs.BoundObjects.{HaveFitObjects, no_objects, HaveFitObjects-after_event}
 use Rattle.tss_laws.proofs.BoundEvents.{lowered_event}
@@ -114,3 +115,7 @@ bounded_of_runs kept m i es S accepted admissible run =
     }) run in
     let first = measure_at_first m i in
     omega (arith, most, first)
+
+-- so none has
+pub events_of_runs : EventsLaw
+events_of_runs = bounded_of_runs keeps_groups

@@ -1,17 +1,16 @@
 -- What a state has to keep so that each buffer has one holder, and what a settle leaves of them.
-use Rattle.std.proofs.Common.{◌≡◌, ◌≢◌, ◌⊎◌, inl, inr, ℕ, ◌<◌, ◌≤◌, List, [], ◌∷◌, Option, Some, None, refl, sym, ap, ◌∙◌, subst, arith}
-use Rattle.std.specs.FinMap.{get, insert}
+use Rattle.std.proofs.Common.{◌≡◌, ◌≢◌, ◌⊎◌, inl, inr, ℕ, ◌<◌, ◌≤◌, List, ◌∷◌, Option, Some, None, refl, sym, ap, ◌∙◌, subst, arith}
+use Rattle.std.specs.FinMap.{get}
 use Rattle.std.proofs.lemmas.Option.{none-some, same_Some}
 use Rattle.tss_base.specs.declared.operand.OpName.{OpName}
 use Rattle.tss_base.specs.declared.operand.Operand.{Operand}
 use Rattle.tss_base.specs.declared.operand.Task.{Task}
-use Rattle.tss_base.specs.declared.event.Follow.{Follow}
 use Rattle.tss_base.specs.Names.{Named}
 use Rattle.tss_maps.proofs.Keys.{name_order}
-use Rattle.tss_maps.proofs.Changes.{from_inserted, at_inserted}
-use Rattle.tss_protocol.specs.Mail.{StorageName, Home, Buffer, OpenContents, GoneContents, Message, Gone, Mail, posted, posted_all}
-use Rattle.tss_protocol.specs.State.{State, Version, CopyState}
-use Rattle.tss_protocol.specs.Versions.{Versioned, buffer_of, settled}
+use Rattle.tss_maps.proofs.Changes.{from_inserted}
+use Rattle.tss_protocol.specs.Mail.{StorageName, Home, Buffer, GoneContents, Message, Gone, Mail, posted, posted_all}
+use Rattle.tss_protocol.specs.State.{State, Version}
+use Rattle.tss_protocol.specs.Versions.{buffer_of, settled}
 use Rattle.tss_laws.specs.Members.{operand_among}
 use Rattle.tss_laws.specs.Chains.{HasChains}
 use Rattle.tss_laws.specs.Held.{IsCopied}
@@ -19,7 +18,7 @@ use Rattle.tss_laws.specs.Buffers.{OpenHas, VersionHas, GoneHas, CopyHas, HasBuf
 use Rattle.tss_laws.proofs.SettleCases.{OthersSettled}
 use Rattle.tss_laws.proofs.ChainsSettled.{chains_next}
 use Rattle.tss_laws.proofs.SentLemmas.{AllSent}
-use Rattle.tss_laws.proofs.BuffersSettled.{HadStorage, KeepsStorages, IsNoGone, gones_kept, LeavesAll, GivesStorage, TakesStorage, SettlesBuffers, settles_buffers}
+use Rattle.tss_laws.proofs.BuffersSettled.{KeepsStorages, IsNoGone, gones_kept, LeavesAll, GivesStorage, TakesStorage, SettlesBuffers, settles_buffers}
 
 -- ---- holders
 

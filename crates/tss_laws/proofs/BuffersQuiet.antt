@@ -1,33 +1,32 @@
 -- Holders of buffers after the events that settle no version and decode nothing.
-use Rattle.std.proofs.Common.{◌≡◌, ◌≢◌, ◌⊎◌, inl, inr, ℕ, ◌+◌, Bool, true, false, List, [], ◌∷◌, Option, Some, None, refl, sym, ap, ◌∙◌, subst}
-use Rattle.std.specs.Prelude.{is_some, ◌&&◌}
-use Rattle.std.specs.FinMap.{get, insert, remove}
+use Rattle.std.proofs.Common.{◌≡◌, inl, inr, ℕ, Bool, true, false, List, Option, Some, None, refl, sym, ap, ◌∙◌, subst}
+use Rattle.std.specs.Prelude.{is_some}
+use Rattle.std.specs.FinMap.{get}
 use Rattle.std.proofs.lemmas.Option.{none-some, same_Some}
-use Rattle.tss_base.specs.declared.range.Range.{Range}
 use Rattle.tss_base.specs.declared.operand.OpName.{OpName}
 use Rattle.tss_base.specs.declared.operand.Task.{Task}
 use Rattle.tss_base.specs.declared.machine.Machine.{Machine}
 use Rattle.tss_base.specs.declared.event.Event.{Event}
 use Rattle.tss_base.specs.declared.event.Event.TheVariants as event
-use Rattle.tss_base.specs.Names.{Named, Numbered}
+use Rattle.tss_base.specs.Names.{Named}
 use Rattle.tss_maps.proofs.Keys.{nat_order, name_order}
 use Rattle.tss_maps.proofs.Changes.{from_inserted, from_removed, beside_removed}
 use Rattle.tss_protocol.specs.Names.{bank_of}
-use Rattle.tss_protocol.specs.Mail.{StorageName, Home, Buffer, IdleContents, GoneContents, Mail, posted_all, taken}
+use Rattle.tss_protocol.specs.Mail.{StorageName, Home, Buffer, IdleContents, GoneContents, posted_all, taken}
 use Rattle.tss_protocol.specs.State.{State, Entry, Version, CopyState}
 use Rattle.tss_protocol.specs.Renaming.{idle_by, may_retire, buffers_after_gone}
-use Rattle.tss_protocol.specs.Versions.{Versioned, put_version, enlisted, used_alone, used_behind, used_at, ready_with}
-use Rattle.tss_protocol.specs.Buffers.{can_retire_from, sent_by_retire, copies_after_retire, piece_len, copies_after_copy, sent_by_copy, is_last_piece}
-use Rattle.tss_protocol.specs.UnitMachine.{IsEnabled, is_enabled, after_event, without, with_versioned, use_message_taken, idle_message_taken, can_retire, retire_version, after_copy, gone_message_taken}
-use Rattle.tss_phases.proofs.Tests.{something, both}
+use Rattle.tss_protocol.specs.Versions.{Versioned, enlisted, used_alone, used_behind, used_at, ready_with}
+use Rattle.tss_protocol.specs.Buffers.{can_retire_from, sent_by_retire, copies_after_retire, copies_after_copy, sent_by_copy, is_last_piece}
+use Rattle.tss_protocol.specs.UnitMachine.{IsEnabled, is_enabled, after_event, without, use_message_taken, idle_message_taken, can_retire, retire_version, after_copy, gone_message_taken}
+use Rattle.tss_phases.proofs.Tests.{both}
 use Rattle.tss_locality.proofs.LeftFields.{Leaves-after_event}
-use Rattle.tss_laws.specs.Held.{HoldsPlaces, HasHeldPlaces}
-use Rattle.tss_laws.specs.Buffers.{OpenHas, VersionHas, GoneHas, CopyHas, HasBuffer, HasBuffers}
+use Rattle.tss_laws.specs.Held.{HasHeldPlaces}
+use Rattle.tss_laws.specs.Buffers.{HasBuffer, HasBuffers}
 use Rattle.tss_laws.proofs.SentLemmas.{AllSent}
 use Rattle.tss_laws.proofs.HeldEvents.{HoldsNothing, posted_all-nothing}
 use Rattle.tss_laws.proofs.EntriesQuiet.{IsQuietEvent, quiet_objects}
 use Rattle.tss_laws.proofs.BuffersSettled.{KeepsStorages, written_storages}
-use Rattle.tss_laws.proofs.BuffersKept.{PassesBuffers, had_before, buffers_kept, SameHolders, HasBuffers-same}
+use Rattle.tss_laws.proofs.BuffersKept.{PassesBuffers, had_before, buffers_kept, HasBuffers-same}
 
 -- ---- quiet events
 
@@ -69,7 +68,8 @@ HasBuffers-quiet m ts S h e q =
 
 -- ---- use
 
-ready_nothing : (o v : OpName) (s : Option StorageName) → AllSent HoldsNothing (ready_with o v s)
+-- a ready holds nothing
+pub ready_nothing : (o v : OpName) (s : Option StorageName) → AllSent HoldsNothing (ready_with o v s)
 ready_nothing o v None = tt
 ready_nothing o v (Some s) = (tt, tt)
 
@@ -93,7 +93,13 @@ module _ (vs : Named Version) (o v : OpName) where
 module _ (m : Machine) (ts : List Task) (S : State) (h : HasBuffers ts S) where
   used_by : (o : OpName) (v : Option OpName) → HasBuffers ts (use_message_taken (without S (event.Use o)) o v)
   used_by o None = HasBuffers-same ts S _
-      (record { opens = refl; versions = same_storages S.versions S.versions refl; gones = refl; copies = refl; buffers = refl }) h
+      (record {
+        opens = refl;
+        versions = same_storages S.versions S.versions refl;
+        gones = refl;
+        copies = refl;
+        buffers = refl;
+      }) h
   used_by o (Some v) =
       let u = at_none S.versions o v (get S.versions v) refl in
       let k = posted_all-nothing (taken S.mail (event.Use o)) (used_at S.versions o v (get S.versions v)).sent u.1 in
@@ -114,7 +120,13 @@ module _ (m : Machine) (ts : List Task) (S : State) (h : HasBuffers ts S) where
 
   idled_by : (v : OpName) (i : Option IdleContents) → HasBuffers ts (idle_message_taken (without S (event.Idle v)) v i)
   idled_by v None = HasBuffers-same ts S _
-      (record { opens = refl; versions = same_storages S.versions S.versions refl; gones = refl; copies = refl; buffers = refl }) h
+      (record {
+        opens = refl;
+        versions = same_storages S.versions S.versions refl;
+        gones = refl;
+        copies = refl;
+        buffers = refl;
+      }) h
   idled_by v (Some i) =
       let e = get S.entries i.base in
       let k = posted_all-nothing (taken S.mail (event.Idle v)) _ (answered v i e (may_retire v i.count e)) in
@@ -184,10 +196,12 @@ module _ (m : Machine) (ts : List Task) (S : State) (h : HasBuffers ts S) where
   retire_by v (Some x) e on = retired_by v x e x.storage refl on
 
   -- retire
-  pub HasBuffers-retire : (v : OpName) → IsEnabled m S (event.Retire v) → HasBuffers ts (after_event m S (event.Retire v))
+  pub HasBuffers-retire : (v : OpName) → IsEnabled m S (event.Retire v)
+      → HasBuffers ts (after_event m S (event.Retire v))
   unfolding after_event is_enabled
   HasBuffers-retire v on =
-      retire_by v (get S.versions v) refl (both (is_some (get S.mail.retires v)) (can_retire m S (get S.versions v)) on).1
+      let t = both (is_some (get S.mail.retires v)) (can_retire m S (get S.versions v)) on in
+      retire_by v (get S.versions v) refl t.1
 
   -- ---- copy
 

@@ -1,16 +1,15 @@
--- What a settle leaves of buffers: each version keeps its storage, but for one that takes over that of the version which
--- went, and the version that went takes its buffer with it where nobody takes it over.
+-- What a settle leaves of buffers: each version keeps its storage, but for one that takes over that of the version
+-- which went, and the version that went takes its buffer with it where nobody takes it over.
 use Rattle.std.proofs.Common.{◌≡◌, ◌≢◌, ◌⊎◌, inl, inr, false, List, [], ◌∷◌, Option, Some, None, refl, sym, ap, ◌∙◌, subst}
-use Rattle.std.specs.FinMap.{get, insert}
-use Rattle.std.proofs.lemmas.Option.{none-some, same_Some}
+use Rattle.std.specs.FinMap.{get}
 use Rattle.tss_base.specs.declared.operand.OpName.{OpName}
 use Rattle.tss_base.specs.declared.event.Follow.{Follow}
 use Rattle.tss_base.specs.Names.{Named}
 use Rattle.tss_maps.proofs.Keys.{name_order}
 use Rattle.tss_maps.proofs.Changes.{from_inserted, from_removed}
-use Rattle.tss_protocol.specs.Mail.{StorageName, OpenContents, GoneContents, Message, Decode, Ack, Open, Use, Ready, Link, Release, Bye, Idle, Nack, Retire, Gone, Mail, posted, posted_all}
+use Rattle.tss_protocol.specs.Mail.{StorageName, GoneContents, Message, Decode, Ack, Open, Use, Ready, Link, Release, Bye, Idle, Nack, Retire, Gone, Mail, posted, posted_all}
 use Rattle.tss_protocol.specs.State.{Version}
-use Rattle.tss_protocol.specs.Versions.{Versioned, put_version, drop_version, change_version, change_named, buffer_of, followed_by, unlinked, unchanged, settle_asking, settle_over, settled, ready_with}
+use Rattle.tss_protocol.specs.Versions.{Versioned, put_version, drop_version, change_named, buffer_of, followed_by, unlinked, settle_over, settled, ready_with}
 use Rattle.tss_laws.proofs.SentLemmas.{AllSent}
 use Rattle.tss_laws.proofs.SettleCases.{OthersSettled, HasNext, IsQuiet, Asks, IsTakenOver, IsPassedBy, SettleCase, settle_cases}
 use Rattle.tss_laws.proofs.ReadersTold.{IsChanged, from_changed, IsNamedChange, from_named}
@@ -140,7 +139,8 @@ module _ (vs : Named Version) (v : OpName) where
   by_asks : (d : Versioned) → Asks vs v d → LeavesAll vs d
   by_asks d a =
       subst (LeavesAll vs) (sym a.is) (record {
-        storages = written_storages vs v a.version (record (a.version) { asked = Some (a.version.registered) }) a.there refl;
+        storages =
+            written_storages vs v a.version (record (a.version) { asked = Some (a.version.registered) }) a.there refl;
         sent = (tt, tt);
       })
 

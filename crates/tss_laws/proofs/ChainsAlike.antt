@@ -1,5 +1,5 @@
--- The chains of versions depend on a few things: on each version's object, storage and neighbours, on the opens and uses
--- under way, and on how many readers were directed to each.
+-- The chains of versions depend on a few things: on each version's object, storage and neighbours, on the opens and
+-- uses under way, and on how many readers were directed to each.
 use Rattle.std.proofs.Common.{◌≡◌, ◌+◌, List, Some, None, refl, sym, ap, ◌∙◌, subst, inl, inr}
 use Rattle.std.specs.FinMap.{get}
 use Rattle.std.proofs.lemmas.Option.{same_Some}
@@ -28,8 +28,8 @@ pub record AreAlike (x y : Version) : Type 0 where
 pub alike_same : (x : Version) → AreAlike x x
 alike_same x = record { object = refl; storage = refl; predecessor = refl; successor = refl; produced = λ e. refl }
 
--- of two states: the versions are alike, the opens are the same, there are no new uses, and as many readers were directed
--- to each version
+-- of two states: the versions are alike, the opens are the same, there are no new uses, and as many readers were
+-- directed to each version
 pub record AreChainsAlike (S T : State) : Type 0 where
   pub kept : (v : OpName) (x : Version) → get S.versions v ≡ Some x
       → (y : Version) × (get T.versions v ≡ Some y) × AreAlike x y
@@ -76,6 +76,7 @@ module _ (ts : List Task) (S T : State) (a : AreChainsAlike S T) where
   member_back x v (inl m) = inl (version_back x v m)
   member_back x v (inr m) = inr (open_back x v m)
 
+  -- and the other way round
   pub member_on : (x : Range) (v : OpName) → IsMember S x v → IsMember T x v
   member_on x v (inl m) = inl (version_on x v m)
   member_on x v (inr m) = inr (open_on x v m)

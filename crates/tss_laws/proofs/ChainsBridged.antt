@@ -11,8 +11,9 @@ use Rattle.tss_protocol.specs.State.{State, Version}
 use Rattle.tss_protocol.specs.Versions.{followed_by}
 use Rattle.tss_laws.specs.Members.{IsVersionOf, total}
 use Rattle.tss_laws.specs.Chains.{IsAfter, IsFollowed, IsLinked, HasChains}
+use Rattle.tss_laws.proofs.ChainsNumbers.{below_self, crossed, meets_at}
 use Rattle.tss_laws.proofs.UnlinkedVersions.{bridged}
-use Rattle.tss_laws.proofs.ChainsGivingWay.{Departs, below_self, meets_at, not_both_ways, follows as left_follows, next_object as left_next_object, next_back as left_next_back, before_is as left_before_is, before_to as left_before_to, IsNextOne as left_IsNextOne, IsOneBefore as left_IsOneBefore, IsOther as left_IsOther, decide_named as left_decide_named, same_object_by as left_same_object_by, version_before as left_version_before, version_stays as left_version_stays, total_same as left_total_same}
+use Rattle.tss_laws.proofs.ChainsGivingWay.{Departs, follows as left_follows, next_object as left_next_object, next_back as left_next_back, before_is as left_before_is, before_to as left_before_to, IsNextOne as left_IsNextOne, IsOneBefore as left_IsOneBefore, IsOther as left_IsOther, decide_named as left_decide_named, same_object_by as left_same_object_by, version_before as left_version_before, version_stays as left_version_stays, total_same as left_total_same}
 
 module _ (ts : List Task) (S T : State) (h : HasChains ts S) (v : OpName) (x : Version) (f : Follow) (y z : Version)
     (d : Departs S T v x f y z) where
@@ -45,7 +46,8 @@ module _ (ts : List Task) (S T : State) (h : HasChains ts S) (v : OpName) (x : V
   decide_named : (o : Option OpName) (w : OpName) → (o ≡ Some w) ⊎ (o ≡ Some w → ⊥)
   decide_named = left_decide_named ts S T h v x f y z d
 
-  same_object_by : (w : OpName) (old new : Version) → IsNextOne w old new ⊎ (IsOneBefore w old new ⊎ IsOther w old new)
+  same_object_by : (w : OpName) (old new : Version)
+      → IsNextOne w old new ⊎ (IsOneBefore w old new ⊎ IsOther w old new)
       → new.object ≡ old.object
   same_object_by = left_same_object_by ts S T h v x f y z d
 
@@ -133,9 +135,11 @@ module _ (ts : List Task) (S T : State) (h : HasChains ts S) (v : OpName) (x : V
       next_object_x : new.object ≡ x.object
       next_object_x = ap (λ (u : Version). u.object) n.2 ∙ d.object ∙ next_object
 
+      -- it stands behind the predecessor of the one that went
       pub next_predecessor : new.predecessor ≡ x.predecessor
       next_predecessor = ap (λ (u : Version). u.predecessor) n.2 ∙ d.predecessor
 
+      -- and keeps its successor
       pub next_successor : new.successor ≡ old.successor
       next_successor =
           ap (λ (u : Version). u.successor) n.2 ∙ d.successor ∙ ap (λ (u : Version). u.successor) (sym n.1)
@@ -160,7 +164,7 @@ module _ (ts : List Task) (S T : State) (h : HasChains ts S) (v : OpName) (x : V
           let b = link.followed g (sym next_successor ∙ e) in
           let late : v.task < w.task = subst (λ (k : OpName). v.task < k.task) (sym n.0) follows.younger in
           followed_stays w old new stays next_same_object g b
-          (λ is. not_both_ways w.task v.task (subst (λ (k : OpName). w.task < k.task) is b.younger)
+          (λ is. crossed w.task v.task (subst (λ (k : OpName). w.task < k.task) is b.younger)
           (omega (arith, late)))
           (λ is. below_self w.task (subst (λ (k : OpName). w.task < k.task) (is ∙ sym n.0) b.younger))
 
@@ -170,6 +174,7 @@ module _ (ts : List Task) (S T : State) (h : HasChains ts S) (v : OpName) (x : V
           let late = (h.linked v x d.there).oldest (sym next_predecessor ∙ e) q (version_before x.object q at) in
           subst (λ (k : OpName). k.task ≤ q.task) (sym n.0) (past_next q at late)
 
+      -- so it stands between its neighbours
       pub next_linked : IsLinked T w new
       next_linked = record {
         after = next_after;
@@ -202,12 +207,14 @@ module _ (ts : List Task) (S T : State) (h : HasChains ts S) (v : OpName) (x : V
           let a = link.after q (sym before_predecessor ∙ e) in
           let early = before_older in
           after_stays w old new before_object q a
-          (λ is. not_both_ways q.task w.task a.older
+          (λ is. crossed q.task w.task a.older
           (subst (λ (k : OpName). w.task ≤ k.task) (sym is) (omega (arith, early))))
           (λ first.
           below_self w.task (subst (λ (k : OpName). k.task < w.task) (same_Some q w (sym first ∙ b.0)) a.older))
 
-      pub before_successor : (g : Follow) → old.successor ≡ Some g → new.successor ≡ Some (record g { version = f.version })
+      -- its link leads past the one that went
+      pub before_successor : (g : Follow) → old.successor ≡ Some g
+          → new.successor ≡ Some (record g { version = f.version })
       before_successor g to = ap (λ (u : Version). u.successor) b.1 ∙ ap (followed_by f.version) to
 
       before_bridge : (g : Follow) → old.successor ≡ Some g → g.version ≡ v
@@ -239,6 +246,7 @@ module _ (ts : List Task) (S T : State) (h : HasChains ts S) (v : OpName) (x : V
           (same_Some (record (t.0) { version = f.version }) g (sym (before_successor t.0 t.1) ∙ e))
           (before_bridge t.0 t.1 t.2)
 
+      -- so it stands between its neighbours
       pub before_linked : IsLinked T w new
       before_linked = record {
         after = before_after;
@@ -270,6 +278,7 @@ module _ (ts : List Task) (S T : State) (h : HasChains ts S) (v : OpName) (x : V
           let one = same_Some f a.follow (sym d.follow ∙ ap (λ (u : Version). u.successor) same ∙ a.link) in
           o.1 (sym a.back ∙ ap (λ (g : Follow). g.version) (sym one))
 
+      -- nor the one before v
       pub other_not_before : (q : OpName) → IsAfter S w old q → x.predecessor ≡ Some q → ⊥
       other_not_before q a first =
           let t = before_to q a.version first a.there in
@@ -292,6 +301,7 @@ module _ (ts : List Task) (S T : State) (h : HasChains ts S) (v : OpName) (x : V
           let same = same_Some b.version y (sym b.there ∙ ap (λ k. get S.versions k) is ∙ d.next) in
           stays (same_Some w v (sym b.back ∙ ap (λ (u : Version). u.predecessor) same ∙ next_back)))
 
+      -- so it stands between its neighbours
       pub other_linked : IsLinked T w new
       other_linked =
           let back : (q : OpName) → IsVersionOf T new.object q → IsVersionOf S old.object q =

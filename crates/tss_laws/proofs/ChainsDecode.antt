@@ -1,5 +1,5 @@
 -- The chains after a decode: one more open, or one more use.
-use Rattle.std.proofs.Common.{◌≡◌, ◌≢◌, ℕ, ◌+◌, ◌≤◌, ◌<◌, ◌⊎◌, List, Some, None, sym, ap, ◌∙◌, subst, inl, inr, arith}
+use Rattle.std.proofs.Common.{◌≡◌, ◌≢◌, ◌+◌, ◌≤◌, ◌<◌, ◌⊎◌, List, Some, None, sym, ap, ◌∙◌, subst, inl, inr}
 use Rattle.std.specs.FinMap.{get, insert}
 use Rattle.std.proofs.lemmas.Option.{none-some}
 use Rattle.tss_base.specs.declared.range.Range.{Range}
@@ -13,6 +13,7 @@ use Rattle.tss_protocol.specs.State.{State, Entry, Version}
 use Rattle.tss_laws.specs.Members.{IsVersionOf, IsMember, registered_of, opening_reader, uses_of, total, NoWriterBetween}
 use Rattle.tss_laws.specs.Chains.{IsFollowed, IsLinked, IsOver, HasStorage, OpensAfter, IsOpenInOrder, IsUseInOrder, HasChains, FollowsAs}
 use Rattle.tss_laws.specs.Entries.{IsLive}
+use Rattle.tss_laws.proofs.ChainsNumbers.{itself, apart_below, at_most}
 
 -- ---- versions that are left, where totals may change
 
@@ -27,9 +28,11 @@ module _ (ts : List Task) (S T : State) (h : HasChains ts S) (k : KeepsVersions 
   pub version_was : (w : OpName) (y : Version) → get T.versions w ≡ Some y → get S.versions w ≡ Some y
   version_was w y e = sym (ap (λ m. get m w) k.versions) ∙ e
 
+  -- and the other way round
   pub version_is : (w : OpName) (y : Version) → get S.versions w ≡ Some y → get T.versions w ≡ Some y
   version_is w y e = ap (λ m. get m w) k.versions ∙ e
 
+  -- with its object
   pub versions_were : (r : Range) (w : OpName) → IsVersionOf T r w → IsVersionOf S r w
   versions_were r w m = (m.0, version_was w m.0 m.1, m.2)
 
@@ -82,18 +85,6 @@ module _ (ts : List Task) (S T : State) (h : HasChains ts S) (k : KeepsVersions 
         alone = s.alone;
       }
 
-crossed : (a b : ℕ) → a < b → b ≤ a → ⊥
-crossed a b h k = omega (arith, h, k)
-
-at_most : (a b : ℕ) → a < b → a ≤ b
-at_most a b h = omega (arith, h)
-
-itself : (a : ℕ) → a ≤ a
-itself a = omega arith
-
-apart_below : (a b : ℕ) → a < b → a ≡ b → ⊥
-apart_below a b h e = omega (arith, h, e)
-
 -- ---- one more open
 
 module _ (ts : List Task) (S T : State) (h : HasChains ts S) (o : OpName) (c : OpenContents)
@@ -125,6 +116,7 @@ module _ (ts : List Task) (S T : State) (h : HasChains ts S) (o : OpName) (c : O
         | inr old ↦ inr (inr (m.0, old.1, m.2))
       ]
 
+  -- and each that was one still is
   pub member_on : (r : Range) (w : OpName) → IsMember S r w → IsMember T r w
   member_on r w (inl m) = inl (m.0, version_is ts S T h kept w m.0 m.1, m.2)
   member_on r w (inr m) =
@@ -228,7 +220,8 @@ module _ (ts : List Task) (S T : State) (h : HasChains ts S) (o : OpName) (c : O
   ]
 
   -- another follows the latest version
-  pub opens_behind_latest : (e : Entry) (f : Follow) → f.version ≡ e.latest → f.last ≡ e.sent → IsLive S c.operand.object e
+  pub opens_behind_latest : (e : Entry) (f : Follow) → f.version ≡ e.latest → f.last ≡ e.sent
+      → IsLive S c.operand.object e
       → FollowsAs o c f → NoWriterBetween ts c.operand.object e.latest o → OpensAfter ts T o c f
   opens_behind_latest e f is last live way alone =
       let latest = subst (IsMember S c.operand.object) (sym is) live.member in

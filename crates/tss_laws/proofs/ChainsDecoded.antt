@@ -28,14 +28,12 @@ use Rattle.tss_laws.specs.Chains.{IsFollowed, OpensAfter, IsOpenInOrder, IsUseIn
 use Rattle.tss_laws.specs.Entries.{IsLive}
 use Rattle.tss_laws.specs.Readers.{Arrivals}
 use Rattle.tss_laws.specs.Control.{HasGroundwork, IsControlled}
+use Rattle.tss_laws.proofs.ChainsNumbers.{crossed}
 use Rattle.tss_laws.proofs.EntriesNames.{decode_among, no_version, no_open, no_use, object_of_entry}
 use Rattle.tss_laws.proofs.EntriesDecodeOpen.{DecodesOpen}
 use Rattle.tss_laws.proofs.EntriesDecode.{sends_first, sends_beside, sends_over, sends_use, entry_awake}
 use Rattle.tss_laws.proofs.DecodeFacts.{members_earlier, no_writer_since}
 use Rattle.tss_laws.proofs.ChainsDecode.{KeepsVersions, version_was, versions_were, linked_left, stored_left, chains_opened, opens_behind, opens_nothing, opens_behind_latest}
-
-apart_below : (a b : ℕ) → a < b → b ≤ a → ⊥
-apart_below a b h e = omega (arith, h, e)
 
 plus_none : (a b : ℕ) → a ≡ b + 0 → a ≡ b
 plus_none a b e = omega (arith, e)
@@ -64,7 +62,7 @@ module _ (ts : List Task) (S T : State) (h : HasChains ts S) (o : OpName) (x : R
   not_followed v y f there b is =
       let object : x ≡ y.object =
       latest_object y.object (inl (y, ap (λ q. get S.versions q) is ∙ there, refl)) in
-      apart_below v.task f.version.task b.younger
+      crossed v.task f.version.task b.younger
       (subst (λ (q : OpName). f.version.task ≤ q.task) is
       (live.latest f.version (inl (b.version, b.there, b.object ∙ sym object))))
 
@@ -95,7 +93,7 @@ module _ (ts : List Task) (S T : State) (h : HasChains ts S) (o : OpName) (x : R
             let t = i.after f to in
             let apart : e.latest ≢ f.version = λ is.
             let object = latest_object k.operand.object (subst (IsMember S k.operand.object) (sym is) t.member) in
-            apart_below f.version.task q.task t.older
+            crossed f.version.task q.task t.older
             (subst (λ (z : OpName). q.task ≤ z.task) is (live.latest q (inr (k, there, sym object)))) in
             record {
               member = member_on k.operand.object f.version t.member;
@@ -195,7 +193,8 @@ module _ (m : Machine) (all ts : List Task) (g : Arrivals) (S : State) (ground :
       decoded_behind c n f is to version last way d =
           let fresh = no_version m all ts S ground k.orderly o p there in
           let closed = no_open m all ts S ground k.orderly o p there in
-          let early = subst (λ (z : Operand). (q : OpName) → IsMember S z.object q → q.task < o.task) (sym is) earlier in
+          let early =
+          subst (λ (z : Operand). (q : OpName) → IsMember S z.object q → q.task < o.task) (sym is) earlier in
           opened c n is d
           (record {
             operand = among ∙ ap Some (sym is);
@@ -203,7 +202,8 @@ module _ (m : Machine) (all ts : List Task) (g : Arrivals) (S : State) (ground :
             first = λ none. absurd (none-some f (sym none ∙ to));
             after = λ g at.
                 subst (OpensAfter ts T o c) (same_Some f g (sym to ∙ at))
-                (opens_behind_latest ts S T k.chains o c early fresh closed d.leaving.versions d.opens d.uses e f version
+                (opens_behind_latest ts S T k.chains o c early fresh closed d.leaving.versions d.opens d.uses e f
+                version
                 last
                 (subst (λ (z : Operand). IsLive S z.object e) (sym is) live)
                 way

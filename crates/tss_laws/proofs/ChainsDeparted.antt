@@ -14,9 +14,10 @@ use Rattle.tss_protocol.specs.State.{State, Version}
 use Rattle.tss_protocol.specs.Versions.{followed_by}
 use Rattle.tss_laws.specs.Members.{IsOn, NoWriterBetween, IsVersionOf, IsMember, total}
 use Rattle.tss_laws.specs.Chains.{IsAfter, IsFollowed, IsLinked, IsOver, HasStorage, IsOpenInOrder, IsUseInOrder, HasChains}
+use Rattle.tss_laws.proofs.ChainsNumbers.{below_self, crossed}
 use Rattle.tss_laws.proofs.ChainsAlike.{object_of_member}
 use Rattle.tss_laws.proofs.UnlinkedVersions.{bridged}
-use Rattle.tss_laws.proofs.ChainsGivingWay.{Departs, TakesStorage, below_self, not_both_ways, follows as left_follows, next_object as left_next_object, next_back as left_next_back, before_is as left_before_is, before_to as left_before_to, IsNextOne as left_IsNextOne, IsOneBefore as left_IsOneBefore, IsOther as left_IsOther, Came as left_Came, came as left_came, same_object as left_same_object, version_before as left_version_before, member_before as left_member_before, member_later as left_member_later, total_same as left_total_same}
+use Rattle.tss_laws.proofs.ChainsGivingWay.{Departs, TakesStorage, follows as left_follows, next_object as left_next_object, next_back as left_next_back, before_is as left_before_is, before_to as left_before_to, IsNextOne as left_IsNextOne, IsOneBefore as left_IsOneBefore, IsOther as left_IsOther, Came as left_Came, came as left_came, same_object as left_same_object, version_before as left_version_before, member_before as left_member_before, member_later as left_member_later, total_same as left_total_same}
 use Rattle.tss_laws.proofs.ChainsBridged.{successor_stays as left_successor_stays, next_same_object as left_next_same_object, next_predecessor as left_next_predecessor, next_successor as left_next_successor, next_linked as left_next_linked, before_successor as left_before_successor, before_linked as left_before_linked, other_not_v as left_other_not_v, other_not_before as left_other_not_before, other_linked as left_other_linked}
 
 module _ (ts : List Task) (S T : State) (h : HasChains ts S) (v : OpName) (x : Version) (f : Follow) (y z : Version)
@@ -72,39 +73,48 @@ module _ (ts : List Task) (S T : State) (h : HasChains ts S) (v : OpName) (x : V
       → (t : Version) × (get T.versions q ≡ Some t) × (t.object ≡ u.object) × (t.successor ≡ u.successor)
   successor_stays = left_successor_stays ts S T h v x f y z d
 
-  next_same_object : (w : OpName) (old new : Version) (there : get S.versions w ≡ Some old) (stays : w ≢ v) (n : IsNextOne w old new)
+  next_same_object : (w : OpName) (old new : Version) (there : get S.versions w ≡ Some old) (stays : w ≢ v)
+      (n : IsNextOne w old new)
       → new.object ≡ old.object
   next_same_object = left_next_same_object ts S T h v x f y z d
 
-  next_predecessor : (w : OpName) (old new : Version) (there : get S.versions w ≡ Some old) (stays : w ≢ v) (n : IsNextOne w old new)
+  next_predecessor : (w : OpName) (old new : Version) (there : get S.versions w ≡ Some old) (stays : w ≢ v)
+      (n : IsNextOne w old new)
       → new.predecessor ≡ x.predecessor
   next_predecessor = left_next_predecessor ts S T h v x f y z d
 
-  next_successor : (w : OpName) (old new : Version) (there : get S.versions w ≡ Some old) (stays : w ≢ v) (n : IsNextOne w old new)
+  next_successor : (w : OpName) (old new : Version) (there : get S.versions w ≡ Some old) (stays : w ≢ v)
+      (n : IsNextOne w old new)
       → new.successor ≡ old.successor
   next_successor = left_next_successor ts S T h v x f y z d
 
-  next_linked : (w : OpName) (old new : Version) (there : get S.versions w ≡ Some old) (stays : w ≢ v) (n : IsNextOne w old new)
+  next_linked : (w : OpName) (old new : Version) (there : get S.versions w ≡ Some old) (stays : w ≢ v)
+      (n : IsNextOne w old new)
       → IsLinked T w new
   next_linked = left_next_linked ts S T h v x f y z d
 
-  before_successor : (w : OpName) (old new : Version) (there : get S.versions w ≡ Some old) (stays : w ≢ v) (b : IsOneBefore w old new)
+  before_successor : (w : OpName) (old new : Version) (there : get S.versions w ≡ Some old) (stays : w ≢ v)
+      (b : IsOneBefore w old new)
       → (g : Follow) → old.successor ≡ Some g → new.successor ≡ Some (record g { version = f.version })
   before_successor = left_before_successor ts S T h v x f y z d
 
-  before_linked : (w : OpName) (old new : Version) (there : get S.versions w ≡ Some old) (stays : w ≢ v) (b : IsOneBefore w old new)
+  before_linked : (w : OpName) (old new : Version) (there : get S.versions w ≡ Some old) (stays : w ≢ v)
+      (b : IsOneBefore w old new)
       → IsLinked T w new
   before_linked = left_before_linked ts S T h v x f y z d
 
-  other_not_v : (w : OpName) (old new : Version) (there : get S.versions w ≡ Some old) (stays : w ≢ v) (o : IsOther w old new)
+  other_not_v : (w : OpName) (old new : Version) (there : get S.versions w ≡ Some old) (stays : w ≢ v)
+      (o : IsOther w old new)
       → (q : OpName) → IsAfter S w old q → q ≢ v
   other_not_v = left_other_not_v ts S T h v x f y z d
 
-  other_not_before : (w : OpName) (old new : Version) (there : get S.versions w ≡ Some old) (stays : w ≢ v) (o : IsOther w old new)
+  other_not_before : (w : OpName) (old new : Version) (there : get S.versions w ≡ Some old) (stays : w ≢ v)
+      (o : IsOther w old new)
       → (q : OpName) → IsAfter S w old q → x.predecessor ≡ Some q → ⊥
   other_not_before = left_other_not_before ts S T h v x f y z d
 
-  other_linked : (w : OpName) (old new : Version) (there : get S.versions w ≡ Some old) (stays : w ≢ v) (o : IsOther w old new)
+  other_linked : (w : OpName) (old new : Version) (there : get S.versions w ≡ Some old) (stays : w ≢ v)
+      (o : IsOther w old new)
       → IsLinked T w new
   other_linked = left_other_linked ts S T h v x f y z d
 
@@ -216,7 +226,7 @@ module _ (ts : List Task) (S T : State) (h : HasChains ts S) (v : OpName) (x : V
         (ap (λ (u : Version). u.predecessor) b.1) (ap (λ (u : Version). u.produced) b.1)
         (λ q a. (
           (λ is.
-              not_both_ways q.task w.task a.older
+              crossed q.task w.task a.older
               (let early = (before_is w b.0).older in
               subst (λ (k : OpName). w.task ≤ k.task) (sym is) (omega (arith, early)))),
           (λ first.
@@ -260,9 +270,9 @@ module _ (ts : List Task) (S T : State) (h : HasChains ts S) (v : OpName) (x : V
       let late = subst (λ r. IsVersionOf S r f.version) object (y, d.next, next_object) in
       elim (a.near f.version (inl late)) [
         | inl close ↦
-            not_both_ways v.task f.version.task follows.younger
+            crossed v.task f.version.task follows.younger
             (subst (λ (k : OpName). f.version.task ≤ k.task) is close)
-        | inr far ↦ not_both_ways f.version.task o.task (i.behind f.version late) far
+        | inr far ↦ crossed f.version.task o.task (i.behind f.version late) far
       ]
 
   open_later : (o : OpName) (c : OpenContents) → IsOpenInOrder ts S o c → IsOpenInOrder ts T o c

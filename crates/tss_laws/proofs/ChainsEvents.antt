@@ -21,10 +21,12 @@ use Rattle.tss_laws.proofs.GroundworkJoin.{IsGroupKept}
 use Rattle.tss_laws.proofs.GroundworkMain.{keeps_main}
 
 -- a retire that may happen has its message
-pub retire_sent : (m : Machine) (S : State) (v : OpName) → IsEnabled m S (event.Retire v) → get S.mail.retires v ≡ Some tt
+pub retire_sent : (m : Machine) (S : State) (v : OpName) → IsEnabled m S (event.Retire v)
+    → get S.mail.retires v ≡ Some tt
 unfolding is_enabled
 retire_sent m S v on =
-    some_unit (get S.mail.retires v) (and_parts (is_some (get S.mail.retires v)) (can_retire m S (get S.versions v)) on).0
+    some_unit (get S.mail.retires v)
+    (and_parts (is_some (get S.mail.retires v)) (can_retire m S (get S.versions v)) on).0
 
 -- every event leaves the chains
 pub keeps_chains : (e : Event) → IsGroupKept e (λ ts g S. HasChains ts S)

@@ -58,10 +58,12 @@ module _ (m : Machine) (S : State) where
     unfolding after_event
     HasChains-idle v = HasChains-same ts S _ (maps_idle v (get S.mail.idles v)) h
 
+    -- a copy
     pub HasChains-copy : (b : ℕ) → HasChains ts (after_event m S (event.Copy b))
     unfolding after_event
     HasChains-copy b = HasChains-same ts S _ (maps_copy b (get S.copies b)) h
 
+    -- and a gone
     pub HasChains-gone : (v : OpName) → HasChains ts (after_event m S (event.Gone v))
     unfolding after_event
     HasChains-gone v = HasChains-same ts S _ (maps_gone v (get S.mail.gones v)) h

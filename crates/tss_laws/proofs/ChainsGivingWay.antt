@@ -1,5 +1,5 @@
 -- The chains after a produced version, to which no use is under way, has given way to the one that follows it.
-use Rattle.std.proofs.Common.{◌≡◌, ◌≢◌, ℕ, ◌+◌, ◌<◌, ◌≤◌, ◌⊎◌, true, List, Option, Some, None, refl, sym, ap, ◌∙◌, subst, inl, inr, arith}
+use Rattle.std.proofs.Common.{◌≡◌, ◌≢◌, ◌+◌, ◌<◌, ◌⊎◌, true, List, Option, Some, None, refl, sym, ap, ◌∙◌, subst, inl, inr, arith}
 use Rattle.std.specs.FinMap.{get}
 use Rattle.std.proofs.lemmas.Option.{none-some, same_Some}
 use Rattle.tss_base.specs.declared.range.Range.{Range}
@@ -12,6 +12,7 @@ use Rattle.tss_maps.proofs.Keys.{name_order, decide_key}
 use Rattle.tss_protocol.specs.State.{State, Version}
 use Rattle.tss_laws.specs.Members.{IsVersionOf, IsOpenOf, IsMember, registered_of, opening_reader, uses_of, total}
 use Rattle.tss_laws.specs.Chains.{IsAfter, IsFollowed, HasChains}
+use Rattle.tss_laws.proofs.ChainsNumbers.{below_self, crossed}
 use Rattle.tss_laws.proofs.UnlinkedVersions.{bridged, GaveWay}
 
 -- ---- what gives way to what
@@ -39,15 +40,6 @@ pub record Departs (S T : State) (v : OpName) (x : Version) (f : Follow) (y z : 
   pub registered : z.registered ≡ y.registered
   pub storage : TakesStorage f.how x y z
 
-pub below_self : (n : ℕ) → n < n → ⊥
-below_self n h = omega (arith, h)
-
-pub not_both_ways : (a b : ℕ) → a < b → b ≤ a → ⊥
-not_both_ways a b h k = omega (arith, h, k)
-
-pub meets_at : (a b : ℕ) → a ≤ b → b ≤ a → a ≡ b
-meets_at a b h k = omega (arith, h, k)
-
 module _ (ts : List Task) (S T : State) (h : HasChains ts S) (v : OpName) (x : Version) (f : Follow) (y z : Version)
     (d : Departs S T v x f y z) where
   -- ---- the versions around
@@ -59,9 +51,11 @@ module _ (ts : List Task) (S T : State) (h : HasChains ts S) (v : OpName) (x : V
   next_is : follows.version ≡ y
   next_is = same_Some follows.version y (sym follows.there ∙ d.next)
 
+  -- it is of the same object
   pub next_object : y.object ≡ x.object
   next_object = ap (λ (u : Version). u.object) (sym next_is) ∙ follows.object
 
+  -- and knows v
   pub next_back : y.predecessor ≡ Some v
   next_back = ap (λ (u : Version). u.predecessor) (sym next_is) ∙ follows.back
 
@@ -77,7 +71,7 @@ module _ (ts : List Task) (S T : State) (h : HasChains ts S) (v : OpName) (x : V
 
   not_before_next : x.predecessor ≡ Some f.version → ⊥
   not_before_next e =
-      not_both_ways f.version.task v.task (before_is f.version e).older
+      crossed f.version.task v.task (before_is f.version e).older
       (omega (arith, follows.younger))
 
   -- the version before v is followed by v
@@ -94,18 +88,22 @@ module _ (ts : List Task) (S T : State) (h : HasChains ts S) (v : OpName) (x : V
   abbrev pub IsNextOne : OpName → Version → Version → Type 0
   IsNextOne w old new = (w ≡ f.version) × (old ≡ y) × (new ≡ z)
 
+  -- the one before
   abbrev pub IsOneBefore : OpName → Version → Version → Type 0
   IsOneBefore w old new = (x.predecessor ≡ Some w) × (new ≡ bridged f.version old)
 
+  -- another
   abbrev pub IsOther : OpName → Version → Version → Type 0
   IsOther w old new = (x.predecessor ≡ Some w → ⊥) × (w ≢ f.version) × (new ≡ old)
 
+  -- what stands somewhere, by what stood there
   pub record Came (w : OpName) (new : Version) : Type 0 where
     pub old : Version
     pub there : get S.versions w ≡ Some old
     pub stays : w ≢ v
     pub which : IsNextOne w old new ⊎ (IsOneBefore w old new ⊎ IsOther w old new)
 
+  -- a name is there and is this one, or not
   pub decide_named : (o : Option OpName) (w : OpName) → (o ≡ Some w) ⊎ (o ≡ Some w → ⊥)
   decide_named None w = inr (λ e. none-some w e)
   decide_named (Some p) w = elim (decide_key name_order p w) [
@@ -155,13 +153,16 @@ module _ (ts : List Task) (S T : State) (h : HasChains ts S) (v : OpName) (x : V
 
   -- ---- what is as it was
 
-  pub same_object_by : (w : OpName) (old new : Version) → IsNextOne w old new ⊎ (IsOneBefore w old new ⊎ IsOther w old new)
+  -- its object is as it was
+  pub same_object_by : (w : OpName) (old new : Version)
+      → IsNextOne w old new ⊎ (IsOneBefore w old new ⊎ IsOther w old new)
       → new.object ≡ old.object
   same_object_by w old new (inl n) =
       ap (λ (u : Version). u.object) n.2 ∙ d.object ∙ ap (λ (u : Version). u.object) (sym n.1)
   same_object_by w old new (inr (inl b)) = ap (λ (u : Version). u.object) b.1
   same_object_by w old new (inr (inr o)) = ap (λ (u : Version). u.object) o.2
 
+  -- the same
   pub same_object : (w : OpName) (new : Version) (c : Came w new) → new.object ≡ c.old.object
   same_object w new c = same_object_by w c.old new c.which
 
@@ -172,16 +173,19 @@ module _ (ts : List Task) (S T : State) (h : HasChains ts S) (v : OpName) (x : V
   same_registered_by w old new (inr (inl b)) = ap (λ (u : Version). u.registered) b.1
   same_registered_by w old new (inr (inr o)) = ap (λ (u : Version). u.registered) o.2
 
+  -- a version that is left was there
   pub version_before : (r : Range) (w : OpName) → IsVersionOf T r w → IsVersionOf S r w
   version_before r w m =
       let c = came w m.0 m.1 in (c.old, c.there, sym (same_object w m.0 c) ∙ m.2)
 
+  -- and isn't v
   pub version_stays : (r : Range) (w : OpName) → IsVersionOf T r w → w ≢ v
   version_stays r w m = (came w m.0 m.1).stays
 
   open_before : (r : Range) (w : OpName) → IsOpenOf T r w → IsOpenOf S r w
   open_before r w m = (m.0, sym (ap (λ os. get os w) d.opens) ∙ m.1, m.2)
 
+  -- so was a member
   pub member_before : (r : Range) (w : OpName) → IsMember T r w → IsMember S r w
   member_before r w (inl m) = inl (version_before r w m)
   member_before r w (inr m) = inr (open_before r w m)
@@ -193,6 +197,7 @@ module _ (ts : List Task) (S T : State) (h : HasChains ts S) (v : OpName) (x : V
   version_later_by w old e far apart (inl b) = (bridged f.version old, d.gave.before w old b e)
   version_later_by w old e far apart (inr n) = (old, d.gave.others w far apart n ∙ e)
 
+  -- a version other than v is still there
   pub version_later : (w : OpName) (old : Version) → get S.versions w ≡ Some old → w ≢ v
       → (new : Version) × (get T.versions w ≡ Some new)
   version_later w old e far = elim (decide_key name_order w f.version) [
@@ -204,6 +209,7 @@ module _ (ts : List Task) (S T : State) (h : HasChains ts S) (v : OpName) (x : V
       → (c : Came w new) × (c.old ≡ old)
   came_from w old new e at = let c = came w new at in (c, same_Some c.old old (sym c.there ∙ e))
 
+  -- so is a member
   pub member_later : (r : Range) (w : OpName) → w ≢ v → IsMember S r w → IsMember T r w
   member_later r w far (inl m) =
       let t = version_later w m.0 m.1 far in
@@ -230,6 +236,7 @@ module _ (ts : List Task) (S T : State) (h : HasChains ts S) (v : OpName) (x : V
       ∙ same_registered_by w c.0.old t.0 c.0.which
       ∙ ap (λ (u : Version). u.registered) c.1
 
+  -- as many readers were directed to each
   pub total_same : (w : OpName) → w ≢ v → total T w ≡ total S w
   total_same w far = λ i.
       registered_same w far (get S.versions w) refl i

@@ -14,7 +14,8 @@ use Rattle.tss_protocol.specs.Mail.{Home, Buffer, OpenContents}
 use Rattle.tss_protocol.specs.State.{State, Version}
 use Rattle.tss_laws.specs.Members.{IsOn, NoWriterBetween, IsVersionOf, IsMember, total}
 use Rattle.tss_laws.specs.Chains.{IsAfter, IsFollowed, IsLinked, IsOver, HasStorage, IsOpenInOrder, HasChains}
-use Rattle.tss_laws.proofs.ChainsRegistered.{Registers, at_most, below_self, followed_version, link_to, linked_to, order as opened_order, old_apart as opened_old_apart, front_object as opened_front_object, version_back as opened_version_back, member_back as opened_member_back, total_same as opened_total_same}
+use Rattle.tss_laws.proofs.ChainsNumbers.{below_self, at_most}
+use Rattle.tss_laws.proofs.ChainsRegistered.{Registers, followed_version, link_to, linked_to, order as opened_order, old_apart as opened_old_apart, front_object as opened_front_object, version_back as opened_version_back, member_back as opened_member_back, total_same as opened_total_same}
 
 module _ (ts : List Task) (S T : State) (h : HasChains ts S) (o : OpName) (c : OpenContents) (n : Version)
     (d : Registers S T o c n) where
@@ -28,7 +29,8 @@ module _ (ts : List Task) (S T : State) (h : HasChains ts S) (o : OpName) (c : O
   front_object : (f : Follow) (to : c.follows ≡ Some f) → (d.behind f to).0.object ≡ c.operand.object
   front_object = opened_front_object ts S T h o c n d
 
-  version_back : (r : Range) (w : OpName) → IsVersionOf T r w → ((w ≡ o) × (c.operand.object ≡ r)) ⊎ IsVersionOf S r w
+  version_back : (r : Range) (w : OpName) → IsVersionOf T r w
+      → ((w ≡ o) × (c.operand.object ≡ r)) ⊎ IsVersionOf S r w
   version_back = opened_version_back ts S T h o c n d
 
   member_back : (r : Range) (w : OpName) → IsMember T r w → IsMember S r w
@@ -72,6 +74,7 @@ module _ (ts : List Task) (S T : State) (h : HasChains ts S) (o : OpName) (c : O
       by (Some f) to =
           absurd (none-some f.version (sym none ∙ d.predecessor ∙ ap followed_version to))
 
+  -- so it stands between its neighbours
   pub new_linked : IsLinked T o n
   new_linked = record {
     after = λ q e.
@@ -160,6 +163,7 @@ module _ (ts : List Task) (S T : State) (h : HasChains ts S) (o : OpName) (c : O
         alone = λ g e over. absurd (none-some g (sym d.successor ∙ e));
       }
 
+  -- and has the storage that its open says
   pub new_stored : (s : Option Follow) → c.follows ≡ s → HasStorage ts T o n
   new_stored None to = new_stored_first to
   new_stored (Some f) to = elim ((order.after f to).way) [
@@ -219,6 +223,7 @@ module _ (ts : List Task) (S T : State) (h : HasChains ts S) (o : OpName) (c : O
       | inr old ↦ front_link.oldest e q old
     ]
 
+    -- it stands between its neighbours
     pub front_linked : IsLinked T f.version (linked_to o f (d.behind f to).0)
     front_linked = record {
       after = λ q e. front_after q (front_link.after q e);
@@ -228,6 +233,7 @@ module _ (ts : List Task) (S T : State) (h : HasChains ts S) (o : OpName) (c : O
       youngest = λ e q m. absurd (none-some (link_to o f) (sym e));
     }
 
+    -- and has its storage
     pub front_stored : HasStorage ts T f.version (linked_to o f (d.behind f to).0)
     front_stored =
         let s = h.storages f.version (d.behind f to).0 (d.behind f to).1 in

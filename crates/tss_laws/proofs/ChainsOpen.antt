@@ -151,6 +151,7 @@ module _ (m : Machine) (all ts : List Task) (g : Arrivals) (S : State) (ground :
       mail = record (S.mail) { opens = remove S.mail.opens o };
     }
 
+    -- it is registered there
     pub registers_behind : Registers S registered_state o c (following c f)
     registers_behind = record {
       opening = opening;
@@ -185,6 +186,7 @@ module _ (m : Machine) (all ts : List Task) (g : Arrivals) (S : State) (ground :
         (released_few ts g S k.readers f.version u there))
         (others_followed S.versions o c f front_apart (λ q y e. k.retirement.settled q y e))
 
+  -- beside and over leave the same versions
   pub part_how : (f : Follow) (how : How)
       → (opened_how S.versions o c f how).part ≡ (settled (followed S.versions o c f) f.version).part
   part_how f Beside = refl
@@ -216,8 +218,8 @@ module _ (m : Machine) (all ts : List Task) (g : Arrivals) (S : State) (ground :
   chains_open o (Some c) e on =
       let d = after_open S.versions o c in
       let same = posted_all-later (taken S.mail (event.Open o)) d.sent (after_open-later S.versions o c) in
-      chains_by m all ts g S ground k o c e (with_versioned (without S (event.Open o)) d) c.follows refl on refl same.opens
-      same.uses
+      chains_by m all ts g S ground k o c e (with_versioned (without S (event.Open o)) d) c.follows refl on refl
+      same.opens same.uses
 
   -- open
   pub HasChains-open : (o : OpName) → IsEnabled m S (event.Open o) → HasChains ts (after_event m S (event.Open o))

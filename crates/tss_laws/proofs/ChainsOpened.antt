@@ -13,7 +13,8 @@ use Rattle.tss_protocol.specs.Mail.{OpenContents}
 use Rattle.tss_protocol.specs.State.{State, Version}
 use Rattle.tss_laws.specs.Members.{operand_among, IsVersionOf, IsMember, total}
 use Rattle.tss_laws.specs.Chains.{IsAfter, IsFollowed, IsLinked, IsOver, HasStorage, IsOpenInOrder, IsUseInOrder, HasChains}
-use Rattle.tss_laws.proofs.ChainsRegistered.{Registers, at_most, below, crossed, linked_to, meets_at, order as opened_order, old_apart as opened_old_apart, front_object as opened_front_object, front_none as opened_front_none, IsNew as opened_IsNew, IsFront as opened_IsFront, IsOld as opened_IsOld, StillVersion as opened_StillVersion, came as opened_came, version_back as opened_version_back, member_back as opened_member_back, still as opened_still, member_on as opened_member_on, total_same as opened_total_same}
+use Rattle.tss_laws.proofs.ChainsNumbers.{crossed, meets_at, below, at_most}
+use Rattle.tss_laws.proofs.ChainsRegistered.{Registers, linked_to, order as opened_order, old_apart as opened_old_apart, front_object as opened_front_object, front_none as opened_front_none, IsNew as opened_IsNew, IsFront as opened_IsFront, IsOld as opened_IsOld, StillVersion as opened_StillVersion, came as opened_came, version_back as opened_version_back, member_back as opened_member_back, still as opened_still, member_on as opened_member_on, total_same as opened_total_same}
 use Rattle.tss_laws.proofs.ChainsNewVersion.{new_linked as opened_new_linked, new_stored as opened_new_stored, front_linked as opened_front_linked, front_stored as opened_front_stored}
 
 module _ (ts : List Task) (S T : State) (h : HasChains ts S) (o : OpName) (c : OpenContents) (n : Version)
@@ -46,7 +47,8 @@ module _ (ts : List Task) (S T : State) (h : HasChains ts S) (o : OpName) (c : O
   came : (w : OpName) (y : Version) → get T.versions w ≡ Some y → IsNew w y ⊎ (IsFront w y ⊎ IsOld w y)
   came = opened_came ts S T h o c n d
 
-  version_back : (r : Range) (w : OpName) → IsVersionOf T r w → ((w ≡ o) × (c.operand.object ≡ r)) ⊎ IsVersionOf S r w
+  version_back : (r : Range) (w : OpName) → IsVersionOf T r w
+      → ((w ≡ o) × (c.operand.object ≡ r)) ⊎ IsVersionOf S r w
   version_back = opened_version_back ts S T h o c n d
 
   member_back : (r : Range) (w : OpName) → IsMember T r w → IsMember S r w
@@ -138,7 +140,8 @@ module _ (ts : List Task) (S T : State) (h : HasChains ts S) (o : OpName) (c : O
         let late = old_link.youngest e f.version (subst (λ r. IsVersionOf S r f.version) object front) in
         elim ((order.after f to).near w (inl m)) [
           | inl close ↦
-              apart f to (h.one c.operand.object w f.version (inl m) (inl front) (meets_at w.task f.version.task close late))
+              apart f to
+              (h.one c.operand.object w f.version (inl m) (inl front) (meets_at w.task f.version.task close late))
           | inr far ↦ crossed w.task o.task (order.behind w m) far
         ]
 
@@ -249,7 +252,8 @@ module _ (ts : List Task) (S T : State) (h : HasChains ts S) (o : OpName) (c : O
   -- what holds of the new version, of the one that is followed, and of the others, holds of each
   each_version : (P : OpName → Version → Type 0) → P o n
       → ((f : Follow) (to : c.follows ≡ Some f) → P f.version (linked_to o f (d.behind f to).0))
-      → ((w : OpName) (y : Version) → get S.versions w ≡ Some y → ((f : Follow) → c.follows ≡ Some f → w ≢ f.version) → P w y)
+      → ((w : OpName) (y : Version) → get S.versions w ≡ Some y
+      → ((f : Follow) → c.follows ≡ Some f → w ≢ f.version) → P w y)
       → (w : OpName) (y : Version) → get T.versions w ≡ Some y → P w y
   each_version P new front old w y e = elim (came w y e) [
     | inl k ↦ subst (λ q. P q y) (sym k.0) (subst (P o) (sym k.1) new)

@@ -1,5 +1,5 @@
 -- The chains where an open has been taken and its version is registered, before the version that it follows is settled.
-use Rattle.std.proofs.Common.{◌≡◌, ◌≢◌, ℕ, ◌+◌, ◌≤◌, ◌<◌, ◌⊎◌, false, List, Option, Some, None, refl, sym, ap, ◌∙◌, subst, inl, inr, arith}
+use Rattle.std.proofs.Common.{◌≡◌, ◌≢◌, ℕ, ◌+◌, ◌⊎◌, false, List, Option, Some, None, refl, sym, ap, ◌∙◌, subst, inl, inr, arith}
 use Rattle.std.specs.FinMap.{get, remove}
 use Rattle.std.proofs.lemmas.Option.{none-some, same_Some}
 use Rattle.tss_base.specs.declared.range.Range.{Range}
@@ -12,6 +12,7 @@ use Rattle.tss_protocol.specs.Mail.{OpenContents}
 use Rattle.tss_protocol.specs.State.{State, Version}
 use Rattle.tss_laws.specs.Members.{IsVersionOf, IsOpenOf, IsMember, registered_of, first_reader, opening_reader, uses_of, total}
 use Rattle.tss_laws.specs.Chains.{IsOpenInOrder, HasChains}
+use Rattle.tss_laws.proofs.ChainsNumbers.{crossed}
 use Rattle.tss_laws.proofs.ChainsAlike.{object_of_member}
 
 -- ---- a version is registered
@@ -47,24 +48,7 @@ pub record Registers (S T : State) (o : OpName) (c : OpenContents) (n : Version)
   pub registered : n.registered ≡ first_reader c.operand.mode c.follows
   pub unproduced : c.storage ≡ None → n.produced ≡ false
 
-pub below_self : (n : ℕ) → n < n → ⊥
-below_self n h = omega (arith, h)
-
-pub crossed : (a b : ℕ) → a < b → b ≤ a → ⊥
-crossed a b h k = omega (arith, h, k)
-
-pub meets_at : (a b : ℕ) → a ≤ b → b ≤ a → a ≡ b
-meets_at a b h k = omega (arith, h, k)
-
-pub below : (a b : ℕ) → a ≤ b → a ≢ b → a < b
-below a b h k = omega (arith, h, k)
-
-pub between : (a b c : ℕ) → a < b → b ≤ c → a < c
-between a b c h k = omega (arith, h, k)
-
-pub at_most : (a b : ℕ) → a < b → a ≤ b
-at_most a b h = omega (arith, h)
-
+-- a first reader counts as much as its open did
 pub swap_sum : (r k u : ℕ) → r ≡ k → r + 0 + u ≡ 0 + k + u
 swap_sum r k u e = omega (arith, e)
 
@@ -83,6 +67,7 @@ module _ (ts : List Task) (S T : State) (h : HasChains ts S) (o : OpName) (c : O
   front_there : (f : Follow) (to : c.follows ≡ Some f) → get S.versions f.version ≡ Some (d.behind f to).0
   front_there f to = (d.behind f to).1
 
+  -- the version that is followed is of the same object
   pub front_object : (f : Follow) (to : c.follows ≡ Some f) → (d.behind f to).0.object ≡ c.operand.object
   front_object f to =
       object_of_member ts S h f.version (d.behind f to).0 (d.behind f to).1 c.operand.object (order.after f to).member
@@ -99,18 +84,22 @@ module _ (ts : List Task) (S T : State) (h : HasChains ts S) (o : OpName) (c : O
         | inr far ↦ absurd (crossed g.version.task o.task (order.behind g.version m) far)
       ]
 
+  -- so it had none
   pub front_none : (f : Follow) (to : c.follows ≡ Some f) → (d.behind f to).0.successor ≡ None
   front_none f to = front_last f to (d.behind f to).0.successor refl
 
   -- ---- where a version came from
 
+  -- the new version
   abbrev pub IsNew : OpName → Version → Type 0
   IsNew w y = (w ≡ o) × (y ≡ n)
 
+  -- the one that is followed
   abbrev pub IsFront : OpName → Version → Type 0
   IsFront w y =
       (f : Follow) × (to : c.follows ≡ Some f) × (w ≡ f.version) × (y ≡ linked_to o f (d.behind f to).0)
 
+  -- another, as it was
   abbrev pub IsOld : OpName → Version → Type 0
   IsOld w y =
       (get S.versions w ≡ Some y) × ((f : Follow) → c.follows ≡ Some f → w ≢ f.version)
@@ -135,6 +124,7 @@ module _ (ts : List Task) (S T : State) (h : HasChains ts S) (o : OpName) (c : O
         inr (sym (d.others w far others) ∙ e, others)
   ]
 
+  -- each is one of these
   pub came : (w : OpName) (y : Version) → get T.versions w ≡ Some y → IsNew w y ⊎ (IsFront w y ⊎ IsOld w y)
   came w y e = elim (decide_key name_order w o) [
     | inl is ↦ inl (is, same_Some y n (sym e ∙ ap (λ q. get T.versions q) is ∙ d.stands))
@@ -154,18 +144,22 @@ module _ (ts : List Task) (S T : State) (h : HasChains ts S) (o : OpName) (c : O
     ap (λ (u : Version). u.object) same,
   )
 
-  pub version_back : (r : Range) (w : OpName) → IsVersionOf T r w → ((w ≡ o) × (c.operand.object ≡ r)) ⊎ IsVersionOf S r w
+  -- a version is the new one, or was there
+  pub version_back : (r : Range) (w : OpName) → IsVersionOf T r w
+      → ((w ≡ o) × (c.operand.object ≡ r)) ⊎ IsVersionOf S r w
   version_back r w m = elim (came w m.0 m.1) [
     | inl new ↦ inl (new.0, sym d.object ∙ ap (λ (u : Version). u.object) (sym new.1) ∙ m.2)
     | inr (inl front) ↦ let u = front_was w m.0 front in inr (u.0, u.1, sym u.2 ∙ m.2)
     | inr (inr old) ↦ inr (m.0, old.0, m.2)
   ]
 
+  -- an open that is left was there
   pub open_back : (r : Range) (w : OpName) → IsOpenOf T r w → (w ≢ o) × IsOpenOf S r w
   open_back r w m =
       let b = from_removed name_order S.mail.opens o w m.0 (sym (ap (λ os. get os w) d.opens) ∙ m.1) in
       (b.0, (m.0, b.1, m.2))
 
+  -- so was a member
   pub member_back : (r : Range) (w : OpName) → IsMember T r w → IsMember S r w
   member_back r w (inl m) = elim (version_back r w m) [
     | inl new ↦ inr (c, ap (λ q. get S.mail.opens q) new.0 ∙ d.opening, new.1)
@@ -201,9 +195,11 @@ module _ (ts : List Task) (S T : State) (h : HasChains ts S) (o : OpName) (c : O
     )
   ]
 
+  -- each is still there
   pub still : (w : OpName) (u : Version) → get S.versions w ≡ Some u → StillVersion w u
   still w u e = still_by w u e c.follows refl
 
+  -- a member is still one
   pub member_on : (r : Range) (w : OpName) → IsMember S r w → IsMember T r w
   member_on r w (inl m) = let t = still w m.0 m.1 in inl (t.0, t.1, t.2 ∙ m.2)
   member_on r w (inr m) = elim (decide_key name_order w o) [
@@ -249,6 +245,7 @@ module _ (ts : List Task) (S T : State) (h : HasChains ts S) (o : OpName) (c : O
       + opening_reader ((ap (λ os. get os w) d.opens ∙ beside_removed name_order S.mail.opens o w far) i)
       + uses_of (d.uses i) w
 
+  -- as many readers were directed to each
   pub total_same : (w : OpName) → total T w ≡ total S w
   total_same w = elim (decide_key name_order w o) [
     | inl is ↦ subst (λ k. total T k ≡ total S k) (sym is) total_new

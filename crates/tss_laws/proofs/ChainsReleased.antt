@@ -73,6 +73,7 @@ produced_like x stored = record {
   produced = λ e. absurd (stored e);
 }
 
+-- the same of one that one more reader has released
 pub released_like : (x : Version) (o : OpName) → AreAlike x (released_once x o)
 released_like x o =
     record { object = refl; storage = refl; predecessor = refl; successor = refl; produced = λ e. refl }

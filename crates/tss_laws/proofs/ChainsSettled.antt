@@ -18,6 +18,7 @@ use Rattle.tss_protocol.specs.Versions.{Versioned, put_version, may_die, unlinke
 use Rattle.tss_phases.proofs.Received.{own_name}
 use Rattle.tss_laws.specs.Members.{registered_of, opening_reader, uses_of, total}
 use Rattle.tss_laws.specs.Chains.{HasChains}
+use Rattle.tss_laws.proofs.ChainsNumbers.{below_self}
 use Rattle.tss_laws.proofs.SettleCases.{OthersSettled, HasNext, IsQuiet, Asks, IsTakenOver, IsPassedBy, SettleCase, moved_up, settle_cases}
 use Rattle.tss_laws.proofs.UnlinkedVersions.{GaveWay, gave_way_beside, gave_way_over, took_over}
 use Rattle.tss_laws.proofs.ChainsAlike.{AreAlike, alike_same, AreChainsAlike, HasChains-alike}
@@ -133,21 +134,18 @@ module _ (ts : List Task) (S : State) (h : HasChains ts S) (v : OpName) (x : Ver
   not_older : (a b : ℕ) → a < b → b < a → ⊥
   not_older a b p q = omega (arith, p, q)
 
-  not_itself : (a : ℕ) → a < a → ⊥
-  not_itself a p = omega (arith, p)
-
   -- the one that follows it is another, and isn't before it
   pub chains_next : HasNext S.versions v x
   chains_next f to =
       let g = (h.linked v x there).followed f to in (
         (g.version, g.there),
-        λ is. not_itself v.task (subst (λ (q : OpName). v.task < q.task) is g.younger),
+        λ is. below_self v.task (subst (λ (q : OpName). v.task < q.task) is g.younger),
         λ b. not_older f.version.task v.task ((h.linked v x there).after f.version b).older g.younger,
       )
 
   -- nor is it before itself
   pub chains_own : x.predecessor ≡ Some v → ⊥
-  chains_own b = not_itself v.task ((h.linked v x there).after v b).older
+  chains_own b = below_self v.task ((h.linked v x there).after v b).older
 
 -- ---- settle
 

@@ -48,6 +48,7 @@ uses_beside us o v w e apart =
 pub record HasOneMore (x y : Version) : Type 0 where
   pub like : AreAlike x y
   pub registered : y.registered ≡ suc x.registered
+  pub produced : y.produced ≡ x.produced
 
 -- the version after a use
 pub record IsUsed (vs : Named Version) (v : OpName) (x : Version) (d : Versioned) : Type 0 where
@@ -60,6 +61,7 @@ module _ (vs : Named Version) (o v : OpName) (x : Version) where
   one_more = record {
     like = record { object = refl; storage = refl; predecessor = refl; successor = refl; produced = λ e. refl };
     registered = refl;
+    produced = refl;
   }
 
   used_alone_more : (b : Bool) → IsUsed vs v x (used_alone vs o v x b)
@@ -70,6 +72,7 @@ module _ (vs : Named Version) (o v : OpName) (x : Version) where
     more = record {
       like = record { object = refl; storage = refl; predecessor = refl; successor = refl; produced = λ e. refl };
       registered = refl;
+      produced = refl;
     };
   }
 

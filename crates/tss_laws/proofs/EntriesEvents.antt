@@ -19,7 +19,7 @@ use Rattle.tss_laws.proofs.EntriesUse.{HasEntries-use, HasRetirement-use}
 use Rattle.tss_laws.proofs.EntriesRelease.{HasEntries-release, HasRetirement-release}
 use Rattle.tss_laws.proofs.EntriesIdle.{HasEntries-idle, HasRetirement-idle}
 use Rattle.tss_laws.proofs.EntriesNack.{HasEntries-nack, HasRetirement-nack}
-use Rattle.tss_laws.proofs.EntriesRetire.{HasEntries-retire, HasRetirement-retire}
+use Rattle.tss_laws.proofs.EntriesRetireEvent.{HasEntries-retire, HasRetirement-retire}
 use Rattle.tss_laws.proofs.EntriesCopy.{HasEntries-copy, HasRetirement-copy}
 use Rattle.tss_laws.proofs.EntriesGone.{HasEntries-gone, HasRetirement-gone}
 use Rattle.tss_laws.proofs.GroundworkJoin.{IsGroupKept}

@@ -27,6 +27,16 @@ use Rattle.tss_laws.proofs.EntriesNames.{HasOperandOn, operand_of_object, one_ob
 use Rattle.tss_laws.proofs.EntriesCopy.{going_entries}
 use Rattle.tss_laws.proofs.RetirementFrames.{HasRetirement-same, retirement_kept}
 
+-- the entry of an object whose last version is gone: that version is its latest
+pub record GoneEntry (ts : List Task) (S : State) (v : OpName) (g : GoneContents) : Type 0 where
+  pub operand : Operand
+  pub among : operand_among ts v ≡ Some operand
+  pub on : operand.object ≡ g.object
+  pub entry : Entry
+  pub there : get S.entries g.object.base ≡ Some entry
+  pub object : entry.object ≡ g.object
+  pub latest : v ≡ entry.latest
+
 module _ (m : Machine) (all ts : List Task) (S : State) (ground : HasGroundwork m all ts S) (orderly : AreOrderly S)
     (chains : HasChains ts S) (h : HasEntries ts S) (v : OpName) (g : GoneContents)
     (there : get S.mail.gones v ≡ Some g) where
@@ -46,7 +56,8 @@ module _ (m : Machine) (all ts : List Task) (S : State) (ground : HasGroundwork 
   gones : T.mail.gones ≡ remove S.mail.gones v
   gones = ap (λ (m : Mail). m.gones) gone_mail
 
-  gone_entries : (b : Bool) → g.retired ≡ b → T.entries ≡ (if b then remove S.entries g.object.base else S.entries)
+  -- the entry leaves with an object's last version
+  pub gone_entries : (b : Bool) → g.retired ≡ b → T.entries ≡ (if b then remove S.entries g.object.base else S.entries)
   unfolding after_event
   gone_entries b is =
       ap (λ x. (gone_message_taken (without S (event.Gone v)) v x).entries) there
@@ -129,6 +140,18 @@ module _ (m : Machine) (all ts : List Task) (S : State) (ground : HasGroundwork 
     -- v is the entry's latest version
     latest : v ≡ e.latest
     latest = retiring.only v (inr (subst (λ x. IsGoingHome S x v) (sym object) goes_home))
+
+    -- all that is said of the entry
+    pub gone_entry : GoneEntry ts S v g
+    gone_entry = record {
+      operand = operand.0;
+      among = operand.1;
+      on = operand.2;
+      entry = e;
+      there = at;
+      object = object;
+      latest = latest;
+    }
 
     no_version : (w : OpName) → IsVersionOf S g.object w → ⊥
     no_version w k =

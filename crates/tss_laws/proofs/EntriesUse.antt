@@ -75,7 +75,11 @@ module _ (vs : Named Version) (o v : OpName) (x : Version) where
 
   alone_then : (b : Bool) → UsedThen vs v x (used_alone vs o v x b)
   alone_then true = record {
-    used = record { version = enlisted x o; put = refl; more = record { like = like; registered = refl } };
+    used = record {
+      version = enlisted x o;
+      put = refl;
+      more = record { like = like; registered = refl; produced = refl };
+    };
     asks = asks;
     produced = refl;
     released = refl;
@@ -90,6 +94,7 @@ module _ (vs : Named Version) (o v : OpName) (x : Version) where
       more = record {
         like = record { object = refl; storage = refl; predecessor = refl; successor = refl; produced = λ e. refl };
         registered = refl;
+        produced = refl;
       };
     };
     asks = record {
@@ -110,7 +115,11 @@ module _ (vs : Named Version) (o v : OpName) (x : Version) where
   used_then : (tail : Option OpName) → UsedThen vs v x (used_behind vs o v x tail)
   used_then None = alone_then x.produced
   used_then (Some last) = record {
-    used = record { version = enlisted x o; put = refl; more = record { like = like; registered = refl } };
+    used = record {
+      version = enlisted x o;
+      put = refl;
+      more = record { like = like; registered = refl; produced = refl };
+    };
     asks = asks;
     produced = refl;
     released = refl;

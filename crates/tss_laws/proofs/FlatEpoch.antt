@@ -178,7 +178,8 @@ module _ (limits : Limits) (m : Memory) (s : MainState) where
   spawn_on-apart (Ok t) e apart =
       spawned-apart limits m s.epoch t (spawn_of-spawned (spawn_call s.registers) m s.epoch limits s.spawned t e) apart
 
-  print_call-epoch : (r : Range) → (print_call limits m s r).epoch ≡ s.epoch
+  -- a print leaves the epoch
+  pub print_call-epoch : (r : Range) → (print_call limits m s r).epoch ≡ s.epoch
   print_call-epoch r =
       by (r.len == 0) (is_none (range_of m.ranges r)) (touches s.epoch r)
       (nat_lt limits.output_bytes (length (output_of s.pieces) + r.len))

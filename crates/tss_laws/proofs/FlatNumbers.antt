@@ -18,7 +18,9 @@ use Rattle.tss_laws.proofs.FlatStarts.{task_started, started_at-step, task_start
 -- ---- one step
 
 module _ (code : List SegmentState) (limits : Limits) where
-  call_ran-spawned : (m : Memory) (p : MainState × Option Task) → (call_ran code limits m p).main.spawned ≡ p.0.spawned
+  -- the task of a call leaves their number
+  pub call_ran-spawned : (m : Memory) (p : MainState × Option Task)
+      → (call_ran code limits m p).main.spawned ≡ p.0.spawned
   call_ran-spawned m (main, None) = refl
   call_ran-spawned m (main, Some t) = by (task_end code limits m t).trap
     where
@@ -65,13 +67,15 @@ module _ (i : ImageState) (limits : Limits) where
       ∙ subst (SpawnsBy (frozen i) limits (flat_stepped i limits k)) none
       (flat_step-spawns (frozen i) limits (flat_stepped i limits k))
 
-  step_one : (k : ℕ) (t : Task) → task_started i limits k ≡ Some t → spawned_by (suc k) ≡ suc (spawned_by k)
+  -- a step that starts a task raises their number
+  pub step_one : (k : ℕ) (t : Task) → task_started i limits k ≡ Some t → spawned_by (suc k) ≡ suc (spawned_by k)
   step_one k t is =
       ap (λ (f : Flat). f.main.spawned) (flat_stepped-next i limits k)
       ∙ subst (SpawnsBy (frozen i) limits (flat_stepped i limits k)) is
       (flat_step-spawns (frozen i) limits (flat_stepped i limits k))
 
-  step_rises : (k : ℕ) → spawned_by k ≤ spawned_by (suc k)
+  -- it never falls by a step
+  pub step_rises : (k : ℕ) → spawned_by k ≤ spawned_by (suc k)
   step_rises k = by (task_started i limits k) refl
     where
       by : (o : Option Task) → task_started i limits k ≡ o → spawned_by k ≤ spawned_by (suc k)
@@ -130,7 +134,8 @@ module _ (i : ImageState) (limits : Limits) where
   number_there n zero some few = absurd (omega (arith, some, few))
   number_there n (suc k) some few = number_more n k few (number_there n k some)
 
-  numbers_rise : (j k : ℕ) (s t : Started) → started_at i limits j ≡ Some s → started_at i limits k ≡ Some t → j < k
+  -- a later started task has a greater number
+  pub numbers_rise : (j k : ℕ) (s t : Started) → started_at i limits j ≡ Some s → started_at i limits k ≡ Some t → j < k
       → s.task.number < t.task.number
   numbers_rise j k s t start also before =
       let first = started-number i limits j s start in

@@ -226,7 +226,7 @@ module _ (i : ImageState) (limits : Limits) (k : ℕ) where
           }
 
   -- a started task that traps ends program order with the next step
-  trapped_next : (s : Started) (trap : Trap) → StartedBy i limits k s → (end_of_started i limits s).trap ≡ Some trap
+  pub trapped_next : (s : Started) (trap : Trap) → StartedBy i limits k s → (end_of_started i limits s).trap ≡ Some trap
       → (flat_stepped i limits (suc k)).main.ending ≡ Some (Ending.TaskTrap s.task.number trap)
   trapped_next s trap by trapped =
       ap (λ (x : Flat). x.main.ending)

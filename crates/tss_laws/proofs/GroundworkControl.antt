@@ -1,19 +1,18 @@
 -- Every run is controlled.
 use Rattle.std.proofs.Common.{List}
-use Rattle.tss_base.specs.declared.operand.OpName.{OpName}
 use Rattle.tss_base.specs.declared.machine.Machine.{Machine}
 use Rattle.tss_base.specs.declared.event.Event.{Event}
-use Rattle.tss_base.specs.declared.event.Event.TheVariants as event
 use Rattle.tss_base.specs.Image.{ImageState}
 use Rattle.tss_protocol.specs.State.{State, initial_state}
 use Rattle.tss_protocol.specs.Needs.{round_of}
 use Rattle.tss_protocol.specs.Run.{IsRun}
 use Rattle.tss_laws.specs.Readers.{arrivals_from, no_arrivals}
-use Rattle.tss_laws.specs.Holders.{HasHolders}
 use Rattle.tss_laws.specs.Control.{IsControlled}
-use Rattle.tss_laws.specs.Controlled.{RoundLaw, ControlLaw, OneMessageLaw, SizesLaw}
+use Rattle.tss_laws.specs.Controlled.{RoundLaw, ControlLaw, OneMessageLaw}
+use Rattle.tss_laws.specs.Refinement.{SizesLaw}
 use Rattle.tss_laws.specs.Tasks.{spawned_tasks}
 use Rattle.tss_laws.proofs.TableLemmas.{tables_of_runs}
+use Rattle.tss_laws.proofs.MessageLemmas.{messages_of_runs}
 use Rattle.tss_laws.proofs.MessageCounts.{few_messages, few_ready}
 use Rattle.tss_laws.proofs.GroundworkRuns.{HasGroundwork-Run}
 use Rattle.tss_laws.proofs.HoldersKeepsOrder.{keeps_order}
@@ -21,7 +20,7 @@ use Rattle.tss_laws.proofs.ChainsEvents.{keeps_chains}
 use Rattle.tss_laws.proofs.EntriesEvents.{keeps_entries, keeps_retirement}
 use Rattle.tss_laws.proofs.ReadersEvents.{keeps_readers}
 use Rattle.tss_laws.proofs.HoldersEvents.{keeps_holders}
-use Rattle.tss_laws.proofs.GroundworkJoin.{IsGroupKept, AreGroupsKept, controlled_of_runs}
+use Rattle.tss_laws.proofs.GroundworkJoin.{AreGroupsKept, controlled_of_runs}
 
 -- each event keeps each group
 pub keeps_groups : (e : Event) → AreGroupsKept e
@@ -62,10 +61,11 @@ sizes_of_runs m i es S accepted admissible run =
     let ground = HasGroundwork-Run m i es S run in
     let h = IsControlled-Run m i es S run in
     let tables = tables_of_runs m i es S accepted admissible run in
+    let bounds = messages_of_runs m i es S accepted admissible run in
     record {
-      messages = few_messages m admissible all ts g S ground h tables.slots tables.versions;
+      messages = few_messages m i es all ts g S ground h bounds;
       slots = tables.slots;
-      ready = few_ready m admissible all ts g S ground h tables.slots tables.versions;
+      ready = few_ready m i es all ts g S ground h bounds;
       workers = tables.workers;
       entries = tables.entries;
       versions = tables.versions;

@@ -1,5 +1,5 @@
 -- The join of the groups: where each event keeps each group, every run is controlled.
-use Rattle.std.proofs.Common.{◌≡◌, List, []}
+use Rattle.std.proofs.Common.{List}
 use Rattle.tss_base.specs.declared.operand.Task.{Task}
 use Rattle.tss_base.specs.declared.machine.Machine.{Machine}
 use Rattle.tss_base.specs.declared.event.Event.{Event}
@@ -8,15 +8,14 @@ use Rattle.tss_protocol.specs.State.{State, initial_state}
 use Rattle.tss_protocol.specs.UnitMachine.{IsEnabled, after_event}
 use Rattle.tss_protocol.specs.Needs.{round_after_event, round_of}
 use Rattle.tss_protocol.specs.Run.{IsRun}
-use Rattle.tss_phases.specs.Orderly.{AreOrderly, KeepsOrder}
+use Rattle.tss_phases.specs.Orderly.{KeepsOrder}
 use Rattle.tss_phases.proofs.OrderlyEvents.{orderly-after_event, orderly_at_first}
-use Rattle.tss_laws.specs.Tasks.{spawned_tasks}
 use Rattle.tss_laws.specs.Chains.{HasChains}
 use Rattle.tss_laws.specs.Entries.{HasEntries, HasRetirement}
 use Rattle.tss_laws.specs.Readers.{Arrivals, arrivals_after_event, arrivals_from, no_arrivals, HasReaders}
 use Rattle.tss_laws.specs.Holders.{HasHolders}
 use Rattle.tss_laws.specs.Control.{HasGroundwork, IsControlled}
-use Rattle.tss_laws.proofs.GroundworkRuns.{IsKeptOnGround, ground_of_runs}
+use Rattle.tss_laws.proofs.GroundworkRuns.{ground_of_runs}
 use Rattle.tss_laws.proofs.GroundworkEmpty.{IsControlled-bare, IsBare-initial_state}
 
 -- what a group says of a round, of those that have come, and of a state

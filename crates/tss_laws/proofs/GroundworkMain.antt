@@ -1,8 +1,7 @@
 -- Main's event: it changes nothing of which the control speaks but the round.
-use Rattle.std.proofs.Common.{◌≡◌, ◌⊎◌, ℕ, Bool, true, false, ◌&&◌, List, [], ◌∷◌, ◌++◌, append-nil, Option, Some, None, is_none, Result, Ok, Err, refl, sym, subst, ap, ◌∙◌}
+use Rattle.std.proofs.Common.{◌≡◌, ℕ, true, ◌&&◌, List, [], ◌∷◌, ◌++◌, append-nil, Option, Some, None, is_none, Result, Ok, Err, refl, sym, subst, ap, ◌∙◌}
 use Rattle.std.specs.Prelude.{option_to_list}
 use Rattle.std.proofs.lemmas.Bool.{and_parts}
-use Rattle.tss_base.specs.declared.operand.OpName.{OpName}
 use Rattle.tss_base.specs.declared.operand.Task.{Task}
 use Rattle.tss_base.specs.declared.machine.Machine.{Machine}
 use Rattle.tss_base.specs.declared.event.Event.TheVariants as event
@@ -14,9 +13,8 @@ use Rattle.tss_protocol.specs.MainEvent.{call_next, may_call, after_call, main_b
 use Rattle.tss_protocol.specs.Needs.{round_after_main, round_after_event}
 use Rattle.tss_protocol.specs.UnitMachine.{is_enabled, IsEnabled, after_event}
 use Rattle.tss_locality.specs.Rounds.{IsRounded}
-use Rattle.tss_phases.specs.Phase.{phase_of, is_decoded}
+use Rattle.tss_phases.specs.Phase.{is_decoded}
 use Rattle.tss_phases.proofs.MainEvent.{look_ups-main, phase_of-main}
-use Rattle.tss_phases.proofs.OrderlyEvents.{orderly-after_event}
 use Rattle.tss_laws.specs.Chains.{HasChains}
 use Rattle.tss_laws.specs.Entries.{HasEntries, HasRetirement}
 use Rattle.tss_laws.specs.Readers.{Arrivals, HasReaders}
@@ -37,7 +35,8 @@ use Rattle.tss_laws.proofs.GroundworkGrown.{IsControlled-longer}
 
 -- ---- the round
 
-module _ (m : Machine) (ts : List Task) (g : Arrivals) (S : State) (round : IsRounded S ts) (h : IsControlled ts g S) where
+module _ (m : Machine) (ts : List Task) (g : Arrivals) (S : State) (round : IsRounded S ts)
+    (h : IsControlled ts g S) where
   by_spawn : (x : Result Task ℕ)
       → spawn_of (spawn_call S.main.registers) S.home S.main.epoch m.limits S.main.spawned ≡ x
       → IsControlled (ts ++ option_to_list (spawn_on S.main x).1) g S

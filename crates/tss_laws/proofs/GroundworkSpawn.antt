@@ -1,5 +1,5 @@
 -- A round with one more task: what its names have, and that the names in the machine are older.
-use Rattle.std.proofs.Common.{◌≡◌, ℕ, suc, ◌≤◌, ◌⊎◌, inl, inr, true, false, List, [], ◌∷◌, ◌++◌, Option, Some, None, refl, sym, arith, true≢false}
+use Rattle.std.proofs.Common.{◌≡◌, ℕ, suc, ◌≤◌, ◌⊎◌, inl, inr, true, List, [], ◌∷◌, ◌++◌, Option, Some, None, refl, arith}
 use Rattle.std.specs.Prelude.{nat_lt}
 use Rattle.std.proofs.lemmas.Bool.{or_parts, ltb-false}
 use Rattle.std.proofs.lemmas.Option.{none-some, same_Some}
@@ -13,9 +13,10 @@ use Rattle.tss_locality.specs.Agreement.{operand_in}
 use Rattle.tss_locality.specs.Objects.{HasObject}
 use Rattle.tss_locality.specs.Rounds.{object_or, object_in, IsRounded}
 use Rattle.tss_locality.proofs.Subjects.{arrival_task}
-use Rattle.tss_phases.specs.Phase.{Phase, Ahead, Decoding, Sent, Waiting, Told, Ready, Releasing, Leaving, Promised, Left, LookUps, inbox_has, look_ups, phase_of, is_decoded}
-use Rattle.tss_phases.specs.Orderly.{FitsPhase, AreOrderly}
+use Rattle.tss_phases.specs.Phase.{inbox_has, look_ups, phase_of, is_decoded}
+use Rattle.tss_phases.specs.Orderly.{AreOrderly}
 use Rattle.tss_laws.specs.Members.{first_there, operand_among, IsOn, IsWriterOn, NoWriterBetween}
+use Rattle.tss_laws.proofs.EntriesQuiet.{decoded_shows}
 use Rattle.tss_laws.proofs.GroundworkRounds.{found_among}
 
 -- ---- one more task
@@ -134,22 +135,9 @@ named_spawned S ts r o named =
     let a = among_object ts o named.0 named.1 in
     of_spawned S ts r o a.0 a.1
 
--- an operand that is past its decode isn't ahead
-not_ahead : (p : Phase) (l : LookUps) → FitsPhase p l → is_decoded p ≡ true → l.ahead ≡ false
-not_ahead Ahead l fits e = absurd (true≢false (sym e))
-not_ahead Decoding l fits e = absurd (true≢false (sym e))
-not_ahead Sent l fits e = fits.1
-not_ahead Waiting l fits e = fits.1
-not_ahead Told l fits e = fits.1
-not_ahead Ready l fits e = fits.1
-not_ahead Releasing l fits e = fits.1
-not_ahead Leaving l fits e = fits.1
-not_ahead Promised l fits e = fits.1
-not_ahead Left l fits e = fits.1
-
--- so its task was spawned
+-- an operand that is past its decode is of a task that was spawned
 pub decoded_spawned : (S : State) → AreOrderly S → (o : OpName) → is_decoded (phase_of S o) ≡ true
     → o.task ≤ S.main.spawned
 decoded_spawned S orderly o e =
-    let behind = not_ahead (phase_of S o) (look_ups S o) (orderly o).fits e in
+    let behind = (decoded_shows (look_ups S o) (orderly o) e).1 in
     ltb-false _ _ (or_parts (nat_lt S.main.spawned o.task) (inbox_has S.inbox o.task) behind).0

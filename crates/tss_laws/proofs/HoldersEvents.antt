@@ -1,9 +1,7 @@
 -- Every event keeps what operands hold.
-use Rattle.tss_base.specs.declared.operand.OpName.{OpName}
 use Rattle.tss_base.specs.declared.event.Event.{Event}
 use Rattle.tss_base.specs.declared.event.Event.TheVariants as event
 use Rattle.tss_laws.specs.Holders.{HasHolders}
-use Rattle.tss_laws.proofs.HoldersRunnerEvents.{HasRunners-after_event}
 use Rattle.tss_laws.proofs.HoldersQuiet.{HasHolders-ack, HasHolders-start, HasHolders-exec, HasHolders-idle, HasHolders-copy, HasHolders-gone}
 use Rattle.tss_laws.proofs.HoldersTaken.{HasHolders-take, HasHolders-decode}
 use Rattle.tss_laws.proofs.HoldersParted.{HasHolders-bye}
@@ -15,7 +13,7 @@ use Rattle.tss_laws.proofs.HoldersReleased.{HasHolders-release}
 use Rattle.tss_laws.proofs.HoldersUsed.{HasHolders-use}
 use Rattle.tss_laws.proofs.HoldersReady.{HasHolders-ready}
 use Rattle.tss_laws.proofs.HoldersLink.{HasHolders-link}
-use Rattle.tss_laws.proofs.GroundworkJoin.{IsGroupKept, AreGroupsKept}
+use Rattle.tss_laws.proofs.GroundworkJoin.{IsGroupKept}
 use Rattle.tss_laws.proofs.GroundworkMain.{keeps_main}
 
 -- each event does

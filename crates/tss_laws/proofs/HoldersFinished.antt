@@ -1,5 +1,5 @@
 -- What operands hold after a finish: those of the task let their versions go.
-use Rattle.std.proofs.Common.{◌≡◌, ◌≢◌, ◌⊎◌, ℕ, zero, suc, ◌+◌, Bool, true, false, cond, List, [], ◌∷◌, ◌++◌, map, Option, Some, None, refl, sym, ap, ◌∙◌, subst, inl, inr, true≢false, arith}
+use Rattle.std.proofs.Common.{◌≡◌, ◌≢◌, ◌⊎◌, ℕ, zero, suc, ◌+◌, Bool, true, false, cond, List, [], ◌∷◌, ◌++◌, Option, Some, None, refl, sym, ap, ◌∙◌, subst, inl, inr, true≢false, arith}
 use Rattle.std.specs.Prelude.{slice_get, option_map}
 use Rattle.std.specs.FinMap.{get}
 use Rattle.std.proofs.lemmas.Option.{none-some, same_Some, slice_get-map}
@@ -18,9 +18,9 @@ use Rattle.tss_protocol.specs.State.{State, OperandState, Flying, Busy, Version}
 use Rattle.tss_protocol.specs.Stations.{operand_at, release_of, releases_from, remaining_tasks}
 use Rattle.tss_protocol.specs.Workers.{can_finish}
 use Rattle.tss_protocol.specs.UnitMachine.{is_enabled, IsEnabled, after_event}
-use Rattle.tss_phases.specs.Phase.{Ready, Releasing, Ahead, Left, LookUps, look_ups, phase_at, phase_of}
+use Rattle.tss_phases.specs.Phase.{Ready, Releasing, Ahead, Left, LookUps, look_ups}
 use Rattle.tss_phases.specs.Openers.{version_opener, opener_by, produced_opener, open_opener}
-use Rattle.tss_phases.specs.Orderly.{IsInformed, IsOrderly, AreOrderly, AreReady}
+use Rattle.tss_phases.specs.Orderly.{AreReady}
 use Rattle.tss_phases.proofs.Tests.{something}
 use Rattle.tss_phases.proofs.Shown.{ready_shows}
 use Rattle.tss_phases.proofs.Received.{own_name, received_all, received_other}
@@ -28,13 +28,12 @@ use Rattle.tss_phases.proofs.Records.{operand_in, task_of_record}
 use Rattle.tss_phases.proofs.OrderlyLemmas.{fits_at, orderly_releasing, same_informed}
 use Rattle.tss_phases.proofs.FinishEvent.{finished_task, apart_further, releases_other, look_ups-finish, look_ups-finish-beyond, look_ups-finish-other, phase_of-finish}
 use Rattle.tss_locality.proofs.LeftFields.{Leaves-after_event}
-use Rattle.tss_laws.specs.Tasks.{task_at}
 use Rattle.tss_laws.specs.Members.{operand_among}
 use Rattle.tss_laws.specs.Readers.{Arrivals}
 use Rattle.tss_laws.specs.Holders.{IsTrue, HasHolders}
 use Rattle.tss_laws.specs.Control.{HasGroundwork, IsControlled}
 use Rattle.tss_laws.proofs.ReadersLinks.{links-finish}
-use Rattle.tss_laws.proofs.HoldersFits.{Holding, HasOpened, HasCome, HoldsIn}
+use Rattle.tss_laws.proofs.HoldersFits.{Holding, HasOpened, HasCome}
 use Rattle.tss_laws.proofs.HoldersTurns.{holding_remaining}
 use Rattle.tss_laws.proofs.HoldersLeaves.{holding_finished}
 use Rattle.tss_laws.proofs.HoldersParted.{record_stands}

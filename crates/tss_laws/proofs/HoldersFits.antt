@@ -124,7 +124,8 @@ abbrev pub Needs : Phase → Option OpName → Type 0
 Needs p k = (holds_version p ≡ true) ⊎ ((next : OpName) × (k ≡ Some next))
 
 -- what is true may be said otherwise, where it is needed
-pub holding_mapped : (T U : Source → Type 0) (O P C D : Type 0) (w : Bool) (l : LookUps) (k : Option OpName) → IsOrderly l
+pub holding_mapped : (T U : Source → Type 0) (O P C D : Type 0) (w : Bool) (l : LookUps) (k : Option OpName)
+    → IsOrderly l
     → ((s : Source) → Needs (phase_at l) k → T s → U s) → (w ≡ true → phase_at l ≡ Waiting → O → P)
     → (w ≡ false → phase_at l ≡ Waiting → C → D) → Holding T O C w l k → Holding U P D w l k
 holding_mapped T U O P C D w l k orderly true_on open_on come_on h = record {

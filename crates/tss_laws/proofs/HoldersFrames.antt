@@ -1,11 +1,9 @@
 -- What operands hold after an event that leaves versions: those whose look-ups and links it leaves hold what they held.
-use Rattle.std.proofs.Common.{◌≡◌, ◌⊎◌, Bool, true, false, List, Option, Some, None, sym, ap, ◌∙◌, subst, inl, inr}
+use Rattle.std.proofs.Common.{◌≡◌, ◌⊎◌, true, List, Option, Some, sym, ap, ◌∙◌, subst, inl, inr}
 use Rattle.std.specs.FinMap.{get}
 use Rattle.tss_base.specs.declared.operand.OpName.{OpName}
 use Rattle.tss_base.specs.declared.operand.Operand.{Operand}
 use Rattle.tss_base.specs.declared.operand.Task.{Task}
-use Rattle.tss_base.specs.declared.event.LinkState.{LinkState}
-use Rattle.tss_base.specs.declared.event.LinkState.TheVariants as link
 use Rattle.tss_model.specs.Access.{writes}
 use Rattle.tss_protocol.specs.Mail.{Source}
 use Rattle.tss_protocol.specs.State.{State, OperandState, Version}
@@ -37,7 +35,8 @@ module _ (ts : List Task) (g : Arrivals) (S T : State) where
   abbrev pub ChangesHolders : Type 0
   ChangesHolders = (q : OpName) → IsSameHolder q ⊎ IsChangedHolder q
 
-module _ (ts : List Task) (g : Arrivals) (S T : State) (versions : T.versions ≡ S.versions) (orderly : AreOrderly S) where
+module _ (ts : List Task) (g : Arrivals) (S T : State) (versions : T.versions ≡ S.versions)
+    (orderly : AreOrderly S) where
   -- what it was told is still true
   pub true_kept : (o : OpName) (p : Operand) (s : Source) → IsTrue g S o p s → IsTrue g T o p s
   true_kept o p s t = record {

@@ -39,7 +39,8 @@ module _ (ts : List Task) (g : Arrivals) (S : State) (readers : HasReaders ts g 
           (h.first q (sym (ap (λ b. head_of b (g v)) e) ∙ sym h.head ∙ head)).1 e
 
 -- release
-pub releases_registered : (m : Machine) (ts : List Task) (g : Arrivals) (S : State) → IsRounded S ts → AreOrderly S → HasChains ts S
+pub releases_registered : (m : Machine) (ts : List Task) (g : Arrivals) (S : State) → IsRounded S ts → AreOrderly S
+    → HasChains ts S
     → HasRetirement S → HasReaders ts g S → HasHolders ts g S → (o : OpName) → ReleasesRegistered S o
 releases_registered m ts g S round orderly chains retirement readers holders o r e =
     let k = releases_facts ts g S round orderly holders o r e in
@@ -49,7 +50,8 @@ releases_registered m ts g S round orderly chains retirement readers holders o r
           (sym (ap (λ ms. tells ms q) (release_sends_here m S o r x e k.there)) ∙ t)) [
             | inl h ↦ head_waits ts g S readers r.version x k.there q h.1
             | inr h ↦
-                settle_tells_waiting ts g S chains holders retirement r.version x (version_released o x r.producer) k.there
+                settle_tells_waiting ts g S chains holders retirement r.version x
+                (version_released o x r.producer) k.there
                 (same_successor r.producer x) (same_predecessor r.producer x) q h
           ],
     )

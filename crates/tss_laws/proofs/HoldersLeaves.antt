@@ -1,6 +1,6 @@
 -- What an operand holds where its task finishes, where it releases its version, and where it says farewell. A link that
 -- is sent to it.
-use Rattle.std.proofs.Common.{◌≡◌, ◌≢◌, ◌⊎◌, Bool, true, false, Option, Some, None, refl, sym, ap, ◌∙◌, subst, inl, inr, true≢false}
+use Rattle.std.proofs.Common.{◌≡◌, ◌⊎◌, Bool, true, false, Option, Some, None, refl, sym, ap, ◌∙◌, subst, inl, inr, true≢false}
 use Rattle.std.specs.Prelude.{◌&&◌, not}
 use Rattle.std.proofs.lemmas.Option.{none-some, same_Some}
 use Rattle.tss_base.specs.declared.operand.OpName.{OpName}
@@ -64,7 +64,8 @@ module _ (T : Source → Type 0) (O C : Type 0) (w : Bool) (l : LookUps) (k : Op
     links = λ q e.
         let b = h.links q e in
         record {
-          fits = ap (λ p. link_fits p q.link) now ∙ sym (same_fits q.link) ∙ ap (λ p. link_fits p q.link) (sym at) ∙ b.fits;
+          fits = ap (λ p. link_fits p q.link) now ∙ sym (same_fits q.link) ∙ ap (λ p. link_fits p q.link) (sym at)
+              ∙ b.fits;
           writer = b.writer;
           under_way = b.under_way;
           early = λ x. elim x [
@@ -109,7 +110,8 @@ module _ (T : Source → Type 0) (O C : Type 0) (w : Bool) (l : LookUps) (k : Op
     links = λ q e.
         let b = h.links q e in
         record {
-          fits = ap (λ p. link_fits p q.link) now ∙ sym (leaving_fits q.link) ∙ ap (λ p. link_fits p q.link) (sym at) ∙ b.fits;
+          fits = ap (λ p. link_fits p q.link) now ∙ sym (leaving_fits q.link) ∙ ap (λ p. link_fits p q.link) (sym at)
+              ∙ b.fits;
           writer = b.writer;
           under_way = b.under_way;
           early = λ x. elim x [
@@ -164,7 +166,8 @@ module _ (T : Source → Type 0) (O C : Type 0) (w : Bool) (l : LookUps) (k : Op
     told = h.told;
     ready = λ q u e f p. absurd (not_held (promised && not (has_passed r.link)) (now_held p));
     linking = λ next q u e f g.
-        h.linking next r u kept (ap (λ (r : OperandState). r.source) (same_Some (operand_after_bye r promised) q e) ∙ f) g;
+        h.linking next r u kept
+        (ap (λ (r : OperandState). r.source) (same_Some (operand_after_bye r promised) q e) ∙ f) g;
     releases = λ d e. absurd (none_left l.releasing d silent.releasing e);
     waiting_writer = λ x e. absurd (not_waiting (promised && not (has_passed r.link)) (sym now ∙ e));
     waiting_reader = λ x e. absurd (not_waiting (promised && not (has_passed r.link)) (sym now ∙ e));

@@ -24,7 +24,7 @@ use Rattle.tss_phases.specs.Told.{tells, phase_told}
 use Rattle.tss_phases.specs.Openers.{produced_opener, open_opener, opener_by, version_opener}
 use Rattle.tss_phases.specs.Orderly.{IsOrderly, AreOrderly, LinksWaiting, TellWaiting}
 use Rattle.tss_phases.proofs.Received.{received_all}
-use Rattle.tss_phases.proofs.News.{untold, told}
+use Rattle.tss_phases.proofs.News.{untold}
 use Rattle.tss_phases.proofs.Records.{record_put}
 use Rattle.tss_phases.proofs.PhaseLemmas.{same_station}
 use Rattle.tss_phases.proofs.LeavingTasks.{remaining_beside, done_from_test}
@@ -162,9 +162,11 @@ module _ (m : Machine) (all ts : List Task) (g : Arrivals) (S : State) (ground :
       holds = λ p e was.
           let P = IsTrue g S o p in
           holds_after ts g S T versions after o p own_look_ups None own_looked no_link
-          (holding_remaining P (HasOpened S o) (HasCome g S o) (writes p.mode) S.flight o.task y o (look_ups S o) None refl
+          (holding_remaining P (HasOpened S o) (HasCome g S o) (writes p.mode) S.flight o.task y o
+          (look_ups S o) None refl
           own_orderly
-          (subst (λ k. Holding P (HasOpened S o) (HasCome g S o) (writes p.mode) (record (look_ups S o) { station = k }) None)
+          (subst (λ k. Holding P (HasOpened S o) (HasCome g S o) (writes p.mode)
+          (record (look_ups S o) { station = k }) None)
           (sym (linked_record m S o next r there kept))
           (holding_linked P (HasOpened S o) (HasCome g S o) (writes p.mode) (look_ups S o) (get S.mail.links o) was next
           there (h.orderly o) stays r kept)));
@@ -193,7 +195,8 @@ module _ (m : Machine) (all ts : List Task) (g : Arrivals) (S : State) (ground :
     mid_holds : (q : OpName) → q ≢ o → (p : Operand) → HoldsIn g S q p
         → Holding (IsTrue g S q p) (HasOpened S q) (HasCome g S q) (writes p.mode) (mid q) (get S.mail.links q)
     mid_holds q apart p was =
-        let H : Option OperandState → Type 0 = λ k. Holding (IsTrue g S q p) (HasOpened S q) (HasCome g S q) (writes p.mode)
+        let H : Option OperandState
+        → Type 0 = λ k. Holding (IsTrue g S q p) (HasOpened S q) (HasCome g S q) (writes p.mode)
         (record (look_ups S q) { station = k }) (get S.mail.links q) in
         elim (decide_key nat_order q.task o.task) [
           | inl same ↦
@@ -248,7 +251,8 @@ module _ (m : Machine) (all ts : List Task) (g : Arrivals) (S : State) (ground :
       holds = λ p e was.
           holds_after ts g S T versions after q p (received_all ms q (mid q)) (get S.mail.links q)
           (look_ups-link m S o next r there kept q) (same_link q apart)
-          (holding_news (IsTrue g S q p) (HasOpened S q) (HasCome g S q) (writes p.mode) (mid q) (get S.mail.links q) ms q
+          (holding_news (IsTrue g S q p) (HasOpened S q) (HasCome g S q) (writes p.mode) (mid q)
+          (get S.mail.links q) ms q
           (news_link r.source next) (λ t. mid_phase q apart ∙ waits q t)
           (link_tells_true q (IsTrue g S q p) r.source next
           (λ s f same. subst (λ q. (p : Operand) → operand_among ts q ≡ Some p → IsTrue g S q p s) (sym same)
@@ -277,12 +281,14 @@ module _ (m : Machine) (all ts : List Task) (g : Arrivals) (S : State) (ground :
             ap (version_opener z p.mode) (other_phase q apart ∙ ap (λ b. phase_told b (phase_of S q)) e) ∙ was
         opener_by_news z p v a was true e =
             let t = link_tells r.source next q e in
-            absurd (no_version t.1.0 t.1.1 z p (ap (get S.versions) (sym t.0) ∙ v) (ap (operand_among ts) (sym t.0) ∙ a))
+            absurd (no_version t.1.0 t.1.1 z p (ap (get S.versions) (sym t.0) ∙ v)
+            (ap (operand_among ts) (sym t.0) ∙ a))
 
     link_holders : HasHolders ts g T
     link_holders =
         holders_kept ts g S T versions h.orderly
-        (HasRunners-after_event m all S ground.numbers ground.stages h.orderly h.holders.runners (event.Link o) on order)
+        (HasRunners-after_event m all S ground.numbers ground.stages h.orderly h.holders.runners
+        (event.Link o) on order)
         (λ q. elim (decide_key name_order q o) [
           | inl same ↦ inr (subst (IsChangedHolder ts g S T) (sym same) link_own)
           | inr apart ↦ inr (link_other q apart)

@@ -57,7 +57,8 @@ module _ (T : Source → Type 0) (O C : Type 0) (w : Bool) (l : LookUps) (k : Op
     }
 
     -- with what was known of its links in another phase
-    pub links_moved : (j : LookUps) → LinksFit w j k r → (link_fits (phase_at j) r.link ≡ true → link_fits (phase_at l) r.link ≡ true)
+    pub links_moved : (j : LookUps) → LinksFit w j k r
+        → (link_fits (phase_at j) r.link ≡ true → link_fits (phase_at l) r.link ≡ true)
         → (phase_at l ≢ Decoding) → (phase_at l ≢ Sent) → (phase_at l ≢ Promised) → LinksFit w l k r
     links_moved j f fits not_decoding not_sent other = record {
       fits = fits f.fits;
@@ -129,7 +130,8 @@ module _ (T : Source → Type 0) (O C : Type 0) (w : Bool) (l : LookUps) (k : Op
       (λ x f. absurd (told_waits (sym is ∙ f)))
       (λ x f. absurd (told_waits (sym is ∙ f)))
       (links_moved T O C w j k r.kept r.there r.told a.releasing a.leaving l (links r.kept r.there)
-      (λ f. ap (λ p. link_fits p r.kept.link) is ∙ fits_told r.kept.link (ap (λ p. link_fits p r.kept.link) (sym e) ∙ f))
+      (λ f. ap (λ p. link_fits p r.kept.link) is
+      ∙ fits_told r.kept.link (ap (λ p. link_fits p r.kept.link) (sym e) ∙ f))
       (λ f. told_decodes (sym is ∙ f)) (λ f. told_sent (sym is ∙ f)) (λ f. told_promised (sym is ∙ f)))
     where
       told_waits : Told ≡ Waiting → ⊥

@@ -1,12 +1,9 @@
 -- What operands hold after a nack: the version may go now, and its successor may be told its storage.
-use Rattle.std.proofs.Common.{◌≡◌, ◌≢◌, ◌⊎◌, ℕ, ◌+◌, ◌≤◌, Bool, true, false, List, [], ◌∷◌, Option, Some, None, refl, sym, ap, ◌∙◌, subst, inl, inr, true≢false, arith}
+use Rattle.std.proofs.Common.{◌≡◌, ◌≢◌, ◌⊎◌, ℕ, ◌+◌, ◌≤◌, Bool, true, false, List, Option, Some, None, refl, sym, ap, ◌∙◌, subst, inl, inr, true≢false, arith}
 use Rattle.std.specs.Prelude.{is_some}
 use Rattle.std.specs.FinMap.{get}
-use Rattle.std.proofs.lemmas.Bool.{or_cases}
 use Rattle.std.proofs.lemmas.Option.{none-some, same_Some}
 use Rattle.tss_base.specs.declared.operand.OpName.{OpName}
-use Rattle.tss_base.specs.declared.operand.Mode.{Mode}
-use Rattle.tss_base.specs.declared.operand.Mode.TheVariants.{Input, Output, Inout}
 use Rattle.tss_base.specs.declared.operand.Operand.{Operand}
 use Rattle.tss_base.specs.declared.operand.Task.{Task}
 use Rattle.tss_base.specs.declared.machine.Machine.{Machine}
@@ -15,123 +12,32 @@ use Rattle.tss_base.specs.Names.{Named}
 use Rattle.tss_maps.proofs.Keys.{name_order, decide_key}
 use Rattle.tss_maps.proofs.Changes.{at_inserted, beside_inserted}
 use Rattle.tss_model.specs.Access.{writes}
-use Rattle.tss_protocol.specs.Mail.{StorageName, Source, Message, Decode, Ack, Open, Use, Ready, Link, Release, Bye, Idle, Nack, Retire, Gone}
-use Rattle.tss_protocol.specs.State.{State, OperandState, Version}
+use Rattle.tss_protocol.specs.Mail.{StorageName, Source}
+use Rattle.tss_protocol.specs.State.{State, Version}
 use Rattle.tss_protocol.specs.Stations.{operand_at}
 use Rattle.tss_protocol.specs.Versions.{Versioned, put_version, refused_once, nacked_at, after_nack, settled}
 use Rattle.tss_protocol.specs.UnitMachine.{is_enabled, IsEnabled, after_event}
-use Rattle.tss_phases.specs.Phase.{Phase, Waiting, Told, Left, LookUps, look_ups, phase_at, phase_of}
-use Rattle.tss_phases.specs.Told.{is_ready_for, tells, phase_told}
-use Rattle.tss_phases.proofs.SettlingLemmas.{name_from_test}
-use Rattle.tss_phases.specs.Openers.{version_opener, opener_by, produced_opener, open_opener}
-use Rattle.tss_phases.specs.Orderly.{AreOrderly, KeepsOrder}
+use Rattle.tss_phases.specs.Phase.{Phase, Waiting, Told, Left, look_ups, phase_of}
+use Rattle.tss_phases.specs.Told.{tells, phase_told}
+use Rattle.tss_phases.specs.Openers.{version_opener}
 use Rattle.tss_phases.proofs.News.{untold}
 use Rattle.tss_phases.proofs.Received.{received_all}
 use Rattle.tss_phases.proofs.NackEvent.{news_nack, look_ups-nack, phase_of-nack}
 use Rattle.tss_locality.proofs.LeftFields.{Leaves-after_event}
-use Rattle.tss_laws.specs.Members.{operand_among, total, registered_of, opening_reader, uses_of}
+use Rattle.tss_laws.specs.Members.{operand_among, registered_of, opening_reader, uses_of}
 use Rattle.tss_laws.specs.Readers.{Arrivals}
 use Rattle.tss_laws.specs.Holders.{IsOwnOrRead, IsTrue, HasHolders}
 use Rattle.tss_laws.specs.Control.{HasGroundwork, IsControlled}
-use Rattle.tss_laws.proofs.SentLemmas.{AllSent}
 use Rattle.tss_laws.proofs.ReadersLinks.{links-nack}
 use Rattle.tss_laws.proofs.ChainsSettled.{with_versions, HasChains-written, done_parts, chains_next}
 use Rattle.tss_laws.proofs.ChainsReleased.{others_written, HasChains-nack}
 use Rattle.tss_laws.proofs.HoldersFits.{Holding, HasOpened, HasCome, HoldsIn, holding_mapped, holders_by}
-use Rattle.tss_laws.proofs.HoldersMoves.{TellsTrue, holding_news}
-use Rattle.tss_laws.proofs.HoldersSettled.{HeldAlike, AlikeAt, HasGone, HasTaken, TellsOwn, SettlesHeld, settles_held, stays_alike, from_alike}
+use Rattle.tss_laws.proofs.HoldersMoves.{holding_news}
+use Rattle.tss_laws.proofs.HoldersSettled.{HeldAlike, HasGone, HasTaken, SettlesHeld, settles_held, stays_alike, from_alike}
 use Rattle.tss_laws.proofs.HoldersThinned.{StaysHeld, IsSpent, ThinsHeld, holding_still}
 use Rattle.tss_laws.proofs.HoldersRunnerEvents.{HasRunners-after_event}
 use Rattle.tss_laws.proofs.HoldersKeepsOrder.{keeps_order, AreOrderly-controlled}
-
--- ---- messages that tell
-
--- one that is told has what is told
-pub told_own : (us : Named Version) (q : OpName) (ms : List Message) → AllSent (TellsOwn us) ms → tells ms q ≡ true
-    → (s : Source) × (z : Version) × (get us q ≡ Some z) × (z.storage ≡ Some s.storage)
-told_own us q [] all e = absurd (true≢false (sym e))
-told_own us q (m ∷ ms) all e = elim (or_cases (is_ready_for m q) (tells ms q) e) [
-  | inl here ↦ one m here all.0
-  | inr rest ↦ told_own us q ms all.1 rest
-]
-  where
-    one : (m : Message) → is_ready_for m q ≡ true → TellsOwn us m
-        → (s : Source) × (z : Version) × (get us q ≡ Some z) × (z.storage ≡ Some s.storage)
-    one (Decode o operand) e h = absurd (true≢false (sym e))
-    one (Ack o) e h = absurd (true≢false (sym e))
-    one (Open o c) e h = absurd (true≢false (sym e))
-    one (Use o v) e h = absurd (true≢false (sym e))
-    one (Ready o s) e h = (s, h.1.0, ap (get us) (name_from_test q o e) ∙ h.1.1, h.1.2)
-    one (Link o next) e h = absurd (true≢false (sym e))
-    one (Release o r) e h = absurd (true≢false (sym e))
-    one (Bye o b) e h = absurd (true≢false (sym e))
-    one (Idle v i) e h = absurd (true≢false (sym e))
-    one (Nack v) e h = absurd (true≢false (sym e))
-    one (Retire v) e h = absurd (true≢false (sym e))
-    one (Gone v g) e h = absurd (true≢false (sym e))
-
--- what is told is true of who is told, where that is so of its own version
-pub tells_true : (us : Named Version) (q : OpName) (T : Source → Type 0) (ms : List Message) → AllSent (TellsOwn us) ms
-    → ((s : Source) (z : Version) → s.version ≡ q → get us q ≡ Some z → z.storage ≡ Some s.storage → T s)
-    → AllSent (TellsTrue q T) ms
-tells_true us q T [] all own = tt
-tells_true us q T (m ∷ ms) all own = (one m all.0, tells_true us q T ms all.1 own)
-  where
-    one : (m : Message) → TellsOwn us m → TellsTrue q T m
-    one (Decode o operand) h = tt
-    one (Ack o) h = tt
-    one (Open o c) h = tt
-    one (Use o v) h = tt
-    one (Ready o s) h = λ same. own s h.1.0 (h.0 ∙ sym same) (ap (get us) same ∙ h.1.1) h.1.2
-    one (Link o next) h = tt
-    one (Release o r) h = tt
-    one (Bye o b) h = tt
-    one (Idle v i) h = tt
-    one (Nack v) h = tt
-    one (Retire v) h = tt
-    one (Gone v g) h = tt
-
--- ---- an opener that waits
-
--- has opened a version without a storage, which isn't produced
-pub waiting_opener : (y : Version) (mode : Mode) → version_opener y mode Waiting ≡ true
-    → (y.produced ≡ false) × (y.storage ≡ None)
-waiting_opener y mode opens = (by y.produced refl opens, at y.produced y.storage refl opens)
-  where
-    produced : (mode : Mode) → produced_opener mode Waiting ≡ true → ⊥
-    produced Input e = true≢false (sym e)
-    produced Output e = true≢false (sym e)
-    produced Inout e = true≢false (sym e)
-
-    by : (b : Bool) → y.produced ≡ b → opener_by y mode Waiting b ≡ true → y.produced ≡ false
-    by true e o = absurd (produced mode o)
-    by false e o = e
-
-    at : (b : Bool) (s : Option StorageName) → y.storage ≡ s → opener_by y mode Waiting b ≡ true → y.storage ≡ None
-    at true s e o = absurd (produced mode o)
-    at false None e o = e
-    at false (Some s) e o = absurd (true≢false (sym (sym (ap (λ s. open_opener s Waiting) e) ∙ o)))
-
--- by the produced bit and the storage
-abbrev pub opener_from : Bool → Option StorageName → Mode → Phase → Bool
-opener_from true s mode p = produced_opener mode p
-opener_from false s mode p = open_opener s p
-
-pub version_opener-from : (y : Version) (mode : Mode) (p : Phase)
-    → version_opener y mode p ≡ opener_from y.produced y.storage mode p
-version_opener-from y mode p = by y.produced
-  where
-    by : (b : Bool) → opener_by y mode p b ≡ opener_from b y.storage mode p
-    by true = refl
-    by false = refl
-
--- versions that are alike have openers in the same phases
-pub same_opener : (y z : Version) (mode : Mode) (p : Phase) → HeldAlike y z
-    → version_opener z mode p ≡ version_opener y mode p
-same_opener y z mode p k =
-    version_opener-from z mode p
-    ∙ (λ i. opener_from (k.produced i) (k.storage i) mode p)
-    ∙ sym (version_opener-from y mode p)
+use Rattle.tss_laws.proofs.HoldersSent.{told_own, tells_true, waiting_opener, opener_from, version_opener-from, same_opener}
 
 module _ (m : Machine) (all ts : List Task) (g : Arrivals) (S : State) (ground : HasGroundwork m all ts S)
     (h : IsControlled ts g S) (v : OpName) (x : Version) (there : get S.versions v ≡ Some x) (count : ℕ)
@@ -214,7 +120,8 @@ module _ (m : Machine) (all ts : List Task) (g : Arrivals) (S : State) (ground :
       let to = ap (λ (y : Version). y.successor) is ∙ k.next in
       let n = (h.chains.linked v x there).followed k.follow to in
       let d = done_parts k.version k.follow.last k.done in
-      let all = n.last ∙ ap (λ r. registered_of r + opening_reader (get S.mail.opens v) + uses_of S.mail.uses v) there in
+      let all = n.last
+      ∙ ap (λ r. registered_of r + opening_reader (get S.mail.opens v) + uses_of S.mail.uses v) there in
       let released = ap (λ (y : Version). y.released) is ∙ d.1 in
       (produced, few x.registered x.released _ _ k.follow.last all released)
     where

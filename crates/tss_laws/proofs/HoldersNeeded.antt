@@ -1,7 +1,7 @@
 -- A produced version whose readers have all released it is needed by nobody.
-use Rattle.std.proofs.Common.{◌≡◌, ◌≢◌, ◌⊎◌, ◌≤◌, Bool, true, false, List, Option, Some, None, refl, sym, ap, ◌∙◌, subst, inl, inr, true≢false}
+use Rattle.std.proofs.Common.{◌≡◌, ◌≢◌, ◌≤◌, Bool, true, false, List, Some, refl, sym, ap, ◌∙◌, subst, inl, inr, true≢false}
 use Rattle.std.specs.FinMap.{get}
-use Rattle.std.proofs.lemmas.Option.{none-some, same_Some}
+use Rattle.std.proofs.lemmas.Option.{none-some}
 use Rattle.tss_base.specs.declared.operand.OpName.{OpName}
 use Rattle.tss_base.specs.declared.operand.Mode.{Mode}
 use Rattle.tss_base.specs.declared.operand.Mode.TheVariants.{Input, Output, Inout}
@@ -17,7 +17,7 @@ use Rattle.tss_laws.specs.Readers.{Arrivals, Has}
 use Rattle.tss_laws.specs.Holders.{IsTrue, IsOwnOrRead}
 use Rattle.tss_laws.specs.Control.{IsControlled}
 use Rattle.tss_laws.proofs.ReadersStates.{no_link_left, all_have_gone}
-use Rattle.tss_laws.proofs.HoldersFits.{Needs, HasOpened, HasCome}
+use Rattle.tss_laws.proofs.HoldersFits.{Needs}
 
 -- ---- phases
 
@@ -65,8 +65,8 @@ module _ (ts : List Task) (g : Arrivals) (S : State) (h : IsControlled ts g S) (
   writer_needs : (p : Operand) → operand_among ts v ≡ Some p → writes p.mode ≡ true
       → Needs (phase_of S v) (get S.mail.links v) → ⊥
   writer_needs p at writer (inl holds) =
-      parted_holds (phase_of S v) (writer_parted y p.mode (phase_of S v) produced writer (h.holders.openers v y p there at))
-      holds
+      parted_holds (phase_of S v)
+      (writer_parted y p.mode (phase_of S v) produced writer (h.holders.openers v y p there at)) holds
   writer_needs p at writer (inr linked) =
       let r = h.holders.records v linked.0 linked.1 in
       none-some linked.0 (sym ((h.holders.links v p r.0 at r.1).writer writer).1 ∙ linked.1)

@@ -1,5 +1,5 @@
 -- What operands hold after an open: its own is told its version or waits, and the others are left.
-use Rattle.std.proofs.Common.{◌≡◌, ◌≢◌, ◌⊎◌, suc, Bool, true, false, cond, List, [], ◌∷◌, Option, Some, None, refl, sym, ap, ◌∙◌, subst, inl, inr, true≢false}
+use Rattle.std.proofs.Common.{◌≡◌, ◌≢◌, ◌⊎◌, suc, Bool, true, false, cond, List, Some, None, refl, sym, ap, ◌∙◌, subst, inl, inr, true≢false}
 use Rattle.std.specs.FinMap.{get, len}
 use Rattle.std.proofs.lemmas.Option.{none-some, same_Some}
 use Rattle.tss_base.specs.declared.operand.OpName.{OpName}
@@ -9,18 +9,15 @@ use Rattle.tss_base.specs.declared.operand.Operand.{Operand}
 use Rattle.tss_base.specs.declared.operand.Task.{Task}
 use Rattle.tss_base.specs.declared.machine.Machine.{Machine}
 use Rattle.tss_base.specs.declared.event.Event.TheVariants as event
-use Rattle.tss_base.specs.declared.event.Follow.{Follow}
 use Rattle.tss_base.specs.declared.event.LinkState.{LinkState}
 use Rattle.tss_base.specs.declared.event.LinkState.TheVariants as link
 use Rattle.tss_maps.proofs.Keys.{name_order, decide_key}
 use Rattle.tss_model.specs.Access.{writes}
-use Rattle.tss_protocol.specs.Names.{same_name}
-use Rattle.tss_protocol.specs.Mail.{StorageName, Source, OpenContents, Message}
-use Rattle.tss_protocol.specs.State.{State, OperandState, Version}
-use Rattle.tss_protocol.specs.Stations.{operand_at}
+use Rattle.tss_protocol.specs.Mail.{StorageName, Source, OpenContents}
+use Rattle.tss_protocol.specs.State.{State, Version}
 use Rattle.tss_protocol.specs.Versions.{Versioned, followed, after_open, is_followable}
 use Rattle.tss_protocol.specs.UnitMachine.{is_enabled, IsEnabled, after_event, can_open_message, open_message_taken, without}
-use Rattle.tss_phases.specs.Phase.{Phase, Sent, Waiting, Told, Promised, Left, LookUps, look_ups, phase_at, phase_of}
+use Rattle.tss_phases.specs.Phase.{Sent, Waiting, Told, Promised, LookUps, look_ups, phase_at, phase_of}
 use Rattle.tss_phases.specs.Alone.{IsSilent}
 use Rattle.tss_phases.specs.Orderly.{IsUntold}
 use Rattle.tss_phases.specs.Told.{tells, phase_told}
@@ -31,18 +28,18 @@ use Rattle.tss_phases.proofs.Received.{own_name, other_name, received_all}
 use Rattle.tss_phases.proofs.PhaseLemmas.{phase_silent, phase_opening, station_told}
 use Rattle.tss_phases.proofs.OrderlyLemmas.{opening_stands}
 use Rattle.tss_phases.proofs.OpenEvent.{open_tells, news_open, look_ups-open-own, look_ups-open-other, phase_of-open}
-use Rattle.tss_locality.proofs.LeftFields.{Leaves-after_event}
 use Rattle.tss_laws.specs.Members.{operand_among}
 use Rattle.tss_laws.specs.Readers.{Arrivals, Has, first_arrivals, set_arrivals, arrivals_opened, arrivals_after_event}
 use Rattle.tss_laws.specs.Holders.{link_fits, IsOwnOrRead, IsTrue, HasHolders}
 use Rattle.tss_laws.specs.Control.{HasGroundwork, IsControlled}
 use Rattle.tss_laws.proofs.ReadersLinks.{links-open}
 use Rattle.tss_laws.proofs.HoldersTold.{settle_tells_own}
-use Rattle.tss_laws.proofs.HoldersFits.{Needs, LinksFit, Holding, HasOpened, HasCome, HoldsIn, holding_of, holding_mapped, holders_by}
+use Rattle.tss_laws.proofs.HoldersFits.{Needs, Holding, HasOpened, HasCome, HoldsIn, holding_of, holding_mapped, holders_by}
 use Rattle.tss_laws.proofs.HoldersMoves.{holding_fresh, links_none, holding_news}
 use Rattle.tss_laws.proofs.HoldersNeeded.{not_needed, none_waits}
-use Rattle.tss_laws.proofs.HoldersNacked.{tells_true, version_opener-from, opener_from, same_opener}
-use Rattle.tss_laws.proofs.HoldersOpened.{OpensHeld, opens_held}
+use Rattle.tss_laws.proofs.HoldersSent.{tells_true, version_opener-from, opener_from, same_opener}
+use Rattle.tss_laws.proofs.HoldersFirst.{OpensHeld}
+use Rattle.tss_laws.proofs.HoldersOpened.{opens_held}
 use Rattle.tss_laws.proofs.HoldersRunnerEvents.{HasRunners-after_event}
 use Rattle.tss_laws.proofs.HoldersKeepsOrder.{keeps_order, AreOrderly-controlled}
 
@@ -92,7 +89,9 @@ module _ (m : Machine) (all ts : List Task) (g : Arrivals) (S : State) (ground :
       by false e = e
       by true e = elim (open_tells S.versions o c q e) [
         | inl own ↦ absurd (apart own.0)
-        | inr t ↦ absurd (apart (settle_tells_own ts S h.chains o c opening t.0 t.1 (suc (len (followed S.versions o c t.0))) q t.2))
+        | inr t ↦
+            let n = suc (len (followed S.versions o c t.0)) in
+            absurd (apart (settle_tells_own ts S h.chains o c opening t.0 t.1 n q t.2))
       ]
 
   looked_other : (q : OpName) → q ≢ o → look_ups After q ≡ look_ups S q
@@ -196,7 +195,8 @@ module _ (m : Machine) (all ts : List Task) (g : Arrivals) (S : State) (ground :
   reader_told p at reads = elim held.own.state [
     | inl told ↦ told.0
     | inr open_yet ↦
-        absurd (true≢false (sym (ap writes open_yet.3) ∙ ap (λ (p : Operand). writes p.mode) (its_operand p at) ∙ reads))
+        absurd (true≢false
+        (sym (ap writes open_yet.3) ∙ ap (λ (p : Operand). writes p.mode) (its_operand p at) ∙ reads))
   ]
 
   holds_sent : (p : Operand) → operand_among ts o ≡ Some p
@@ -210,14 +210,15 @@ module _ (m : Machine) (all ts : List Task) (g : Arrivals) (S : State) (ground :
       let sent = phase_opening (look_ups S o) c stands.0.decoding opening in
       let links = (holding_of ts g S h.holders o p at).links r.kept r.there in
       let nothing = sent_nothing r.kept.link (ap (λ p. link_fits p r.kept.link) (sym sent) ∙ links.fits) in
-      let base = holding_fresh T OpenedOrTold (tells left.sent o ≡ true) w taken k r.kept r.there r.told stands.0.releasing
+      let base =
+      holding_fresh T OpenedOrTold (tells left.sent o ≡ true) w taken k r.kept r.there r.told stands.0.releasing
       stands.0.leaving (λ s e. absurd (none-some s (sym stands.0.telling ∙ e))) (λ x e. opened_or_told)
       (λ reads e. reader_told p at reads)
       (links_none T OpenedOrTold (tells left.sent o ≡ true) w taken k r.kept r.there r.told stands.0.releasing
       stands.0.leaving nothing (ap (λ p. link_fits p link.Nothing) waits) (links.early (inr sent))
       (λ e. waiting_promised (sym waits ∙ e))) in
-      holding_news T OpenedOrTold (tells left.sent o ≡ true) w taken k left.sent o (news_open S.versions o c) (λ t. waits)
-      (tells_true left.part o T left.sent held.sent (own_true p at)) base
+      holding_news T OpenedOrTold (tells left.sent o ≡ true) w taken k left.sent o (news_open S.versions o c)
+      (λ t. waits) (tells_true left.part o T left.sent held.sent (own_true p at)) base
     where
       waiting_promised : Waiting ≡ Promised → ⊥
       waiting_promised e = cc

@@ -1,12 +1,10 @@
 -- What an open leaves of versions: the new one, and the settle of the one that it follows.
-use Rattle.std.proofs.Common.{◌≡◌, ◌≢◌, ◌⊎◌, ℕ, ◌+◌, ◌≤◌, Bool, true, false, List, [], ◌∷◌, ◌++◌, Option, Some, None, refl, sym, ap, ◌∙◌, subst, inl, inr, true≢false, arith}
+use Rattle.std.proofs.Common.{◌≡◌, ◌≢◌, ◌⊎◌, ℕ, ◌+◌, ◌≤◌, Bool, true, false, List, ◌++◌, Option, Some, None, refl, sym, ap, ◌∙◌, subst, inl, inr, true≢false, arith}
 use Rattle.std.specs.Prelude.{is_some}
 use Rattle.std.specs.FinMap.{get, contains_key}
 use Rattle.std.proofs.lemmas.Option.{none-some, same_Some}
 use Rattle.tss_base.specs.declared.operand.OpName.{OpName}
-use Rattle.tss_base.specs.declared.operand.Mode.{Mode}
 use Rattle.tss_base.specs.declared.operand.Mode.TheVariants.{Input, Output, Inout}
-use Rattle.tss_base.specs.declared.operand.Operand.{Operand}
 use Rattle.tss_base.specs.declared.operand.Task.{Task}
 use Rattle.tss_base.specs.declared.machine.Machine.{Machine}
 use Rattle.tss_base.specs.declared.event.How.{How}
@@ -14,14 +12,14 @@ use Rattle.tss_base.specs.declared.event.How.TheVariants.{Beside, Over}
 use Rattle.tss_base.specs.declared.event.Follow.{Follow}
 use Rattle.tss_base.specs.Names.{Named}
 use Rattle.tss_maps.proofs.Keys.{name_order, decide_key}
-use Rattle.tss_maps.proofs.Changes.{decide_get, at_inserted, beside_inserted}
-use Rattle.tss_protocol.specs.Mail.{StorageName, Home, Buffer, OpenContents, Message}
+use Rattle.tss_maps.proofs.Changes.{decide_get}
+use Rattle.tss_protocol.specs.Mail.{StorageName, Buffer, OpenContents}
 use Rattle.tss_protocol.specs.State.{State, Version}
-use Rattle.tss_protocol.specs.Versions.{Versioned, sending, ready_with, put_version, new_version, first_version, followed, settled, opened_how, opened_by, after_open, is_followable}
+use Rattle.tss_protocol.specs.Versions.{Versioned, ready_with, followed, settled, opened_how, opened_by, after_open, is_followable}
 use Rattle.tss_phases.specs.Told.{tells}
 use Rattle.tss_phases.proofs.SettlingLemmas.{ready_with_told}
 use Rattle.tss_phases.proofs.ToldPhases.{first_tells}
-use Rattle.tss_laws.specs.Members.{total, registered_of, opening_reader, uses_of}
+use Rattle.tss_laws.specs.Members.{registered_of, opening_reader, uses_of}
 use Rattle.tss_laws.specs.Readers.{Arrivals}
 use Rattle.tss_laws.specs.Control.{HasGroundwork, IsControlled}
 use Rattle.tss_laws.proofs.SentLemmas.{AllSent, AllSent-append}
@@ -31,97 +29,8 @@ use Rattle.tss_laws.proofs.ChainsOpen.{following, at_followed, behind_followed, 
 use Rattle.tss_laws.proofs.ChainsSettled.{done_parts}
 use Rattle.tss_laws.proofs.HoldersSettled.{HeldAlike, HasGone, HasTaken, TellsOwn, SettlesHeld, settles_held, stays_alike, from_alike}
 use Rattle.tss_laws.proofs.HoldersThinned.{StaysHeld, IsSpent, ThinsHeld}
-use Rattle.tss_laws.proofs.HoldersNacked.{told_own}
-
--- the new version: its operand is told its storage, or it has none yet
-pub record IsNewVersion (us : Named Version) (o : OpName) (c : OpenContents) (ms : List Message) : Type 0 where
-  pub version : Version
-  pub stands : get us o ≡ Some version
-  pub object : version.object ≡ c.operand.object
-  pub state : ((tells ms o ≡ true) × ((s : StorageName) × (version.storage ≡ Some s))
-      × ((version.produced ≡ false) ⊎ ((c.operand.mode ≡ Input) × (version.produced ≡ true) × (c.follows ≡ None))))
-      ⊎ ((tells ms o ≡ false) × (version.storage ≡ None) × (version.produced ≡ false) × (c.operand.mode ≡ Inout))
-  pub reader : c.operand.mode ≡ Input → c.follows ≡ None
-
--- what an open does
-pub record OpensHeld (vs us : Named Version) (o : OpName) (c : OpenContents) (ms : List Message) : Type 0 where
-  pub thins : ThinsHeld vs us
-  pub still : (w : OpName) (y : Version) → get vs w ≡ Some y → y.storage ≡ None
-      → (z : Version) × (get us w ≡ Some z) × (z.storage ≡ None)
-  pub from : (w : OpName) (z : Version) → w ≢ o → get us w ≡ Some z
-      → (y : Version) × (get vs w ≡ Some y) × HeldAlike y z
-  pub own : IsNewVersion us o c ms
-  pub sent : AllSent (TellsOwn us) ms
-
--- ---- one that follows nothing
-
-module _ (vs : Named Version) (o : OpName) (c : OpenContents) (fresh : get vs o ≡ None)
-    (storage : c.storage ≡ Some Home) (first : c.follows ≡ None) where
-  abbrev new : Version
-  new = first_version o c.operand.object c.storage c.operand.mode
-
-  abbrev with_new : Named Version
-  with_new = put_version vs o new
-
-  old_apart : (w : OpName) (y : Version) → get vs w ≡ Some y → w ≢ o
-  old_apart w y e same = none-some y (sym fresh ∙ ap (get vs) (sym same) ∙ e)
-
-  old_stays : (w : OpName) (y : Version) → get vs w ≡ Some y → get with_new w ≡ Some y
-  old_stays w y e = beside_inserted name_order vs o new w (old_apart w y e) ∙ e
-
-  new_by : (mode : Mode) → c.operand.mode ≡ mode
-      → (new.object ≡ c.operand.object) × (new.storage ≡ c.storage)
-      × ((new.produced ≡ false) ⊎ ((c.operand.mode ≡ Input) × (new.produced ≡ true)))
-  new_by Input e = (
-    ap (λ m. (first_version o c.operand.object c.storage m).object) e,
-    ap (λ m. (first_version o c.operand.object c.storage m).storage) e,
-    inr (e, ap (λ m. (first_version o c.operand.object c.storage m).produced) e),
-  )
-  new_by Output e = (
-    ap (λ m. (first_version o c.operand.object c.storage m).object) e,
-    ap (λ m. (first_version o c.operand.object c.storage m).storage) e,
-    inl (ap (λ m. (first_version o c.operand.object c.storage m).produced) e),
-  )
-  new_by Inout e = (
-    ap (λ m. (first_version o c.operand.object c.storage m).object) e,
-    ap (λ m. (first_version o c.operand.object c.storage m).storage) e,
-    inl (ap (λ m. (first_version o c.operand.object c.storage m).produced) e),
-  )
-
-  at_new : get with_new o ≡ Some new
-  at_new = at_inserted name_order vs o new
-
-  sent_first : (x : Option StorageName) → c.storage ≡ x → AllSent (TellsOwn with_new) (ready_with o o x)
-  sent_first None e = tt
-  sent_first (Some s) e = ((refl, (new, at_new, (new_by c.operand.mode refl).1 ∙ e)), tt)
-
-  pub opens_first : OpensHeld vs with_new o c (ready_with o o c.storage)
-  opens_first =
-      let n = new_by c.operand.mode refl in
-      record {
-        thins = λ w y e. inl (y, old_stays w y e, refl, λ s k. k);
-        still = λ w y e none. (y, old_stays w y e, none);
-        from = λ w z apart e. (
-          z,
-          sym (beside_inserted name_order vs o new w apart) ∙ e,
-          record { object = refl; produced = refl; storage = refl },
-        );
-        own = record {
-          version = new;
-          stands = at_new;
-          object = n.0;
-          state = inl (
-            ap (λ x. tells (ready_with o o x) o) storage ∙ ready_with_told o o (Some Home) Home refl,
-            (Home, n.1 ∙ storage),
-            elim n.2 [
-              | inl open_yet ↦ inl open_yet
-              | inr is ↦ inr (is.0, is.1, first)
-            ],
-          );
-          reader = λ e. first;
-        };
-        sent = sent_first c.storage refl;
-      }
+use Rattle.tss_laws.proofs.HoldersSent.{told_own}
+use Rattle.tss_laws.proofs.HoldersFirst.{OpensHeld, opens_first}
 
 -- ---- one that follows another
 
@@ -179,8 +88,8 @@ module _ (m : Machine) (all ts : List Task) (g : Arrivals) (S : State) (ground :
       ∙ ap (λ r. registered_of r + opening_reader (get S.mail.opens f.version) + uses_of S.mail.uses f.version) there in
       let released = ap (λ (y : Version). y.released) is ∙ d.1 ∙ last in (
         ap (λ (y : Version). y.produced) is ∙ d.0,
-        few u.registered u.released (opening_reader (get S.mail.opens f.version)) (uses_of S.mail.uses f.version) f.last all
-            released,
+        few u.registered u.released (opening_reader (get S.mail.opens f.version)) (uses_of S.mail.uses f.version) f.last
+            all released,
       )
     where
       few : (r d k u last : ℕ) → last ≡ r + k + u → d ≡ last → r ≤ d
@@ -352,7 +261,8 @@ module _ (m : Machine) (all ts : List Task) (g : Arrivals) (S : State) (ground :
       | inr taken ↦
           let is = is_following taken.before taken.was in
           let over = is_front taken.version taken.there in
-          let produced = ap (λ (y : Version). y.produced) over ∙ (done_parts taken.version taken.follow.last taken.done).0 in
+          let done = done_parts taken.version taken.follow.last taken.done in
+          let produced = ap (λ (y : Version). y.produced) over ∙ done.0 in
           let stored = stored_of produced u.storage refl in
           let has = taken.storage ∙ ap (λ (y : Version). y.storage) (sym over) ∙ stored.1 in
           record {

@@ -53,7 +53,8 @@ links_waiting ts g S readers holders o next there =
 -- ---- finish
 
 -- each operand of a complete task is ready
-pub ready_in : (rs : List OperandState) (k : ℕ) (r : OperandState) → list_all is_ready rs ≡ true → slice_get rs k ≡ Some r
+pub ready_in : (rs : List OperandState) (k : ℕ) (r : OperandState) → list_all is_ready rs ≡ true
+    → slice_get rs k ≡ Some r
     → is_ready r ≡ true
 ready_in [] k r all e = absurd (none-some r e)
 ready_in (x ∷ rs) zero r all e =
@@ -80,7 +81,8 @@ module _ (S : State) (n : ℕ) (x : Flying) (flying : get S.flight n ≡ Some x)
     not_late : is_late (phase_of S q) ≡ true → ⊥
     not_late e =
         running≢finished
-        (one_stage S.flight n q.task stage.Running stage.Finished (x, flying, runs) (runners.late q r kept e) (sym same))
+        (one_stage S.flight n q.task stage.Running stage.Finished (x, flying, runs) (runners.late q r kept e)
+        (sym same))
 
     by_phase : (p : Phase) → phase_of S q ≡ p → FitsPhase p (look_ups S q) → phase_of S q ≡ Ready
     by_phase Ahead e h = absurd (none-some r (sym h.0 ∙ kept))

@@ -1,8 +1,8 @@
 -- What operands hold after a bye: the operand has left, or awaits its link, and its task may leave.
-use Rattle.std.proofs.Common.{◌≡◌, ◌≢◌, ◌⊎◌, ℕ, Bool, true, false, List, Option, Some, None, refl, sym, ap, ◌∙◌, subst, inl, inr, true≢false}
-use Rattle.std.specs.Prelude.{◌&&◌, not, if◌then◌else◌, is_some, slice_get}
+use Rattle.std.proofs.Common.{◌≡◌, ◌≢◌, Bool, true, false, List, Option, Some, None, refl, sym, ap, ◌∙◌, subst, inl, inr, true≢false}
+use Rattle.std.specs.Prelude.{◌&&◌, not, if◌then◌else◌, is_some}
 use Rattle.std.specs.FinMap.{get}
-use Rattle.std.proofs.lemmas.Option.{none-some, same_Some}
+use Rattle.std.proofs.lemmas.Option.{none-some}
 use Rattle.tss_base.specs.declared.operand.OpName.{OpName}
 use Rattle.tss_base.specs.declared.operand.Mode.{Mode}
 use Rattle.tss_base.specs.declared.operand.Mode.TheVariants.{Input, Output, Inout}
@@ -41,7 +41,7 @@ use Rattle.tss_laws.proofs.GroundworkSpawn.{among_object}
 use Rattle.tss_laws.proofs.HoldersFits.{Holding, HasOpened, HasCome, HoldsIn}
 use Rattle.tss_laws.proofs.HoldersTurns.{holding_remaining}
 use Rattle.tss_laws.proofs.HoldersLeaves.{holding_parted}
-use Rattle.tss_laws.proofs.HoldersFrames.{IsSameHolder, IsChangedHolder, holding_there, holding_after, holders_kept}
+use Rattle.tss_laws.proofs.HoldersFrames.{IsChangedHolder, holding_there, holding_after, holders_kept}
 use Rattle.tss_laws.proofs.HoldersRunnerEvents.{HasRunners-after_event}
 use Rattle.tss_laws.proofs.HoldersKeepsOrder.{AreOrderly-controlled}
 

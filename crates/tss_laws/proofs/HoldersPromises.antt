@@ -75,7 +75,8 @@ module _ (ts : List Task) (xs : List OpName) (S : State) (v : OpName) (x : Versi
           let awake : phase_of S b ≡ Waiting → ⊥ = λ w. true≢false (sym (ap is_waiting w) ∙ e) in
           inl (n.passed r awake kept (ap has_released releasing), absent (get S.mail.links o) refl awake)
         where
-          absent : (k : Option OpName) → get S.mail.links o ≡ k → (phase_of S b ≡ Waiting → ⊥) → get S.mail.links o ≡ None
+          absent : (k : Option OpName) → get S.mail.links o ≡ k → (phase_of S b ≡ Waiting → ⊥)
+              → get S.mail.links o ≡ None
           absent None f awake = f
           absent (Some c) f awake = absurd (awake (n.linking c f).1)
 

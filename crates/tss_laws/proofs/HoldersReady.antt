@@ -56,7 +56,8 @@ use Rattle.tss_locality.proofs.LeftFields.{Leaves-after_event}
 module _ (ts : List Task) (g : Arrivals) (S : State) (chains : HasChains ts S) (readers : HasReaders ts g S)
     (holders : HasHolders ts g S) where
   -- the operand of a reader of a version is an input on the version's object
-  pub reader_operand : (v : OpName) (y : Version) → get S.versions v ≡ Some y → (a : OpName) → Has a (g v) → (p : Operand)
+  pub reader_operand : (v : OpName) (y : Version) → get S.versions v ≡ Some y → (a : OpName) → Has a (g v)
+      → (p : Operand)
       → operand_among ts a ≡ Some p → (p.object ≡ y.object) × (p.mode ≡ Input)
   reader_operand v y there a has p e =
       let on = ((readers.versions v y there).each a has).on in
@@ -84,7 +85,8 @@ module _ (ts : List Task) (g : Arrivals) (S : State) (chains : HasChains ts S) (
           inout_input (sym on.is_mode ∙ ap (λ (p : Operand). p.mode) (sym is) ∙ mode)
 
   -- what is true of a reader is true of the next one, which waits
-  module _ (a b : OpName) (behind : WaitsBehind g S a b) (pa : Operand) (s : Source) (among : operand_among ts a ≡ Some pa)
+  module _ (a b : OpName) (behind : WaitsBehind g S a b) (pa : Operand) (s : Source)
+      (among : operand_among ts a ≡ Some pa)
       (reads : writes pa.mode ≡ false) (true_of : IsTrue g S a pa s) where
     same_version : s.version ≡ behind.version
     same_version =
@@ -150,7 +152,8 @@ module _ (ts : List Task) (g : Arrivals) (S T : State) (versions : T.versions �
           let shown = (waiting_shows (look_ups S q) (waits e)).0 in
           let now : phase_of T q ≡ Told =
           ap phase_at (looked ∙ t.1)
-          ∙ phase_telling (record (look_ups S q) { telling = Some t.0 }) t.0 shown.decoding shown.opening shown.using refl in
+          ∙ phase_telling (record
+          (look_ups S q) { telling = Some t.0 }) t.0 shown.decoding shown.opening shown.using refl in
           inr (record {
             holds = λ p a h. holds_after q p (received_all ms q (look_ups S q)) (get S.mail.links q) looked links
                 (holding_news (IsTrue g S q p) (HasOpened S q) (HasCome g S q) (writes p.mode) (look_ups S q)
@@ -168,7 +171,8 @@ named_operand ts o named = let a = among_object ts o named.0 named.1 in (a.0, a.
 
 -- ---- ready
 
-told_to_ready : (y : Version) (mode : Mode) (b : Bool) → opener_by y mode Told b ≡ true → opener_by y mode Ready b ≡ true
+told_to_ready : (y : Version) (mode : Mode) (b : Bool) → opener_by y mode Told b ≡ true
+    → opener_by y mode Ready b ≡ true
 told_to_ready y Input true e = refl
 told_to_ready y Output true e = absurd (true≢false (sym e))
 told_to_ready y Inout true e = absurd (true≢false (sym e))
@@ -233,7 +237,8 @@ module _ (m : Machine) (all ts : List Task) (g : Arrivals) (S : State) (ground :
     ready_own = record {
       holds = λ p e was.
           holds_after ts g S T versions after o p
-          (record (look_ups S o) { telling = None; station = Some (operand_after_ready r s) }) (get S.mail.links o) looked
+          (record (look_ups S o) { telling = None; station = Some (operand_after_ready r s) })
+          (get S.mail.links o) looked
           (same_link o)
           (holding_readied (IsTrue g S o p) (HasOpened S o) (HasCome g S o) (writes p.mode) (look_ups S o)
           (get S.mail.links o) was s there told_now stands.0 r kept stands.1.0.stays);
@@ -248,7 +253,8 @@ module _ (m : Machine) (all ts : List Task) (g : Arrivals) (S : State) (ground :
         ready_left e = cc
 
     -- the operand reads, where it holds a link
-    holds_link : (q : OpName) → r.link ≡ link.Held q → (p : Operand) → operand_among ts o ≡ Some p → writes p.mode ≡ false
+    holds_link : (q : OpName) → r.link ≡ link.Held q → (p : Operand) → operand_among ts o ≡ Some p
+        → writes p.mode ≡ false
     holds_link q held p e = by (writes p.mode) refl
       where
         nothing_held : link.Nothing ≡ link.Held q → ⊥
@@ -286,7 +292,8 @@ module _ (m : Machine) (all ts : List Task) (g : Arrivals) (S : State) (ground :
     ready_holders : HasHolders ts g T
     ready_holders =
         holders_kept ts g S T versions h.orderly
-        (HasRunners-after_event m all S ground.numbers ground.stages h.orderly h.holders.runners (event.Ready o) on order)
+        (HasRunners-after_event m all S ground.numbers ground.stages h.orderly h.holders.runners
+        (event.Ready o) on order)
         (λ q. elim (decide_key name_order q o) [
           | inl same ↦ inr (subst (IsChangedHolder ts g S T) (sym same) ready_own)
           | inr apart ↦ ready_other q apart

@@ -1,11 +1,9 @@
 -- What operands hold after a release.
-use Rattle.std.proofs.Common.{◌≡◌, ◌≢◌, ◌⊎◌, suc, Bool, true, false, List, [], ◌∷◌, ◌++◌, Option, Some, None, refl, sym, ap, ◌∙◌, subst, inl, inr, true≢false}
-use Rattle.std.specs.Prelude.{is_some, ◌||◌}
-use Rattle.std.specs.FinMap.{get, len}
+use Rattle.std.proofs.Common.{◌≡◌, ◌≢◌, Bool, true, false, List, ◌++◌, Option, Some, None, refl, sym, ap, ◌∙◌, subst, inl, inr, true≢false}
+use Rattle.std.specs.Prelude.{is_some}
+use Rattle.std.specs.FinMap.{get}
 use Rattle.std.proofs.lemmas.Option.{none-some, same_Some}
 use Rattle.tss_base.specs.declared.operand.OpName.{OpName}
-use Rattle.tss_base.specs.declared.operand.Mode.{Mode}
-use Rattle.tss_base.specs.declared.operand.Mode.TheVariants.{Input, Output, Inout}
 use Rattle.tss_base.specs.declared.operand.Operand.{Operand}
 use Rattle.tss_base.specs.declared.operand.Task.{Task}
 use Rattle.tss_base.specs.declared.machine.Machine.{Machine}
@@ -14,22 +12,21 @@ use Rattle.tss_base.specs.Names.{Named}
 use Rattle.tss_maps.proofs.Keys.{name_order, decide_key}
 use Rattle.tss_maps.proofs.Changes.{at_inserted, beside_inserted, one_value}
 use Rattle.tss_model.specs.Access.{writes}
-use Rattle.tss_protocol.specs.Mail.{Source, StorageName, ReleaseContents, Message, Decode, Ack, Open, Use, Ready, Link, Release, Bye, Idle, Nack, Retire, Gone}
+use Rattle.tss_protocol.specs.Mail.{Source, StorageName, ReleaseContents, Message}
 use Rattle.tss_protocol.specs.State.{State, OperandState, Version}
 use Rattle.tss_protocol.specs.Stations.{operand_at}
-use Rattle.tss_protocol.specs.Versions.{Versioned, ready_with, head_ready, released_by, released_at, settled}
-use Rattle.tss_protocol.specs.UnitMachine.{is_enabled, IsEnabled, after_event, without, release_message_taken}
-use Rattle.tss_phases.specs.Phase.{Phase, Waiting, Told, Releasing, Leaving, Left, LookUps, look_ups, phase_at, phase_of}
-use Rattle.tss_phases.specs.Told.{is_ready_for, tells, WaitsIfTold, phase_told}
-use Rattle.tss_phases.specs.Openers.{holds_version, produced_opener, open_opener, opener_by, version_opener}
+use Rattle.tss_protocol.specs.Versions.{Versioned, ready_with, head_ready, settled}
+use Rattle.tss_protocol.specs.UnitMachine.{is_enabled, IsEnabled, after_event}
+use Rattle.tss_phases.specs.Phase.{Waiting, Told, Leaving, Left, LookUps, look_ups, phase_at, phase_of}
+use Rattle.tss_phases.specs.Told.{tells, phase_told}
+use Rattle.tss_phases.specs.Openers.{holds_version}
 use Rattle.tss_phases.specs.Alone.{IsSilent}
 use Rattle.tss_phases.proofs.Shown.{waiting_shows}
-use Rattle.tss_phases.specs.Orderly.{IsInformed, IsOrderly, AreOrderly, ReleasesRegistered}
+use Rattle.tss_phases.specs.Orderly.{IsInformed, IsOrderly}
 use Rattle.tss_phases.proofs.Received.{received_all}
-use Rattle.tss_phases.proofs.News.{AreNews, news_both, untold, told}
-use Rattle.tss_phases.proofs.SettlingLemmas.{name_from_test, settle_tells_successor}
-use Rattle.tss_phases.proofs.ToldPhases.{not_told, second_tells, bye_tells}
-use Rattle.tss_phases.proofs.ReleaseEvent.{version_released, versions_released, heads_told, bye_promised, sent_by_release, news_heads, news_released, release_sends_here, release_tells, look_ups-release-own, look_ups-release-other, phase_of-release, phase_of-release-other}
+use Rattle.tss_phases.proofs.News.{untold, told}
+use Rattle.tss_phases.proofs.ToldPhases.{second_tells}
+use Rattle.tss_phases.proofs.ReleaseEvent.{versions_released, heads_told, bye_promised, sent_by_release}
 use Rattle.tss_phases.proofs.OrderlyLemmas.{releasing_stands}
 use Rattle.tss_phases.proofs.Tests.{something}
 use Rattle.tss_locality.proofs.LeftFields.{Leaves-after_event}
@@ -39,77 +36,18 @@ use Rattle.tss_laws.specs.Holders.{IsTrue, IsOwnOrRead, HasHolders, PromiseFits}
 use Rattle.tss_laws.specs.Control.{HasGroundwork, IsControlled}
 use Rattle.tss_laws.proofs.SentLemmas.{AllSent, AllSent-append}
 use Rattle.tss_laws.proofs.ReadersLists.{has_oldest}
-use Rattle.tss_laws.proofs.ReadersLinks.{links-release}
 use Rattle.tss_laws.proofs.ReleaseFacts.{Releases, releases_facts}
 use Rattle.tss_laws.proofs.HoldersFits.{Holding, LinksFit, HoldsIn, HasOpened, HasCome, Needs, holding_of, holding_mapped, holders_by}
 use Rattle.tss_laws.proofs.HoldersMoves.{TellsTrue, told_true, holding_told_by}
 use Rattle.tss_laws.proofs.HoldersLeaves.{holding_released}
+use Rattle.tss_laws.proofs.HoldersSent.{tells_true}
 use Rattle.tss_laws.proofs.HoldersReady.{reader_operand, waiting_input}
 use Rattle.tss_laws.proofs.HoldersPromises.{promise_reader}
-use Rattle.tss_laws.proofs.HoldersSettled.{stays_alike, from_alike, TellsOwn, SettlesHeld}
-use Rattle.tss_laws.proofs.HoldersReleases.{z_parts, release_settles, not_linked, none_waits_by, not_needed_by, stays_or_gone}
-use Rattle.tss_laws.proofs.HoldersKeepsOrder.{AreOrderly-controlled, keeps_order}
+use Rattle.tss_laws.proofs.HoldersSettled.{stays_alike}
+use Rattle.tss_laws.proofs.HoldersReleases.{z_parts, not_linked, none_waits_by, not_needed_by, stays_or_gone}
 use Rattle.tss_laws.proofs.HoldersRunnerEvents.{HasRunners-after_event}
-
--- ---- versions of operands that wait
-
-reads_input : (mode : Mode) → writes mode ≡ false → mode ≡ Input
-reads_input Input e = refl
-reads_input Output e = absurd (true≢false e)
-reads_input Inout e = absurd (true≢false e)
-
--- the version that one has opened that waits is open, without a storage
-pub waiting_version : (y : Version) (mode : Mode) → version_opener y mode Waiting ≡ true
-    → (y.produced ≡ false) × (y.storage ≡ None)
-waiting_version y mode e = by y.produced y.storage refl refl
-  where
-    produced : (mode : Mode) → produced_opener mode Waiting ≡ true → ⊥
-    produced Input e = true≢false (sym e)
-    produced Output e = true≢false (sym e)
-    produced Inout e = true≢false (sym e)
-
-    by : (b : Bool) (s : Option StorageName) → y.produced ≡ b → y.storage ≡ s → (y.produced ≡ false) × (y.storage ≡ None)
-    by true s eb es = absurd (produced mode (sym (ap (opener_by y mode Waiting) eb) ∙ e))
-    by false None eb es = (eb, es)
-    by false (Some s) eb es =
-        absurd (true≢false (sym e ∙ ap (opener_by y mode Waiting) eb ∙ ap (λ s. open_opener s Waiting) es))
-
--- ---- messages
-
--- facts of each message that say others
-pub each_sent : (P Q : Message → Type 0) → ((m : Message) → P m → Q m) → (ms : List Message) → AllSent P ms → AllSent Q ms
-each_sent P Q f [] a = tt
-each_sent P Q f (m ∷ ms) a = (f m a.0, each_sent P Q f ms a.1)
-
--- who is told by a settle has a version with a storage
-pub told_own : (us : Named Version) (ms : List Message) (q : OpName) → AllSent (TellsOwn us) ms → tells ms q ≡ true
-    → (z : Version) × (get us q ≡ Some z) × ((s : StorageName) × (z.storage ≡ Some s))
-told_own us [] q a e = absurd (true≢false (sym e))
-told_own us (m ∷ ms) q a e = by m a.0 (is_ready_for m q) refl e (told_own us ms q a.1)
-  where
-    false_true : false ≡ true → ⊥
-    false_true e = cc
-
-    one : (m : Message) → TellsOwn us m → is_ready_for m q ≡ true
-        → (z : Version) × (get us q ≡ Some z) × ((s : StorageName) × (z.storage ≡ Some s))
-    one (Ready o s) t e = (t.1.0, ap (get us) (name_from_test q o e) ∙ t.1.1, (s.storage, t.1.2))
-    one (Decode o operand) t e = absurd (false_true e)
-    one (Ack o) t e = absurd (false_true e)
-    one (Open o c) t e = absurd (false_true e)
-    one (Use o v) t e = absurd (false_true e)
-    one (Link o next) t e = absurd (false_true e)
-    one (Release o r) t e = absurd (false_true e)
-    one (Bye o b) t e = absurd (false_true e)
-    one (Idle v i) t e = absurd (false_true e)
-    one (Nack v) t e = absurd (false_true e)
-    one (Retire v) t e = absurd (false_true e)
-    one (Gone v g) t e = absurd (false_true e)
-
-    by : (m : Message) → TellsOwn us m → (b : Bool) → is_ready_for m q ≡ b → b || tells ms q ≡ true
-        → (tells ms q ≡ true → (z : Version) × (get us q ≡ Some z) × ((s : StorageName) × (z.storage ≡ Some s)))
-        → (z : Version) × (get us q ≡ Some z) × ((s : StorageName) × (z.storage ≡ Some s))
-    by m t true f e again = one m t f
-    by m t false f e again = again e
+use Rattle.tss_laws.proofs.HoldersReleasing.{settles, versions, after, order, waits, news, same_link, looked, not_waiting, came, kept, own_looked, now_leaving, other_phase}
+use Rattle.tss_laws.proofs.HoldersReleasedOpeners.{reads_input, openers}
 
 module _ (m : Machine) (all ts : List Task) (g : Arrivals) (S : State) (ground : HasGroundwork m all ts S)
     (h : IsControlled ts g S) (o : OpName) (on : IsEnabled m S (event.Release o)) (c : ReleaseContents)
@@ -132,103 +70,23 @@ module _ (m : Machine) (all ts : List Task) (g : Arrivals) (S : State) (ground :
   abbrev hs : List Message
   hs = heads_told v x c.producer
 
-  settles : SettlesHeld vs v d
-  settles = release_settles ts g S h o c k
-
-  released_part : (b : Bool) → (released_by S.versions o v x b).part ≡ (settled (versions_released S.versions o v x b) v).part
-  released_part true = refl
-  released_part false = refl
-
-  versions : T.versions ≡ d.part
-  unfolding after_event
-  versions =
-      ap (λ y. (release_message_taken (without S (event.Release o)) o y).versions) there
-      ∙ ap (λ y. (released_at S.versions o v c.producer y).part) k.there
-      ∙ released_part c.producer
-
-  after : AreOrderly T
-  after = AreOrderly-controlled m all ts g S ground h (event.Release o) on
-
-  order : ReleasesRegistered S o
-  order = keeps_order m all ts g S ground h (event.Release o)
-
-  told_waits : (q : OpName) → WaitsIfTold S (sent_by_release S.versions o v x c.producer) q
-  told_waits q t = (order c there).1 q (ap (λ ms. tells ms q) (release_sends_here m S o c x there k.there) ∙ t)
-
-  -- whom it tells waits
-  waits : (q : OpName) → tells (hs ++ d.sent) q ≡ true → phase_of S q ≡ Waiting
-  waits q t = told_waits q (bye_tells hs d.sent o (bye_promised o x c.producer) q ∙ t)
-
-  news : AreNews (hs ++ d.sent)
-  news =
-      news_both hs d.sent (news_heads S.versions o v x c.producer) (news_released S.versions o v x c.producer)
-
-  same_link : (q : OpName) → get T.mail.links q ≡ get S.mail.links q
-  same_link q = ap (λ ks. get ks q) (links-release m S o)
-
-  looked : (q : OpName) → q ≢ o → look_ups T q ≡ received_all (hs ++ d.sent) q (look_ups S q)
-  looked q apart = look_ups-release-other m S o c x there k.there q apart
-
-  -- ---- versions
-
-  -- one that waits hasn't opened the version that is released
-  not_waiting : phase_of S v ≡ Waiting → ⊥
-  not_waiting e =
-      let p = h.chains.opener v x k.there in
-      let w = waiting_version x p.0.mode (ap (version_opener x p.0.mode) (sym e) ∙ h.holders.openers v x p.0 k.there p.1) in
-      none-some k.storage (sym w.1 ∙ k.stored)
-
-  -- where a version came from
-  came : (w : OpName) → w ≢ v → (y : Version) → get d.part w ≡ Some y
-      → (b : Version) × (get S.versions w ≡ Some b) × (y.object ≡ b.object) × (y.produced ≡ b.produced)
-      × ((y.storage ≡ b.storage) ⊎ ((y.storage ≡ x.storage) × (tells d.sent w ≡ true)))
-  came w apart y e = elim (settles.others w apart) [
-    | inl alike ↦
-        let n = from_alike vs d.part w alike y e in
-        (n.0, sym (beside_inserted name_order S.versions v _ w apart) ∙ n.1, n.2.object, n.2.produced, inl n.2.storage)
-    | inr t ↦
-        let is = one_value d.part w y t.after e t.stands in
-        let z_is = one_value vs v t.version _ t.there (at_inserted name_order S.versions v _) in
-        let stored = ap (λ (y : Version). y.storage) z_is ∙ (z_parts ts g S h o c k).1 in (
-          t.before,
-          sym (beside_inserted name_order S.versions v _ w apart) ∙ t.was,
-          ap (λ (y : Version). y.object) is ∙ t.object,
-          ap (λ (y : Version). y.produced) is ∙ t.produced,
-          inr (
-            ap (λ (y : Version). y.storage) is ∙ t.storage ∙ stored,
-            t.told k.storage (stored ∙ k.stored),
-          ),
-        )
-  ]
-
-  -- ---- the operand itself
-
   abbrev stands : IsSilent (record (look_ups S o) { releasing = None }) × IsInformed (look_ups S o)
   stands = releasing_stands (look_ups S o) c (h.orderly o) there
 
   abbrev r : OperandState
   r = stands.1.0.1.kept
 
-  kept : operand_at S.flight o ≡ Some r
-  kept = stands.1.0.1.there
-
   abbrev own_look_ups : LookUps
   own_look_ups = record (look_ups S o) { releasing = None; leaving = Some (bye_promised o x c.producer) }
 
-  own_looked : look_ups T o ≡ own_look_ups
-  own_looked =
-      look_ups-release-own m S o c x there k.there
-      (not_told (sent_by_release S.versions o v x c.producer) o (look_ups S o) Releasing k.phase (λ e. cc) (told_waits o))
-
-  now_leaving : phase_of T o ≡ Leaving
-  now_leaving = phase_of-release m S o c x there k.there (h.orderly o).alone (told_waits o)
+  -- ---- the operand itself
 
   promise : (p : Operand) → operand_among ts o ≡ Some p
       → PromiseFits (get S.mail.links o) r.link (bye_promised o x c.producer)
   promise p e = by c.producer refl
     where
       links : LinksFit (writes p.mode) (look_ups S o) (get S.mail.links o) r
-      links = (holding_of ts g S h.holders o p e).links r kept
+      links = (holding_of ts g S h.holders o p e).links r (kept m all ts g S ground h o on c there k)
 
       same : p ≡ k.operand
       same = same_Some p k.operand (sym e ∙ k.among)
@@ -237,17 +95,18 @@ module _ (m : Machine) (all ts : List Task) (g : Arrivals) (S : State) (ground :
       by true f = links.writer (ap (λ (p : Operand). writes p.mode) same ∙ sym k.producer ∙ f)
       by false f =
           promise_reader ts (g v) S v x (h.readers.versions v x k.there) o
-          (subst (λ w. IsOwnOrRead g o w v) (sym k.producer ∙ f) k.own) k.phase (writes p.mode) r kept links
+          (subst (λ w. IsOwnOrRead g o w v) (sym k.producer ∙ f) k.own) k.phase (writes p.mode) r
+          (kept m all ts g S ground h o on c there k) links
 
   -- one that has a link to pass on reads, and its version stays
   own_stays : (next : OpName) → get S.mail.links o ≡ Some next → (p : Operand) → operand_among ts o ≡ Some p
       → (s : Source) → IsTrue g S o p s → IsTrue g T o p s
   own_stays next l p e s t =
       let reads = reads_by (writes p.mode) refl in
-      elim (stays_or_gone ts g S h o c k d settles s.version t.version t.there) [
+      elim (stays_or_gone ts g S h o c k d (settles m all ts g S ground h o on c there k) s.version t.version t.there) [
         | inl n ↦ record {
           version = n.0;
-          there = ap (λ vs. get vs s.version) versions ∙ n.1;
+          there = ap (λ vs. get vs s.version) (versions m all ts g S ground h o on c there k) ∙ n.1;
           object = n.2 ∙ t.object;
           storage = n.3 s.storage t.storage;
           own = t.own;
@@ -260,16 +119,20 @@ module _ (m : Machine) (all ts : List Task) (g : Arrivals) (S : State) (ground :
       reads_by : (b : Bool) → writes p.mode ≡ b → writes p.mode ≡ false
       reads_by false f = f
       reads_by true f =
-          absurd (none-some next (sym (((holding_of ts g S h.holders o p e).links r kept).writer f).1 ∙ l))
+          absurd (none-some next
+          (sym (((holding_of ts g S h.holders o p e).links r (kept m all ts g S ground h o on c there k)).writer f).1
+          ∙ l))
 
   own_holds : (p : Operand) → operand_among ts o ≡ Some p → HoldsIn g T o p
   own_holds p e =
       subst (λ n. Holding (IsTrue g T o p) (HasOpened T o) (HasCome g T o) (writes p.mode) (look_ups T o) n)
-      (sym (same_link o))
+      (sym ((same_link m all ts g S ground h o on c there k) o))
       (subst (λ l. Holding (IsTrue g T o p) (HasOpened T o) (HasCome g T o) (writes p.mode) l (get S.mail.links o))
-      (sym own_looked)
+      (sym (own_looked m all ts g S ground h o on c there k))
       (holding_mapped (IsTrue g S o p) (IsTrue g T o p) (HasOpened S o) (HasOpened T o) (HasCome g S o) (HasCome g T o)
-      (writes p.mode) own_look_ups (get S.mail.links o) (subst IsOrderly own_looked (after o))
+      (writes p.mode) own_look_ups (get S.mail.links o)
+      (subst IsOrderly (own_looked m all ts g S ground h o on c there k)
+      ((after m all ts g S ground h o on c there k) o))
       (λ s needs. elim needs [
         | inl holds ↦ λ t. absurd (true≢false (sym holds ∙ ap holds_version phase_now))
         | inr l ↦ own_stays l.0 l.1 p e s
@@ -277,11 +140,13 @@ module _ (m : Machine) (all ts : List Task) (g : Arrivals) (S : State) (ground :
       (λ w f. absurd (leaving_waits (sym phase_now ∙ f)))
       (λ w f. absurd (leaving_waits (sym phase_now ∙ f)))
       (holding_released (IsTrue g S o p) (HasOpened S o) (HasCome g S o) (writes p.mode) (look_ups S o)
-      (get S.mail.links o) (holding_of ts g S h.holders o p e) k.phase stands.0 r kept (bye_promised o x c.producer)
+      (get S.mail.links o) (holding_of ts g S h.holders o p e) k.phase stands.0 r
+      (kept m all ts g S ground h o on c there k) (bye_promised o x c.producer)
       (promise p e))))
     where
       phase_now : phase_at own_look_ups ≡ Leaving
-      phase_now = sym (ap phase_at own_looked) ∙ now_leaving
+      phase_now = sym (ap phase_at (own_looked m all ts g S ground h o on c there k))
+          ∙ (now_leaving m all ts g S ground h o on c there k)
 
       leaving_waits : Leaving ≡ Waiting → ⊥
       leaving_waits e = cc
@@ -294,10 +159,11 @@ module _ (m : Machine) (all ts : List Task) (g : Arrivals) (S : State) (ground :
 
     true_on : (s : Source) → Needs (phase_of S q) (get S.mail.links q) → IsTrue g S q p s → IsTrue g T q p s
     true_on s needs t =
-        elim (stays_or_gone ts g S h o c k d settles s.version t.version t.there) [
+        elim (stays_or_gone ts g S h o c k d
+        (settles m all ts g S ground h o on c there k) s.version t.version t.there) [
           | inl n ↦ record {
             version = n.0;
-            there = ap (λ vs. get vs s.version) versions ∙ n.1;
+            there = ap (λ vs. get vs s.version) (versions m all ts g S ground h o on c there k) ∙ n.1;
             object = n.2 ∙ t.object;
             storage = n.3 s.storage t.storage;
             own = t.own;
@@ -306,19 +172,19 @@ module _ (m : Machine) (all ts : List Task) (g : Arrivals) (S : State) (ground :
         ]
 
     come_on : phase_of S q ≡ Waiting → HasCome g S q → HasCome g T q
-    come_on w y = elim (stays_or_gone ts g S h o c k d settles y.0 y.1 y.2) [
-      | inl n ↦ (y.0, n.0, ap (λ vs. get vs y.0) versions ∙ n.1, y.3)
+    come_on w y = elim (stays_or_gone ts g S h o c k d (settles m all ts g S ground h o on c there k) y.0 y.1 y.2) [
+      | inl n ↦ (y.0, n.0, ap (λ vs. get vs y.0) (versions m all ts g S ground h o on c there k) ∙ n.1, y.3)
       | inr gone ↦
           absurd (none_waits_by ts g S h o c k d.part gone.1 q (subst (λ v. Has q (g v)) gone.0 y.3) w)
     ]
 
     opened_on : tells (hs ++ d.sent) q ≡ false → phase_of S q ≡ Waiting → HasOpened S q → HasOpened T q
     opened_on silent w y =
-        let far : q ≢ v = λ f. not_waiting (ap (phase_of S) (sym f) ∙ w) in
-        elim (settles.others q far) [
+        let far : q ≢ v = λ f. (not_waiting m all ts g S ground h o on c there k) (ap (phase_of S) (sym f) ∙ w) in
+        elim ((settles m all ts g S ground h o on c there k).others q far) [
           | inl alike ↦
               let n = stays_alike vs d.part q alike y.0 (beside_inserted name_order S.versions v _ q far ∙ y.1) in
-              (n.0, ap (λ vs. get vs q) versions ∙ n.1, n.2.storage ∙ y.2)
+              (n.0, ap (λ vs. get vs q) (versions m all ts g S ground h o on c there k) ∙ n.1, n.2.storage ∙ y.2)
           | inr t ↦
               let z_is = one_value vs v t.version _ t.there (at_inserted name_order S.versions v _) in
               let stored = ap (λ (y : Version). y.storage) z_is ∙ (z_parts ts g S h o c k).1 ∙ k.stored in
@@ -331,10 +197,10 @@ module _ (m : Machine) (all ts : List Task) (g : Arrivals) (S : State) (ground :
       head_true t stored head =
           let has = has_oldest q (g v) (by x.produced refl) in
           let on_it = reader_operand ts g S h.chains h.readers h.holders v x k.there q has p among in
-          elim (stays_or_gone ts g S h o c k d settles v x k.there) [
+          elim (stays_or_gone ts g S h o c k d (settles m all ts g S ground h o on c there k) v x k.there) [
             | inl n ↦ record {
               version = n.0;
-              there = ap (λ vs. get vs v) versions ∙ n.1;
+              there = ap (λ vs. get vs v) (versions m all ts g S ground h o on c there k) ∙ n.1;
               object = n.2 ∙ sym on_it.0;
               storage = n.3 t stored;
               own = subst (λ w. IsOwnOrRead g q w v) (sym (ap writes on_it.1)) has;
@@ -367,51 +233,39 @@ module _ (m : Machine) (all ts : List Task) (g : Arrivals) (S : State) (ground :
           by false = tt
 
       far : q ≢ v
-      far f = not_waiting (ap (phase_of S) (sym f) ∙ w)
+      far f = (not_waiting m all ts g S ground h o on c there k) (ap (phase_of S) (sym f) ∙ w)
 
-      own_true : (a : OpName) (u : Source) → TellsOwn d.part (Ready a u) → q ≡ a → P u
-      own_true a u t same =
-          let at = ap (get d.part) same ∙ t.1.1 in
-          let b = came q far t.1.0 at in
+      own_true : (u : Source) (z : Version) → u.version ≡ q → get d.part q ≡ Some z → z.storage ≡ Some u.storage → P u
+      own_true u z is at stored =
+          let b = (came m all ts g S ground h o on c there k) q far z at in
           let on_it = h.chains.opener q b.0 b.1 in
-          let is = same_Some on_it.0 p (sym on_it.1 ∙ among) in
           record {
-            version = t.1.0;
-            there = ap (λ vs. get vs u.version) versions ∙ ap (get d.part) t.0 ∙ t.1.1;
-            object = b.2 ∙ sym on_it.2 ∙ ap (λ (p : Operand). p.object) is;
-            storage = t.1.2;
-            own = by (writes p.mode) refl (t.0 ∙ sym same) b.0 b.1;
+            version = z;
+            there = ap (λ vs. get vs u.version) (versions m all ts g S ground h o on c there k) ∙ ap (get d.part) is
+                ∙ at;
+            object = b.2 ∙ sym on_it.2
+                ∙ ap (λ (p : Operand). p.object) (same_Some on_it.0 p (sym on_it.1 ∙ among));
+            storage = stored;
+            own = by (writes p.mode) refl b.0 b.1;
           }
         where
-          by : (b : Bool) → writes p.mode ≡ b → u.version ≡ q → (y : Version) → get S.versions q ≡ Some y
+          by : (b : Bool) → writes p.mode ≡ b → (y : Version) → get S.versions q ≡ Some y
               → IsOwnOrRead g q (writes p.mode) u.version
-          by true e f y z = subst (λ b. IsOwnOrRead g q b u.version) (sym e) f
-          by false e f y z =
-              absurd (waiting_input ts g S h.chains h.readers h.holders q w y z p among (reads_input p.mode e))
-
-      message_true : (a : Message) → TellsOwn d.part a → TellsTrue q P a
-      message_true (Ready a u) t = own_true a u t
-      message_true (Decode a operand) t = tt
-      message_true (Ack a) t = tt
-      message_true (Open a c) t = tt
-      message_true (Use a v) t = tt
-      message_true (Link a next) t = tt
-      message_true (Release a r) t = tt
-      message_true (Bye a b) t = tt
-      message_true (Idle a i) t = tt
-      message_true (Nack a) t = tt
-      message_true (Retire a) t = tt
-      message_true (Gone a u) t = tt
+          by true e y at = subst (λ b. IsOwnOrRead g q b u.version) (sym e) is
+          by false e y at =
+              absurd (waiting_input ts g S h.chains h.readers h.holders q w y at p among (reads_input p.mode e))
 
       all_true : AllSent (TellsTrue q P) (hs ++ d.sent)
       all_true =
           AllSent-append (TellsTrue q P) hs d.sent heads_true
-          (each_sent (TellsOwn d.part) (TellsTrue q P) message_true d.sent settles.sent)
+          (tells_true d.part q P d.sent (settles m all ts g S ground h o on c there k).sent own_true)
 
     other_holds : HoldsIn g T q p
     other_holds =
-        subst (λ n. Holding P (HasOpened T q) (HasCome g T q) (writes p.mode) (look_ups T q) n) (sym (same_link q))
-        (subst (λ l. Holding P (HasOpened T q) (HasCome g T q) (writes p.mode) l (get S.mail.links q)) (sym (looked q apart))
+        subst (λ n. Holding P (HasOpened T q) (HasCome g T q) (writes p.mode) (look_ups T q) n)
+        (sym ((same_link m all ts g S ground h o on c there k) q))
+        (subst (λ l. Holding P (HasOpened T q) (HasCome g T q) (writes p.mode) l (get S.mail.links q))
+        (sym ((looked m all ts g S ground h o on c there k) q apart))
         (by (tells (hs ++ d.sent) q) refl))
       where
         was : HoldsIn g S q p
@@ -422,176 +276,19 @@ module _ (m : Machine) (all ts : List Task) (g : Arrivals) (S : State) (ground :
             (get S.mail.links q)
         by false e =
             subst (λ l. Holding P (HasOpened T q) (HasCome g T q) (writes p.mode) l (get S.mail.links q))
-            (sym (untold (hs ++ d.sent) q (look_ups S q) news e))
+            (sym (untold (hs ++ d.sent) q (look_ups S q) (news m all ts g S ground h o on c there k) e))
             (holding_mapped (IsTrue g S q p) P (HasOpened S q) (HasOpened T q) (HasCome g S q) (HasCome g T q)
             (writes p.mode) (look_ups S q) (get S.mail.links q) (h.orderly q) true_on (λ w f. opened_on e f)
             (λ w f. come_on f) was)
         by true e =
-            let w = waits q e in
-            let t = told (hs ++ d.sent) q (look_ups S q) news e in
+            let w = (waits m all ts g S ground h o on c there k) q e in
+            let t = told (hs ++ d.sent) q (look_ups S q) (news m all ts g S ground h o on c there k) e in
             let silent = (waiting_shows (look_ups S q) w).0.telling in
             subst (λ l. Holding P (HasOpened T q) (HasCome g T q) (writes p.mode) l (get S.mail.links q)) (sym t.1)
             (holding_told_by P (HasOpened T q) (HasCome g T q) (writes p.mode) (look_ups S q) (get S.mail.links q) w
             was.links t.0
             (told_true P q (hs ++ d.sent) (look_ups S q) t.0 (all_true w) (λ i. (t.1 i).telling)
             (λ f. absurd (none-some t.0 (sym silent ∙ f)))))
-
-  -- ---- openers
-
-  -- a version that is alike for its opener
-  opener_alike : (y b : Version) (mode : Mode) (p : Phase) → y.produced ≡ b.produced → y.storage ≡ b.storage
-      → version_opener b mode p ≡ true → version_opener y mode p ≡ true
-  opener_alike y b mode p e f was =
-      same_opener_by b.produced refl
-    where
-      same_opener_by : (c : Bool) → b.produced ≡ c → version_opener y mode p ≡ true
-      same_opener_by true g = ap (opener_by y mode p) (e ∙ g) ∙ sym (ap (opener_by b mode p) g) ∙ was
-      same_opener_by false g =
-          ap (opener_by y mode p) (e ∙ g) ∙ ap (λ s. open_opener s p) f ∙ sym (ap (opener_by b mode p) g) ∙ was
-
-  other_phase : (q : OpName) → q ≢ o → phase_of T q ≡ phase_told (tells (sent_by_release S.versions o v x c.producer) q) (phase_of S q)
-  other_phase q apart = phase_of-release-other m S o c x there k.there q apart (told_waits q)
-
-  same_tells : (q : OpName) → tells (sent_by_release S.versions o v x c.producer) q ≡ tells (hs ++ d.sent) q
-  same_tells q = bye_tells hs d.sent o (bye_promised o x c.producer) q
-
-  leaving_opens : (mode : Mode) → produced_opener mode Leaving ≡ true
-  leaving_opens Input = refl
-  leaving_opens Output = refl
-  leaving_opens Inout = refl
-
-  -- the version that is released is produced where its opener releases it
-  own_produced : v ≡ o → (version_released o x c.producer).produced ≡ true
-  own_produced same = by c.producer refl
-    where
-      waits_clash : Releasing ≡ Waiting → ⊥
-      waits_clash e = cc
-
-      by : (b : Bool) → c.producer ≡ b → (version_released o x b).produced ≡ true
-      by true e = refl
-      by false e =
-          let has = subst (λ w. IsOwnOrRead g o w v) (sym k.producer ∙ e) k.own in
-          let a = h.readers.versions v x k.there in
-          let oldest = a.own (subst (λ q. Has q (g v)) (sym same) has) in
-          not_open x.produced refl (λ f. waits_clash (sym k.phase ∙ ap (phase_of S) (sym same) ∙ (a.first v oldest).1 f))
-        where
-          not_open : (b : Bool) → x.produced ≡ b → (x.produced ≡ false → ⊥) → x.produced ≡ true
-          not_open true f n = f
-          not_open false f n = absurd (n f)
-
-  -- an operand that releases another one's version has opened none
-  no_own_version : o ≢ v → (y : Version) → get S.versions o ≡ Some y → ⊥
-  no_own_version apart y e = by c.producer refl
-    where
-      by : (b : Bool) → c.producer ≡ b → ⊥
-      by true f = apart (sym (subst (λ w. IsOwnOrRead g o w v) (sym k.producer ∙ f) k.own))
-      by false f =
-          let has = subst (λ w. IsOwnOrRead g o w v) (sym k.producer ∙ f) k.own in
-          let p = h.chains.opener o y e in
-          let is = same_Some p.0 k.operand (sym p.1 ∙ k.among) in
-          let mode = ap (λ (p : Operand). p.mode) is ∙ reads_input k.operand.mode (sym k.producer ∙ f) in
-          let oldest = (h.readers.versions o y e).opener
-          (record { operand = p.0; there = p.1; object = p.2; is_mode = mode }) in
-          apart (h.readers.apart o v o y x e k.there (has_oldest o (g o) oldest) has)
-
-  opener_own : (y : Version) (p : Operand) → get d.part v ≡ Some y → operand_among ts v ≡ Some p
-      → version_opener y p.mode (phase_of T v) ≡ true
-  opener_own y p e among = elim settles.itself [
-    | inr gone ↦ absurd (none-some y (sym gone.gone ∙ e))
-    | inl alike ↦
-        let n = from_alike vs d.part v alike y e in
-        let z_is = one_value vs v n.0 _ n.1 (at_inserted name_order S.versions v _) in
-        elim (decide_key name_order v o) [
-          | inl same ↦
-              ap (version_opener y p.mode) (ap (phase_of T) same ∙ now_leaving)
-              ∙ ap (opener_by y p.mode Leaving) (n.2.produced ∙ ap (λ (y : Version). y.produced) z_is ∙ own_produced same)
-              ∙ leaving_opens p.mode
-          | inr apart ↦
-              opener_alike y x p.mode (phase_of T v)
-              (n.2.produced ∙ ap (λ (y : Version). y.produced) z_is ∙ reader_keeps apart c.producer refl)
-              (n.2.storage ∙ ap (λ (y : Version). y.storage) z_is ∙ (z_parts ts g S h o c k).1)
-              (by apart (tells (hs ++ d.sent) v) refl)
-        ]
-  ]
-    where
-      reader_keeps : v ≢ o → (b : Bool) → c.producer ≡ b → (version_released o x b).produced ≡ x.produced
-      reader_keeps apart true f = absurd (apart (subst (λ w. IsOwnOrRead g o w v) (sym k.producer ∙ f) k.own))
-      reader_keeps apart false f = refl
-
-      by : v ≢ o → (b : Bool) → tells (hs ++ d.sent) v ≡ b → version_opener x p.mode (phase_of T v) ≡ true
-      by apart true f = absurd (not_waiting (waits v f))
-      by apart false f =
-          ap (version_opener x p.mode)
-          (other_phase v apart ∙ ap (λ b. phase_told b (phase_of S v)) (same_tells v ∙ f))
-          ∙ h.holders.openers v x p k.there among
-
-  opener_other : (w : OpName) → w ≢ v → (y : Version) (p : Operand) → get d.part w ≡ Some y → operand_among ts w ≡ Some p
-      → version_opener y p.mode (phase_of T w) ≡ true
-  opener_other w far y p e among =
-      let b = came w far y e in
-      let apart : w ≢ o = λ f.
-      no_own_version (λ g. far (f ∙ g)) b.0 (ap (get S.versions) (sym f) ∙ b.1) in
-      by apart b.0 b.1 b.3 b.4 (tells (hs ++ d.sent) w) refl
-    where
-      storage_none : (b : Version) → b.storage ≡ None → (y.storage ≡ b.storage) → (s : StorageName) → y.storage ≡ Some s → ⊥
-      storage_none b n f s g = none-some s (sym n ∙ sym f ∙ g)
-
-      told_phase_now : w ≢ o → tells (hs ++ d.sent) w ≡ true → phase_of T w ≡ Told
-      told_phase_now apart t =
-          other_phase w apart ∙ ap (λ b. phase_told b (phase_of S w)) (same_tells w ∙ t)
-
-      head_input : (b : Version) → get S.versions w ≡ Some b → phase_of S w ≡ Waiting → x.head ≡ Some w → ⊥
-      head_input b at wt head =
-          let has = has_oldest w (g v) (head_oldest x.produced refl) in
-          let on_it = reader_operand ts g S h.chains h.readers h.holders v x k.there w has p among in
-          waiting_input ts g S h.chains h.readers h.holders w wt b at p among on_it.1
-        where
-          head_oldest : (b : Bool) → x.produced ≡ b → oldest_of (g v) ≡ Some w
-          head_oldest true e =
-              let a = h.readers.versions v x k.there in
-              absurd (none-some w (sym (ap (λ b. head_of b (g v)) e) ∙ sym a.head ∙ head))
-          head_oldest false e =
-              let a = h.readers.versions v x k.there in
-              sym (ap (λ b. head_of b (g v)) e) ∙ sym a.head ∙ head
-
-      by : w ≢ o → (b : Version) → get S.versions w ≡ Some b → y.produced ≡ b.produced
-          → ((y.storage ≡ b.storage) ⊎ ((y.storage ≡ x.storage) × (tells d.sent w ≡ true))) → (t : Bool)
-          → tells (hs ++ d.sent) w ≡ t → version_opener y p.mode (phase_of T w) ≡ true
-      by apart b at produced (inl storage) false t =
-          opener_alike y b p.mode (phase_of T w) produced storage
-          (ap (version_opener b p.mode)
-          (other_phase w apart ∙ ap (λ b. phase_told b (phase_of S w)) (same_tells w ∙ t))
-          ∙ h.holders.openers w b p at among)
-      by apart b at produced (inr taken) false t =
-          absurd (true≢false (sym (second_tells hs d.sent w taken.1) ∙ t))
-      by apart b at produced storage true t =
-          let wt = waits w t in
-          let n = waiting_version b p.mode (ap (version_opener b p.mode) (sym wt) ∙ h.holders.openers w b p at among) in
-          elim storage [
-            | inr taken ↦
-                ap (version_opener y p.mode) (told_phase_now apart t)
-                ∙ ap (opener_by y p.mode Told) (produced ∙ n.0)
-                ∙ ap (λ s. open_opener s Told) (taken.0 ∙ k.stored)
-            | inl same ↦ elim (release_tells S.versions o v x c.producer w (same_tells w ∙ t)) [
-              | inl head ↦ absurd (head_input b at wt head.1)
-              | inr settled_tells ↦
-                  let own = told_own d.part d.sent w settles.sent
-                  (settle_tells_successor (suc (len vs)) vs v w settled_tells) in
-                  let is = one_value d.part w y own.0 e own.1 in
-                  absurd (storage_none b n.1 same own.2.0 (ap (λ (y : Version). y.storage) is ∙ own.2.1))
-            ]
-          ]
-
-  openers : (w : OpName) (y : Version) (p : Operand) → get T.versions w ≡ Some y → operand_among ts w ≡ Some p
-      → version_opener y p.mode (phase_of T w) ≡ true
-  openers w y p e among =
-      let at = sym (ap (λ vs. get vs w) versions) ∙ e in
-      elim (decide_key name_order w v) [
-        | inl same ↦
-            ap (λ w. version_opener y p.mode (phase_of T w)) same
-            ∙ opener_own y p (ap (get d.part) (sym same) ∙ at) (ap (operand_among ts) (sym same) ∙ among)
-        | inr far ↦ opener_other w far y p at among
-      ]
 
   -- ---- all
 
@@ -601,12 +298,14 @@ module _ (m : Machine) (all ts : List Task) (g : Arrivals) (S : State) (ground :
   records : (q next : OpName) → get T.mail.links q ≡ Some next
       → (r : OperandState) × (operand_at T.flight q ≡ Some r) × (phase_of T q ≡ Left → ⊥)
   records q next e =
-      let a = h.holders.records q next (sym (same_link q) ∙ e) in (
+      let a = h.holders.records q next (sym ((same_link m all ts g S ground h o on c there k) q) ∙ e) in (
         a.0,
         ap (λ f. operand_at f q) flight_same ∙ a.1,
         λ left. elim (decide_key name_order q o) [
-          | inl same ↦ leaving_left (sym now_leaving ∙ ap (phase_of T) (sym same) ∙ left)
-          | inr apart ↦ not_left a.2 (tells (sent_by_release S.versions o v x c.producer) q) (sym (other_phase q apart) ∙ left)
+          | inl same ↦ leaving_left
+              (sym (now_leaving m all ts g S ground h o on c there k) ∙ ap (phase_of T) (sym same) ∙ left)
+          | inr apart ↦ not_left a.2 (tells (sent_by_release S.versions o v x c.producer) q)
+              (sym ((other_phase m all ts g S ground h o on c there k) q apart) ∙ left)
         ],
       )
     where
@@ -628,8 +327,9 @@ module _ (m : Machine) (all ts : List Task) (g : Arrivals) (S : State) (ground :
 
   pub holders_released : HasHolders ts g T
   holders_released =
-      holders_by ts g T each_holds openers records
-      (HasRunners-after_event m all S ground.numbers ground.stages h.orderly h.holders.runners (event.Release o) on order)
+      holders_by ts g T each_holds (openers m all ts g S ground h o on c there k) records
+      (HasRunners-after_event m all S ground.numbers ground.stages h.orderly h.holders.runners (event.Release o) on
+      (order m all ts g S ground h o on c there k))
 
 -- release
 pub HasHolders-release : (m : Machine) (all ts : List Task) (g : Arrivals) (S : State) → HasGroundwork m all ts S

@@ -168,7 +168,8 @@ module _ (ts : List Task) (g : Arrivals) (S : State) (h : IsControlled ts g S) (
             absurd (apart (sym same ∙ subst (λ w. IsOwnOrRead g o w v) (sym k.producer ∙ f) k.own))
         by false f =
             parted_released (phase_of S q)
-            (writer_parted x p.mode (phase_of S q) (ap (λ b. (version_released o x b).produced) (sym f) ∙ gone_produced) w
+            (writer_parted x p.mode (phase_of S q)
+            (ap (λ b. (version_released o x b).produced) (sym f) ∙ gone_produced) w
             (h.holders.openers q x p (ap (get S.versions) (sym same) ∙ k.there) e))
 
     -- nor does anybody else need it

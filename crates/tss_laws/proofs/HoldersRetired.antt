@@ -1,5 +1,5 @@
 -- What operands hold after a retire: the version that goes is needed by nobody.
-use Rattle.std.proofs.Common.{◌≡◌, ◌≢◌, ◌≤◌, Bool, true, false, List, Option, Some, None, refl, sym, ap, ◌∙◌, subst, inl, inr, true≢false}
+use Rattle.std.proofs.Common.{◌≡◌, ◌≢◌, ◌≤◌, true, List, Option, Some, None, refl, sym, ap, ◌∙◌, subst, inl, inr, true≢false}
 use Rattle.std.specs.Prelude.{is_some}
 use Rattle.std.specs.FinMap.{get}
 use Rattle.std.proofs.lemmas.Option.{same_Some}
@@ -11,14 +11,12 @@ use Rattle.tss_maps.proofs.Keys.{name_order, decide_key}
 use Rattle.tss_maps.proofs.Changes.{from_removed, beside_removed}
 use Rattle.tss_model.specs.Access.{writes}
 use Rattle.tss_protocol.specs.State.{State, Version}
-use Rattle.tss_protocol.specs.Stations.{operand_at}
 use Rattle.tss_protocol.specs.Versions.{drop_version}
 use Rattle.tss_protocol.specs.UnitMachine.{is_enabled, IsEnabled, after_event, can_retire, retire_version, without}
-use Rattle.tss_phases.specs.Phase.{LookUps, look_ups, phase_at, phase_of}
+use Rattle.tss_phases.specs.Phase.{LookUps, look_ups, phase_at}
 use Rattle.tss_phases.specs.Openers.{version_opener}
 use Rattle.tss_phases.proofs.Tests.{something, both}
 use Rattle.tss_phases.proofs.QuietEvents.{look_ups-retire}
-use Rattle.tss_locality.proofs.LeftFields.{Leaves-after_event}
 use Rattle.tss_laws.specs.Readers.{Arrivals}
 use Rattle.tss_laws.specs.Holders.{IsTrue, HasHolders}
 use Rattle.tss_laws.specs.Control.{HasGroundwork, IsControlled}

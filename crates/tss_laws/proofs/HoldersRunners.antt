@@ -114,7 +114,8 @@ module _ (p : Standing) (h : Runs p) where
         → IsAtStage (remaining_tasks p.flight n y) k s
     still_at k s early a = elim (decide_key nat_order k n) [
       | inl is ↦
-          let at = ap (λ (x : Flying). x.stage) (same_Some x a.0 (sym there ∙ ap (get p.flight) (sym is) ∙ a.1)) ∙ a.2 in
+          let at = ap (λ (x : Flying). x.stage) (same_Some x a.0 (sym there ∙ ap (get p.flight) (sym is) ∙ a.1))
+          ∙ a.2 in
           subst (λ k. IsAtStage (remaining_tasks p.flight n y) k s) (sym is)
           (stage_stays p.flight n y s early (same ∙ at))
       | inr other ↦ stage_remaining p.flight n y k s other a
@@ -138,7 +139,8 @@ module _ (p : Standing) (h : Runs p) where
 
     not_running : (w : ℕ) (b : Busy) → get p.workers w ≡ Some b → b.task.number ≢ n
     not_running w b e same =
-        waiting≢running (one_stage p.flight n b.task.number stage.Waiting stage.Running waits (h.running w b e) (sym same))
+        waiting≢running (one_stage p.flight n b.task.number stage.Waiting stage.Running waits (h.running w b e)
+        (sym same))
 
     runs_beside : (z : Flying) (w : ℕ) (b : Busy) → get p.workers w ≡ Some b
         → IsAtStage (insert p.flight n z) b.task.number stage.Running
@@ -180,7 +182,8 @@ module _ (p : Standing) (h : Runs p) where
     queued = λ k e. elim (from_queue p.queue t.number (is_queued (entered t).stage) k e) [
       | inl before ↦ stage_beside p.flight t.number (entered t) k stage.Queued
           (other k stage.Queued (h.queued k before)) (h.queued k before)
-      | inr now ↦ stage_put p.flight t.number (entered t) k stage.Queued now.0 (queued_from_test (entered t).stage now.1)
+      | inr now ↦ stage_put p.flight t.number (entered t) k stage.Queued now.0
+          (queued_from_test (entered t).stage now.1)
     ];
     once = more (is_queued (entered t).stage);
     running = λ w b e.
@@ -260,7 +263,8 @@ module _ (p : Standing) (h : Runs p) where
   runs_executed w b c there task = record {
     queued = h.queued;
     once = h.once;
-    running = λ u d e. let r = before u d e in subst (λ k. IsAtStage p.flight k stage.Running) r.2 (h.running u r.0 r.1);
+    running = λ u d e. let r = before u d e in subst (λ k. IsAtStage p.flight k stage.Running) r.2
+        (h.running u r.0 r.1);
     single = λ u v d e f g same.
         let r = before u d f in
         let s = before v e g in

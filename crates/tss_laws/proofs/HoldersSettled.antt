@@ -1,24 +1,23 @@
--- What a settle leaves of versions: it changes no object and no produced bit. One version may go, which was done, and one
--- that is told may get the storage of that. All others keep their storages.
-use Rattle.std.proofs.Common.{◌≡◌, ◌≢◌, ◌⊎◌, Bool, true, false, List, [], ◌∷◌, ◌++◌, Option, Some, None, refl, sym, ap, ◌∙◌, subst, inl, inr, true≢false}
+-- What a settle leaves of versions: it changes no object and no produced bit. One version may go, which was done, and
+-- one that is told may get the storage of that. All others keep their storages.
+use Rattle.std.proofs.Common.{◌≡◌, ◌≢◌, ◌⊎◌, true, false, List, [], ◌∷◌, Option, Some, None, refl, sym, ap, ◌∙◌, subst, inl, inr}
 use Rattle.std.specs.Prelude.{◌||◌}
 use Rattle.std.specs.FinMap.{get, insert}
-use Rattle.std.proofs.lemmas.Option.{none-some, same_Some}
-use Rattle.tss_base.specs.declared.range.Range.{Range}
+use Rattle.std.proofs.lemmas.Option.{none-some}
 use Rattle.tss_base.specs.declared.operand.OpName.{OpName}
 use Rattle.tss_base.specs.declared.event.How.TheVariants.{Over}
 use Rattle.tss_base.specs.declared.event.Follow.{Follow}
 use Rattle.tss_base.specs.Names.{Named}
 use Rattle.tss_maps.proofs.Keys.{name_order, decide_key}
 use Rattle.tss_maps.proofs.Changes.{at_inserted, beside_inserted, at_removed, beside_removed}
-use Rattle.tss_protocol.specs.Mail.{StorageName, Source, Message, Decode, Ack, Open, Use, Ready, Link, Release, Bye, Idle, Nack, Retire, Gone}
+use Rattle.tss_protocol.specs.Mail.{StorageName, Message, Decode, Ack, Open, Use, Ready, Link, Release, Bye, Idle, Nack, Retire, Gone}
 use Rattle.tss_protocol.specs.State.{Version}
-use Rattle.tss_protocol.specs.Versions.{Versioned, sending, died, buffer_of, ready_with, put_version, drop_version, change_version, version_changed, change_named, followed_by, unlinked, may_die, settle_over, settle_asking, unchanged, settled}
+use Rattle.tss_protocol.specs.Versions.{Versioned, sending, died, buffer_of, ready_with, drop_version, change_version, version_changed, change_named, followed_by, unlinked, may_die, settle_over, settle_asking, unchanged, settled}
 use Rattle.tss_protocol.specs.Names.{same_name}
 use Rattle.tss_phases.specs.Told.{tells}
 use Rattle.tss_phases.proofs.Received.{own_name}
 use Rattle.tss_laws.proofs.SentLemmas.{AllSent}
-use Rattle.tss_laws.proofs.SettleCases.{OthersSettled, HasNext, IsQuiet, Asks, IsTakenOver, IsPassedBy, SettleCase, moved_up, at_changed, beside_changed, settle_cases}
+use Rattle.tss_laws.proofs.SettleCases.{OthersSettled, HasNext, moved_up, at_changed, beside_changed, settle_cases}
 
 -- ---- versions that are alike
 
@@ -130,8 +129,8 @@ gone_unlinked vs v x s =
 alike_asking : (vs : Named Version) (v : OpName) (x : Version) (w : OpName) → get vs v ≡ Some x
     → AlikeAt vs (settle_asking vs v x).part w
 alike_asking vs v x w there =
-    changed_by (λ y. record y { asked = Some y.registered }) (λ y. record { object = refl; produced = refl; storage = refl })
-    vs v w (Some x) there
+    changed_by (λ y. record y { asked = Some y.registered })
+    (λ y. record { object = refl; produced = refl; storage = refl }) vs v w (Some x) there
 
 -- ---- a settle
 
@@ -224,8 +223,8 @@ module _ (vs : Named Version) (v : OpName) (x : Version) (f : Follow) (there : g
       done = done;
       gone = still_gone d.part (alike v);
     });
-    others = λ w other. inl (alike_after (get vs w) (get passed w) (get d.part w) (alike_beside vs v x f.version w other)
-        (alike w));
+    others = λ w other. inl (alike_after (get vs w) (get passed w) (get d.part w)
+        (alike_beside vs v x f.version w other) (alike w));
     sent = sent;
   }
 
@@ -301,7 +300,8 @@ settles_held vs v others next = elim (settle_cases vs v others next) [
       let n = next passed.version passed.gives.there passed.follow passed.gives.next in
       let us = unlinked vs v passed.version passed.follow.version in
       let gone = died v passed.version.object (buffer_of passed.version.storage) in
-      let by = held_passed vs v passed.version passed.follow passed.gives.there passed.gives.next passed.gives.done n.1 in
+      let by =
+          held_passed vs v passed.version passed.follow passed.gives.there passed.gives.next passed.gives.done n.1 in
       subst (SettlesHeld vs v) (sym passed.is)
       (elim passed.rest [
         | inl quiet ↦

@@ -183,7 +183,8 @@ module _ (F : Numbered Flying) (m : Machine) (ts : List Task) (S T : State) (h :
             let ready = ready_in c.task.operands o.place c.operand e c.place in
             absurd (true≢false (sym ready ∙ ap is_ready is ∙ ap is_some r.told))
 
-    waits : c.task.stage ≡ stage.Waiting
+    -- its task waits
+    pub waits : c.task.stage ≡ stage.Waiting
     waits = (h.stages.waiting o.task c.task c.there).1 incomplete
 
     on_readied : KeepsFront S T → RunsOn F m ts T

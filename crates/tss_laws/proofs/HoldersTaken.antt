@@ -1,5 +1,5 @@
 -- What operands hold after a take and a decode: an operand that is on its way to its version holds nothing yet.
-use Rattle.std.proofs.Common.{◌≡◌, ◌≢◌, ◌⊎◌, ℕ, Bool, true, false, List, Option, Some, None, refl, sym, ap, ◌∙◌, subst, inl, inr, true≢false}
+use Rattle.std.proofs.Common.{◌≡◌, ◌≢◌, Bool, true, false, List, Option, Some, None, refl, sym, ap, ◌∙◌, subst, inl, inr, true≢false}
 use Rattle.std.specs.Prelude.{slice_get, option_map}
 use Rattle.std.specs.FinMap.{get}
 use Rattle.std.proofs.lemmas.Option.{none-some, same_Some}
@@ -20,7 +20,7 @@ use Rattle.tss_protocol.specs.Stations.{operand_at, new_operand, flight_after_ta
 use Rattle.tss_protocol.specs.UnitMachine.{is_enabled, IsEnabled, after_event, after_take, can_decode_message}
 use Rattle.tss_phases.specs.Phase.{Phase, Ahead, Decoding, Sent, Waiting, Told, Ready, Releasing, Leaving, Promised, Left, LookUps, look_ups, phase_at, phase_of}
 use Rattle.tss_phases.specs.Openers.{version_opener, opener_by, produced_opener, open_opener}
-use Rattle.tss_phases.specs.Orderly.{IsOrderly, AreOrderly}
+use Rattle.tss_phases.specs.Orderly.{IsOrderly}
 use Rattle.tss_phases.proofs.Tests.{something}
 use Rattle.tss_phases.proofs.Shown.{ahead_shows}
 use Rattle.tss_phases.proofs.PhaseLemmas.{phase_telling, phase_releasing, phase_leaving}
@@ -35,9 +35,9 @@ use Rattle.tss_laws.specs.Readers.{Arrivals}
 use Rattle.tss_laws.specs.Holders.{link_fits, HasHolders}
 use Rattle.tss_laws.specs.Control.{HasGroundwork, IsControlled}
 use Rattle.tss_laws.proofs.ReadersLinks.{links-take, links-decode}
-use Rattle.tss_laws.proofs.HoldersFits.{Holding, HoldsIn}
+use Rattle.tss_laws.proofs.HoldersFits.{Holding}
 use Rattle.tss_laws.proofs.HoldersMoves.{holding_fresh, links_none}
-use Rattle.tss_laws.proofs.HoldersFrames.{IsSameHolder, IsChangedHolder, holders_kept}
+use Rattle.tss_laws.proofs.HoldersFrames.{IsChangedHolder, holders_kept}
 use Rattle.tss_laws.proofs.HoldersRunnerEvents.{HasRunners-after_event}
 use Rattle.tss_laws.proofs.HoldersKeepsOrder.{keeps_order, AreOrderly-controlled}
 
@@ -107,7 +107,8 @@ module _ (l : LookUps) (orderly : IsOrderly l) (early : is_early (phase_at l) �
 
 -- ---- openers
 
-no_opener_by : (y : Version) (mode : Mode) (p : Phase) → produced_opener mode p ≡ false → open_opener y.storage p ≡ false
+no_opener_by : (y : Version) (mode : Mode) (p : Phase) → produced_opener mode p ≡ false
+    → open_opener y.storage p ≡ false
     → (b : Bool) → opener_by y mode p b ≡ false
 no_opener_by y mode p produced opened true = produced
 no_opener_by y mode p produced opened false = opened

@@ -1,5 +1,5 @@
 -- What operands hold where versions go that nobody needs, and others get a storage.
-use Rattle.std.proofs.Common.{◌≡◌, ◌⊎◌, ◌≤◌, Bool, true, false, List, Option, Some, None, refl, sym, ap, ◌∙◌, inl, inr}
+use Rattle.std.proofs.Common.{◌≡◌, ◌⊎◌, ◌≤◌, true, List, Some, refl, ◌∙◌, inl, inr}
 use Rattle.std.specs.FinMap.{get}
 use Rattle.tss_base.specs.declared.operand.OpName.{OpName}
 use Rattle.tss_base.specs.declared.operand.Operand.{Operand}
@@ -10,7 +10,7 @@ use Rattle.tss_protocol.specs.Mail.{StorageName, Source}
 use Rattle.tss_protocol.specs.State.{State, Version}
 use Rattle.tss_phases.specs.Phase.{Waiting, look_ups, phase_of}
 use Rattle.tss_laws.specs.Members.{operand_among}
-use Rattle.tss_laws.specs.Readers.{Arrivals, Has}
+use Rattle.tss_laws.specs.Readers.{Arrivals}
 use Rattle.tss_laws.specs.Holders.{IsTrue}
 use Rattle.tss_laws.specs.Control.{IsControlled}
 use Rattle.tss_laws.proofs.HoldersFits.{Needs, Holding, HasOpened, HasCome, holding_of, holding_mapped}

@@ -14,7 +14,6 @@ use Rattle.tss_protocol.specs.Mail.{OpenContents}
 use Rattle.tss_protocol.specs.State.{State, Version}
 use Rattle.tss_protocol.specs.Versions.{put_version, may_die, version_changed, new_version, followed, after_nack, refused_once, unlinked}
 use Rattle.tss_phases.specs.Phase.{Phase, Ahead, Decoding, Sent, Waiting, Told, Ready, Releasing, Leaving, Promised, Left, phase_of}
-use Rattle.tss_phases.specs.Told.{tells}
 use Rattle.tss_phases.specs.Openers.{is_waiting, opener_by}
 use Rattle.tss_phases.specs.Orderly.{TellWaiting, OpensForWaiting}
 use Rattle.tss_phases.specs.Settling.{GivesWay, GoesOn, SettleTells}
@@ -88,7 +87,8 @@ module _ (ts : List Task) (g : Arrivals) (S : State) (chains : HasChains ts S) (
         stops : (y : Version) (k : Follow) (how : How) → GivesWay (unlinked changed v h.version s) s y k how → ⊥
         stops y k how gives =
             let n = (chains.linked v x there).followed h.follow to in
-            let apart : s ≢ v = λ e. let a = n.younger in let b = ap (λ (o : OpName). o.task) e in omega (arith, a, b) in
+            let apart : s ≢ v = λ e. let a = n.younger in let b = ap (λ (o : OpName). o.task) e in omega
+            (arith, a, b) in
             let other : h.version.predecessor ≡ Some s → ⊥ =
             λ e. let c = ((chains.linked v x there).after s
             (sym before ∙ ap (λ (y : Version). y.predecessor) (sym is) ∙ e)).older in
@@ -126,7 +126,8 @@ module _ (ts : List Task) (S : State) (chains : HasChains ts S) (o : OpName) (c 
 
   apart_followed : f.version ≢ o
   apart_followed e =
-      let a = ((chains.opens o c there).after f to).older in let b = ap (λ (o : OpName). o.task) e in omega (arith, a, b)
+      let a = ((chains.opens o c there).after f to).older in let b = ap (λ (o : OpName). o.task) e in omega
+      (arith, a, b)
 
   at_followed : (x : Version) → get S.versions f.version ≡ Some x
       → get opened f.version ≡ Some (record x { successor = Some (record f { version = o }) })
@@ -141,7 +142,8 @@ module _ (ts : List Task) (S : State) (chains : HasChains ts S) (o : OpName) (c 
       f.version o (λ e. apart_followed (sym e))
       ∙ at_inserted name_order S.versions o the_new
 
-  follows_own : (x : Version) → get S.versions f.version ≡ Some x → (y : Version) (k : Follow) → get opened f.version ≡ Some y
+  follows_own : (x : Version) → get S.versions f.version ≡ Some x → (y : Version) (k : Follow)
+      → get opened f.version ≡ Some y
       → y.successor ≡ Some k → k.version ≡ o
   follows_own x e y k at next =
       let is = one_value opened f.version y _ at (at_followed x e) in
@@ -183,7 +185,8 @@ module _ (ts : List Task) (S : State) (chains : HasChains ts S) (o : OpName) (c 
           nothing : get (put_version S.versions o the_new) f.version ≡ None
           nothing = beside_inserted name_order S.versions o the_new f.version apart_followed ∙ e
 
-          gone : (x : Option Version) → get (put_version S.versions o the_new) f.version ≡ x → get opened f.version ≡ None
+          gone : (x : Option Version) → get (put_version S.versions o the_new) f.version ≡ x
+              → get opened f.version ≡ None
           gone x at =
               ap (λ y. get (version_changed (put_version S.versions o the_new) f.version
               (λ p. record p { successor = Some (record f { version = o }) }) y) f.version) nothing
@@ -209,5 +212,6 @@ module _ (ts : List Task) (S : State) (chains : HasChains ts S) (o : OpName) (c 
 pub opens_waiting : (ts : List Task) (S : State) → HasChains ts S → (o : OpName) → OpensForWaiting S o
 opens_waiting ts S chains o c there q apart t = elim (open_tells S.versions o c q t) [
   | inl own ↦ absurd (apart own.0)
-  | inr h ↦ absurd (apart (settle_tells_own ts S chains o c there h.0 h.1 (suc (len (followed S.versions o c h.0))) q h.2))
+  | inr h ↦ absurd (apart
+      (settle_tells_own ts S chains o c there h.0 h.1 (suc (len (followed S.versions o c h.0))) q h.2))
 ]

@@ -49,7 +49,8 @@ holding_gone T O C w l k silent none = record {
     never e = absent l.ahead (sym (phase_silent l silent ∙ ap (λ k. station_phase k l.ahead) none) ∙ e)
 
 -- one of a task that may leave holds what it holds with its record there
-pub holding_remaining : (T : Source → Type 0) (O C : Type 0) (w : Bool) (flight : Numbered Flying) (task : ℕ) (y : Flying)
+pub holding_remaining : (T : Source → Type 0) (O C : Type 0) (w : Bool) (flight : Numbered Flying) (task : ℕ)
+    (y : Flying)
     (q : OpName) (l : LookUps) (k : Option OpName) → q.task ≡ task
     → IsOrderly (record l { station = slice_get y.operands q.place })
     → Holding T O C w (record l { station = slice_get y.operands q.place }) k

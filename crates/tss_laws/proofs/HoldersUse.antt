@@ -4,7 +4,6 @@ use Rattle.std.proofs.Common.{◌≡◌, ◌≢◌, ◌⊎◌, Bool, true, false
 use Rattle.std.specs.FinMap.{get}
 use Rattle.std.proofs.lemmas.Option.{same_Some}
 use Rattle.tss_base.specs.declared.operand.OpName.{OpName}
-use Rattle.tss_base.specs.declared.operand.Mode.{Mode}
 use Rattle.tss_base.specs.declared.operand.Operand.{Operand}
 use Rattle.tss_base.specs.declared.machine.Machine.{Machine}
 use Rattle.tss_base.specs.declared.event.Event.TheVariants as event
@@ -16,34 +15,13 @@ use Rattle.tss_protocol.specs.Mail.{Source, StorageName, Message, posted_all}
 use Rattle.tss_protocol.specs.State.{State, Version}
 use Rattle.tss_protocol.specs.Versions.{Versioned, put_version, enlisted, ready_with, used_alone, used_behind, used_at, after_use}
 use Rattle.tss_protocol.specs.UnitMachine.{after_event, without, use_message_taken}
-use Rattle.tss_phases.specs.Phase.{Phase, look_ups}
-use Rattle.tss_phases.specs.Openers.{open_opener, opener_by, version_opener}
+use Rattle.tss_phases.specs.Phase.{look_ups}
 use Rattle.tss_phases.proofs.Received.{own_name, received_all}
 use Rattle.tss_phases.proofs.UseEvent.{look_ups-use-own}
+use Rattle.tss_laws.proofs.HoldersSettled.{HeldAlike}
 use Rattle.tss_laws.specs.Readers.{Arrivals, Has, set_arrivals}
 use Rattle.tss_laws.specs.Holders.{IsTrue, IsOwnOrRead}
 use Rattle.tss_laws.proofs.ReadersCome.{at_set, beside_set}
-
--- ---- a version that is alike for its holders
-
--- it has the same object and storage, and is produced where the other is
-pub record IsHeldAlike (x z : Version) : Type 0 where
-  pub object : z.object ≡ x.object
-  pub storage : z.storage ≡ x.storage
-  pub produced : z.produced ≡ x.produced
-
--- its opener may be in the same phases
-pub same_opener : (x z : Version) (mode : Mode) (p : Phase) → IsHeldAlike x z
-    → version_opener z mode p ≡ version_opener x mode p
-same_opener x z mode p h = by x.produced refl
-  where
-    by : (b : Bool) → x.produced ≡ b → version_opener z mode p ≡ version_opener x mode p
-    by true e =
-        ap (opener_by z mode p) (h.produced ∙ e) ∙ sym (ap (opener_by x mode p) e)
-    by false e =
-        ap (opener_by z mode p) (h.produced ∙ e)
-        ∙ ap (λ s. open_opener s p) h.storage
-        ∙ sym (ap (opener_by x mode p) e)
 
 -- ---- what a use leaves
 
@@ -51,7 +29,7 @@ same_opener x z mode p h = by x.produced refl
 pub record UsedBy (S T : State) (o v : OpName) (x : Version) : Type 0 where
   pub version : Version
   pub put : T.versions ≡ put_version S.versions v version
-  pub like : IsHeldAlike x version
+  pub like : HeldAlike x version
   pub links : ((q : OpName) → get T.mail.links q ≡ get S.mail.links q)
       ⊎ ((last : OpName) × (x.tail ≡ Some last) × (get T.mail.links last ≡ Some o)
       × ((q : OpName) → q ≢ last → get T.mail.links q ≡ get S.mail.links q))
@@ -172,13 +150,13 @@ module _ (g : Arrivals) (S T : State) (o v : OpName) (x : Version) (at : get S.v
 
   -- the version under each name is alike
   pub alike_used : (w : OpName) (y : Version) → get S.versions w ≡ Some y
-      → (z : Version) × (get T.versions w ≡ Some z) × IsHeldAlike y z
+      → (z : Version) × (get T.versions w ≡ Some z) × HeldAlike y z
   alike_used w y e = elim (decide_key name_order w v) [
     | inl same ↦ (
       u.version,
       ap (λ vs. get vs w) u.put ∙ ap (get (put_version S.versions v u.version)) same
           ∙ at_inserted name_order S.versions v u.version,
-      subst (λ y. IsHeldAlike y u.version) (same_Some x y (sym at ∙ ap (get S.versions) (sym same) ∙ e)) u.like,
+      subst (λ y. HeldAlike y u.version) (same_Some x y (sym at ∙ ap (get S.versions) (sym same) ∙ e)) u.like,
     )
     | inr apart ↦ (
       y,

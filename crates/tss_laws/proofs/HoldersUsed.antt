@@ -37,7 +37,8 @@ use Rattle.tss_laws.proofs.ReadersUse.{sent_link}
 use Rattle.tss_laws.proofs.HoldersFits.{Holding, LinksFit, HoldsIn, HasOpened, HasCome, holding_of, holding_mapped, holders_by}
 use Rattle.tss_laws.proofs.HoldersMoves.{holding_fresh, links_none}
 use Rattle.tss_laws.proofs.HoldersLeaves.{may_be_linked, holding_linking}
-use Rattle.tss_laws.proofs.HoldersUse.{same_opener, UsedBy, used_facts, has_more, alike_used, true_used}
+use Rattle.tss_laws.proofs.HoldersSent.{same_opener}
+use Rattle.tss_laws.proofs.HoldersUse.{UsedBy, used_facts, has_more, alike_used, true_used}
 use Rattle.tss_laws.proofs.HoldersKeepsOrder.{AreOrderly-controlled}
 use Rattle.tss_laws.proofs.HoldersRunnerEvents.{HasRunners-after_event}
 
@@ -123,7 +124,8 @@ module _ (m : Machine) (all ts : List Task) (g : Arrivals) (S : State) (ground :
   holds_used q p l k e f was =
       subst (λ k. Holding (IsTrue New T q p) (HasOpened T q) (HasCome New T q) (writes p.mode) (look_ups T q) k) (sym f)
       (subst (λ l. Holding (IsTrue New T q p) (HasOpened T q) (HasCome New T q) (writes p.mode) l k) (sym e)
-      (holding_mapped (IsTrue g S q p) (IsTrue New T q p) (HasOpened S q) (HasOpened T q) (HasCome g S q) (HasCome New T q)
+      (holding_mapped (IsTrue g S q p) (IsTrue New T q p) (HasOpened S q) (HasOpened T q) (HasCome g S q)
+      (HasCome New T q)
       (writes p.mode) l k (subst IsOrderly e (after q)) (λ s needs. true_used g S T o v x at u q p s)
       (λ w i y. let z = alike_used g S T o v x at u q y.0 y.1 in (z.0, z.1, z.2.storage ∙ y.2))
       (λ w i y.
@@ -151,7 +153,8 @@ module _ (m : Machine) (all ts : List Task) (g : Arrivals) (S : State) (ground :
     apart_last last tail same =
         let arr = h.readers.versions v x at in
         let t = tail_some S (g v) last (sym arr.tail ∙ tail) in
-        true≢false (sym (arr.each last t.2).arrived ∙ ap (λ a. has_arrived (phase_of S a)) same ∙ ap has_arrived was_sent)
+        true≢false (sym (arr.each last t.2).arrived ∙ ap (λ a. has_arrived (phase_of S a)) same
+        ∙ ap has_arrived was_sent)
 
     no_link_now : get T.mail.links o ≡ None
     no_link_now = elim u.links [
@@ -274,7 +277,8 @@ module _ (m : Machine) (all ts : List Task) (g : Arrivals) (S : State) (ground :
         let mode = ap (λ (p : Operand). p.mode) (same_Some p onto.operand (sym e ∙ onto.there)) ∙ onto.is_mode in
         holds_used last p (look_ups S last) (Some o) (other_looked last last_apart) linked
         (holding_linking (IsTrue g S last p) (HasOpened S last) (HasCome g S last) (writes p.mode) (look_ups S last)
-        (get S.mail.links last) (holding_of ts g S h.holders last p e) o last_unlinked (ap writes mode) (h.orderly last) a.0
+        (get S.mail.links last) (holding_of ts g S h.holders last p e) o last_unlinked (ap writes mode)
+        (h.orderly last) a.0
         a.1 (is_newest.record_link a.0 a.1) may)
 
   -- ---- all
@@ -282,7 +286,8 @@ module _ (m : Machine) (all ts : List Task) (g : Arrivals) (S : State) (ground :
   same_holds : (q : OpName) → q ≢ o → get T.mail.links q ≡ get S.mail.links q → (p : Operand)
       → operand_among ts q ≡ Some p → HoldsIn New T q p
   same_holds q apart links p e =
-      holds_used q p (look_ups S q) (get S.mail.links q) (other_looked q apart) links (holding_of ts g S h.holders q p e)
+      holds_used q p (look_ups S q) (get S.mail.links q) (other_looked q apart) links
+      (holding_of ts g S h.holders q p e)
 
   each_holds : (q : OpName) (p : Operand) → operand_among ts q ≡ Some p → HoldsIn New T q p
   each_holds q p e = elim (decide_key name_order q o) [

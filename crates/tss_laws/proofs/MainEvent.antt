@@ -27,6 +27,8 @@ use Rattle.tss_laws.proofs.FlatCalls.{main_call-same}
 use Rattle.tss_laws.proofs.FlatTask.{task_end-changes, unwritten_beside}
 use Rattle.tss_laws.proofs.FlatOrder.{flat_stepped-ranges, steps_taken-on, Reaches, main_stretch-reaches, flat_stepped-next, trapped_after}
 use Rattle.tss_laws.proofs.FlatSpawn.{Rises, main_call-step, main_call-rises, main_call-spawn, may_load_unnamed, IsSpawn}
+use Rattle.tss_laws.proofs.FlatEpoch.{call_ran-epoch}
+use Rattle.tss_laws.proofs.FlatNumbers.{call_ran-spawned}
 use Rattle.tss_laws.proofs.FlatEnds.{in_order-trap, in_order-tasks, in_order-output}
 use Rattle.tss_laws.proofs.FlatPieces.{NoneAfter, pieces_below, pieces_below-all, pieces_below-rises, NoneAfter-rises}
 use Rattle.tss_laws.proofs.MainFollows.{followed_by}
@@ -92,15 +94,26 @@ module _ (m : Machine) (i : ImageState) (S : State) (ground : HasGround i S) (on
   -- ---- a stretch
 
   module _ (none : call_next m S ≡ None) where
-    after_stretch : FollowsAfter m i S (with_flat S (main_stretch (frozen i) m.limits m.sizes.quantum (flat_of S)))
+    -- the stretch of main as the code of the image has it
+    abbrev stretch : Flat
+    stretch = main_stretch (frozen i) m.limits m.sizes.quantum (flat_of S)
+
+    stretch_there : flat_beside i m.limits stretch.main ≡ main_stretch (frozen i) m.limits m.sizes.quantum beside
+    stretch_there =
+        reaches_beside (main_stretch (frozen i) m.limits m.sizes.quantum beside) stretch.main
+        (main_stretch-together (frozen i) m.limits m.sizes.quantum (flat_of S) beside alike).main
+        (main_stretch-reaches (frozen i) m.limits m.sizes.quantum beside)
+
+    stretch_main : stretch.main ≡ (flat_beside i m.limits stretch.main).main
+    stretch_main =
+        (main_stretch-together (frozen i) m.limits m.sizes.quantum (flat_of S) beside alike).main
+        ∙ ap (λ (f : Flat). f.main) (sym stretch_there)
+
+    after_stretch : FollowsAfter m i S (with_flat S stretch)
     after_stretch =
         let step = main_stretch-together (frozen i) m.limits m.sizes.quantum (flat_of S) beside alike in
-        let there = reaches_beside (main_stretch (frozen i) m.limits m.sizes.quantum beside)
-        (main_stretch (frozen i) m.limits m.sizes.quantum (flat_of S)).main step.main
-        (main_stretch-reaches (frozen i) m.limits m.sizes.quantum beside) in
-        agrees_none (with_flat S (main_stretch (frozen i) m.limits m.sizes.quantum (flat_of S))) (start_by None none)
-        (λ a same. step.bytes a same ∙ ap (λ (f : Flat). get f.memory.bytes a) (sym there))
-        (step.main ∙ ap (λ (f : Flat). f.main) (sym there)) refl
+        agrees_none (with_flat S stretch) (start_by None none)
+        (λ a same. step.bytes a same ∙ ap (λ (f : Flat). get f.memory.bytes a) (sym stretch_there)) stretch_main refl
 
     follows_stretch : FollowsAfter m i S (main_by m S None)
     follows_stretch =
@@ -223,6 +236,42 @@ module _ (m : Machine) (i : ImageState) (S : State) (ground : HasGround i S) (on
       by : (c : Option Call) → call_next m S ≡ c → FollowsAfter m i S (main_by m S c)
       by None e = follows_stretch e
       by (Some call) e = follows_call call e
+
+  -- ---- the epoch
+
+  -- program order has the epoch of main beside it, and as many tasks
+  abbrev pub HasEpochBeside : MainState → Type 0
+  HasEpochBeside s =
+      ((flat_beside i m.limits s).main.epoch ≡ s.epoch) × ((flat_beside i m.limits s).main.spawned ≡ s.spawned)
+
+  -- it does so after main's event, also where the task that main spawns has trapped
+  pub epoch_beside : HasEpochBeside (after_event m S event.Main).main
+  unfolding after_event
+  epoch_beside = by (call_next m S) refl
+    where
+      called : (call : Call) → call_next m S ≡ Some call → (p : MainState × Option Task)
+          → main_call m.limits S.home S.main call ≡ p → HasEpochBeside p.0
+      called call next (main, spawned) e =
+          let f = there call next main spawned e in (
+            ap (λ (f : Flat). f.main.epoch) f
+            ∙ call_ran-epoch (frozen i) m.limits beside.memory (main, spawned),
+            ap (λ (f : Flat). f.main.spawned) f
+            ∙ call_ran-spawned (frozen i) m.limits beside.memory (main, spawned),
+          )
+
+      after : (p : MainState × Option Task) → HasEpochBeside p.0 → HasEpochBeside (after_call S p).main
+      after (main, None) has = has
+      after (main, Some t) has = has
+
+      by : (c : Option Call) → call_next m S ≡ c → HasEpochBeside (main_by m S c).main
+      by None e =
+          subst (λ (code : List SegmentState).
+          HasEpochBeside (main_stretch code m.limits m.sizes.quantum (flat_of S)).main) (sym ground.code)
+          (ap (λ (s : MainState). s.epoch) (sym (stretch_main e)),
+          ap (λ (s : MainState). s.spawned) (sym (stretch_main e)))
+      by (Some call) e =
+          after (main_call m.limits S.home S.main call)
+          (called call e (main_call m.limits S.home S.main call) refl)
 
 -- ---- without any premise
 

@@ -1,17 +1,16 @@
 -- How many there are of names that pass a test: at most one under each name, so at most one for each place of each task
 -- in flight.
-use Rattle.std.proofs.Common.{◌≡◌, ◌≢◌, ℕ, zero, suc, ◌+◌, ◌*◌, ◌<◌, ◌≤◌, ◌⊎◌, inl, inr, Bool, true, false, Option, Some, None, refl, sym, ap, ◌∙◌, arith, true≢false}
+use Rattle.std.proofs.Common.{◌≡◌, ◌≢◌, ℕ, zero, suc, ◌+◌, ◌*◌, ◌≤◌, ◌⊎◌, inl, inr, Bool, true, false, Option, Some, refl, sym, ap, ◌∙◌, arith, true≢false}
 use Rattle.std.specs.Prelude.{◌==◌, ◌&&◌, nat_lt, is_some}
-use Rattle.std.specs.declared.cmp.Ordering.{Ordering}
 use Rattle.std.specs.Ordering.{nat_cmp}
-use Rattle.std.specs.FinMap.{FinMap, empty, get, insert, remove, len, get-empty}
+use Rattle.std.specs.FinMap.{empty, get, insert, remove, len, get-empty}
 use Rattle.std.proofs.lemmas.Bool.{and_parts}
 use Rattle.std.proofs.lemmas.Bool.Decides.{nat_tests}
 use Rattle.std.proofs.lemmas.Option.{none-some}
 use Rattle.tss_base.specs.declared.operand.OpName.{OpName}
-use Rattle.tss_base.specs.Names.{Named, Numbered, name_cmp}
-use Rattle.tss_maps.specs.Sums.{one_if, sum_of, count_of}
-use Rattle.tss_maps.proofs.Keys.{IsKeyOrder, nat_order, name_order, decide_key}
+use Rattle.tss_base.specs.Names.{Named, Numbered}
+use Rattle.tss_maps.specs.Sums.{one_if, count_of}
+use Rattle.tss_maps.proofs.Keys.{nat_order, name_order, decide_key}
 use Rattle.tss_maps.proofs.Changes.{decide_get, beside_inserted, from_removed}
 use Rattle.tss_maps.proofs.Entries.{map_induction, len_added}
 use Rattle.tss_maps.proofs.Sums.{sum_at_most, sum_both, sum_removed, sum_none, count_none, count_all}
@@ -100,10 +99,6 @@ in_task task places o = (o.task == task) && nat_lt o.place places
 abbrev pub in_tasks : {X : Type 0} → Numbered X → ℕ → NameTest
 in_tasks tasks places o = is_some (get tasks o.task) && nat_lt o.place places
 
--- those under which something stands
-abbrev pub is_under : {X : Type 0} → Named X → NameTest
-is_under m o = is_some (get m o)
-
 no_place : (b : Bool) (n : ℕ) → (b && nat_lt n 0) ≡ false
 no_place true n = grind (arith, nat_tests)
 no_place false n = refl
@@ -158,7 +153,8 @@ module _ (many : NameTest → ℕ) (f : IsMeasure many) (few : (k : OpName) → 
       omega (arith, step, one, rest)
 
   -- and of several tasks no more than that for each
-  pub few_in_tasks : {X : Type 0} → (places : ℕ) (tasks : Numbered X) → many (in_tasks tasks places) ≤ len tasks * places
+  pub few_in_tasks : {X : Type 0} → (places : ℕ) (tasks : Numbered X)
+      → many (in_tasks tasks places) ≤ len tasks * places
   few_in_tasks {X} places =
       map_induction nat_order (λ tasks. many (in_tasks tasks places) ≤ len tasks * places)
       (let z = f.none (in_tasks (empty {X = X} {R = nat_cmp}) places)
@@ -169,51 +165,3 @@ module _ (many : NameTest → ℕ) (f : IsMeasure many) (few : (k : OpName) → 
       let one = few_in_task k places in
       let more = ap (λ n. n * places) (len_added nat_order tasks k v new) in
       omega (arith, step, one, before, more))
-
-  -- under the names of a map no more than its entries
-  pub few_under : {X : Type 0} → (names : Named X) → many (is_under names) ≤ len names
-  few_under {X} =
-      map_induction name_order (λ names. many (is_under names) ≤ len names)
-      (let z = f.none (is_under (empty {X = X} {R = name_cmp}))
-      (λ o. ap (λ (x : Option X). is_some x) (get-empty name_cmp o)) in omega (arith, z))
-      (λ names k v new before.
-      let step = f.either (is_under (insert names k v)) (is_under names) (λ o. same_name o k)
-      (λ o e. elim (decide_key name_order o k) [
-        | inl same ↦ inr (ap (λ q. same_name q k) same ∙ own_name k)
-        | inr other ↦ inl (ap is_some (sym (beside_inserted name_order names k v o other)) ∙ e)
-      ]) in
-      let one = few k in
-      let more = len_added name_order names k v new in
-      omega (arith, step, one, before, more))
-
--- ---- parts of a map
-
-module _ {K X : Type 0} {R : K → K → Ordering} (order : IsKeyOrder R) (part : K → X → ℕ) (most : ℕ) (m : FinMap R X) where
-  -- where no part has more than most, the first parts have no more than their number of times that
-  few_in_parts : (parts : ℕ) → ((j : ℕ) → j < parts → count_of (λ k x. part k x == j) m ≤ most)
-      → count_of (λ k x. nat_lt (part k x) parts) m ≤ parts * most
-  few_in_parts zero each = let z = count_none order (λ k x. nat_lt (part k x) 0) m (λ k x e. no_place true (part k x)) in
-      omega (arith, z)
-  few_in_parts (suc parts) each =
-      let step =
-      sum_at_most order (λ k x. one_if (nat_lt (part k x) (suc parts)))
-      (λ k x. one_if (nat_lt (part k x) parts) + one_if (part k x == parts)) m
-      (λ k x e. one_if_either _ _ _ (last_part (part k x) parts)) in
-      let both = sum_both order (λ k x. one_if (nat_lt (part k x) parts)) (λ k x. one_if (part k x == parts)) m in
-      let one = each parts (omega arith) in
-      let rest = few_in_parts parts (λ j before. each j (omega (arith, before))) in
-      omega (arith, step, both, one, rest)
-    where
-      last_part : (n parts : ℕ) → nat_lt n (suc parts) ≡ true → (nat_lt n parts ≡ true) ⊎ ((n == parts) ≡ true)
-      last_part n parts e = grind (arith, nat_tests)
-
-  -- so a map of such parts has as many
-  pub len_in_parts : (parts : ℕ) → ((j : ℕ) → j < parts → count_of (λ k x. part k x == j) m ≤ most)
-      → ((k : K) (x : X) → get m k ≡ Some x → part k x < parts) → len m ≤ parts * most
-  len_in_parts parts each below =
-      let all = count_all order (λ k x. nat_lt (part k x) parts) m (λ k x e. is_below (part k x) parts (below k x e)) in
-      let few = few_in_parts parts each in
-      omega (arith, all, few)
-    where
-      is_below : (n k : ℕ) → n < k → nat_lt n k ≡ true
-      is_below n k e = grind (arith, nat_tests, e)

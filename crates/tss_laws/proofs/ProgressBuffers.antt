@@ -25,16 +25,16 @@ use Rattle.tss_protocol.specs.UnitMachine.{IsEnabled, is_enabled, after_event, w
 use Rattle.tss_laws.specs.Readers.{Arrivals}
 use Rattle.tss_laws.specs.Control.{HasGroundwork, IsControlled}
 use Rattle.tss_laws.proofs.PlainLemmas.{name_apart, none_from_test}
-use Rattle.tss_laws.proofs.ProgressDrained.{HasBuffers}
+use Rattle.tss_laws.proofs.ProgressDrained.{HaveHolders}
 use Rattle.tss_laws.proofs.ProgressHolders.{Holder, Held, same_buffer, no_home}
 use Rattle.tss_laws.proofs.ProgressTableBuffers.{buffers_main, buffers_take, buffers_ready, buffers_link, buffers_bye, buffers_start, buffers_exec, buffers_finish, buffers_idle, buffers_decode}
 use Rattle.tss_laws.proofs.ProgressVersionBuffers.{buffers_open, buffers_use, buffers_release, nacked_holder}
 
 module _ (m : Machine) (all ts : List Task) (g : Arrivals) (S : State) (ground : HasGroundwork m all ts S)
-    (control : IsControlled ts g S) (h : HasBuffers S) where
+    (control : IsControlled ts g S) (h : HaveHolders S) where
   -- of a state
   abbrev Keeps : State → Type 0
-  Keeps T = HasBuffers T
+  Keeps T = HaveHolders T
 
   no_gone : (v : OpName) (x : Version) → get S.versions v ≡ Some x → get S.mail.gones v ≡ None
   no_gone v x e = (ground.places.versions v x e).2
@@ -174,30 +174,31 @@ module _ (m : Machine) (all ts : List Task) (g : Arrivals) (S : State) (ground :
   -- ---- all events
 
   -- every event keeps it
-  pub HasBuffers-after_event : (e : Event) → IsEnabled m S e → HasBuffers (after_event m S e)
+  pub HaveHolders-after_event : (e : Event) → IsEnabled m S e → HaveHolders (after_event m S e)
   unfolding is_enabled after_event
-  HasBuffers-after_event event.Main on = buffers_main m all ts g S ground control h (call_next m S)
-  HasBuffers-after_event event.Take on = buffers_take m all ts g S ground control h S.inbox
-  HasBuffers-after_event (event.Decode o) on = buffers_decode m all ts g S ground control h o (get S.mail.decodes o) refl
-  HasBuffers-after_event (event.Ack o) on = h
-  HasBuffers-after_event (event.Open o) on = buffers_open m all ts g S ground control h o (get S.mail.opens o) refl on
-  HasBuffers-after_event (event.Use o) on = buffers_use m all ts g S ground control h o (get S.mail.uses o)
-  HasBuffers-after_event (event.Ready o) on = buffers_ready m all ts g S ground control h o (get S.mail.readies o)
-  HasBuffers-after_event (event.Link o) on = buffers_link m all ts g S ground control h o (get S.mail.links o)
-  HasBuffers-after_event (event.Start w) on = buffers_start m all ts g S ground control h w S.queue
-  HasBuffers-after_event (event.Exec w) on = buffers_exec m all ts g S ground control h w (get S.workers w)
-  HasBuffers-after_event (event.Finish w) on = buffers_finish m all ts g S ground control h w (get S.workers w)
-  HasBuffers-after_event (event.Release o) on = buffers_release m all ts g S ground control h o (get S.mail.releases o)
-  HasBuffers-after_event (event.Bye o) on = buffers_bye m all ts g S ground control h o (get S.mail.byes o)
-  HasBuffers-after_event (event.Idle v) on = buffers_idle m all ts g S ground control h v (get S.mail.idles v)
-  HasBuffers-after_event (event.Nack v) on =
+  HaveHolders-after_event event.Main on = buffers_main m all ts g S ground control h (call_next m S)
+  HaveHolders-after_event event.Take on = buffers_take m all ts g S ground control h S.inbox
+  HaveHolders-after_event (event.Decode o) on =
+      buffers_decode m all ts g S ground control h o (get S.mail.decodes o) refl
+  HaveHolders-after_event (event.Ack o) on = h
+  HaveHolders-after_event (event.Open o) on = buffers_open m all ts g S ground control h o (get S.mail.opens o) refl on
+  HaveHolders-after_event (event.Use o) on = buffers_use m all ts g S ground control h o (get S.mail.uses o)
+  HaveHolders-after_event (event.Ready o) on = buffers_ready m all ts g S ground control h o (get S.mail.readies o)
+  HaveHolders-after_event (event.Link o) on = buffers_link m all ts g S ground control h o (get S.mail.links o)
+  HaveHolders-after_event (event.Start w) on = buffers_start m all ts g S ground control h w S.queue
+  HaveHolders-after_event (event.Exec w) on = buffers_exec m all ts g S ground control h w (get S.workers w)
+  HaveHolders-after_event (event.Finish w) on = buffers_finish m all ts g S ground control h w (get S.workers w)
+  HaveHolders-after_event (event.Release o) on = buffers_release m all ts g S ground control h o (get S.mail.releases o)
+  HaveHolders-after_event (event.Bye o) on = buffers_bye m all ts g S ground control h o (get S.mail.byes o)
+  HaveHolders-after_event (event.Idle v) on = buffers_idle m all ts g S ground control h v (get S.mail.idles v)
+  HaveHolders-after_event (event.Nack v) on =
       λ n bank e. nacked_holder m all ts g S ground control h v (get S.versions v) refl n (h n bank e)
-  HasBuffers-after_event (event.Retire v) on =
+  HaveHolders-after_event (event.Retire v) on =
       let both = and_parts (is_some (get S.mail.retires v)) (can_retire m S (get S.versions v)) on in
       buffers_retire v (get S.versions v) refl both.1
-  HasBuffers-after_event (event.Copy b) on = buffers_copy b (get S.copies b) refl
-  HasBuffers-after_event (event.Gone v) on = buffers_gone v (get S.mail.gones v) refl on
+  HaveHolders-after_event (event.Copy b) on = buffers_copy b (get S.copies b) refl
+  HaveHolders-after_event (event.Gone v) on = buffers_gone v (get S.mail.gones v) refl on
 
 -- the first state holds none
-pub HasBuffers-initial_state : (i : ImageState) → HasBuffers (initial_state i)
-HasBuffers-initial_state i n bank e = absurd (none-some bank (sym (get-empty name_cmp n) ∙ e))
+pub HaveHolders-initial_state : (i : ImageState) → HaveHolders (initial_state i)
+HaveHolders-initial_state i n bank e = absurd (none-some bank (sym (get-empty name_cmp n) ∙ e))

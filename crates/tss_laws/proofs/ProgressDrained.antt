@@ -1,10 +1,9 @@
 -- A quiet state without a task in flight: nothing is in any table, and where no event is enabled the state is finished.
--- With one, its oldest task has a decode that may happen. So a state in which no event is enabled is finished.
-use Rattle.std.proofs.Common.{◌≡◌, ℕ, ◌≤◌, ◌⊎◌, Bool, true, false, List, length, Option, Some, None, refl, sym, ap, ◌∙◌, inl, inr, arith, true≢false}
+use Rattle.std.proofs.Common.{◌≡◌, ℕ, ◌⊎◌, Bool, true, false, List, length, Option, Some, None, refl, sym, ap, ◌∙◌, inl, inr, arith, true≢false}
 use Rattle.std.specs.Prelude.{◌==◌, ◌&&◌, ◌||◌, not, is_none, is_some}
 use Rattle.std.specs.declared.cmp.Ordering.{Ordering}
 use Rattle.std.specs.FinMap.{FinMap, get, len}
-use Rattle.std.proofs.lemmas.Bool.{and_from, or_parts, lt-ltb, cases_eq}
+use Rattle.std.proofs.lemmas.Bool.{and_from, or_parts, lt-ltb}
 use Rattle.std.proofs.lemmas.Bool.Decides.{nat_tests}
 use Rattle.std.proofs.lemmas.Option.{none-some}
 use Rattle.tss_base.specs.declared.range.Range.{Range}
@@ -13,41 +12,33 @@ use Rattle.tss_base.specs.declared.operand.Operand.{Operand}
 use Rattle.tss_base.specs.declared.operand.Task.{Task}
 use Rattle.tss_base.specs.declared.machine.Machine.{Machine}
 use Rattle.tss_base.specs.declared.machine.Key.TheVariants.{Slots}
-use Rattle.tss_base.specs.declared.event.Event.{Event}
 use Rattle.tss_base.specs.declared.event.Event.TheVariants as event
 use Rattle.tss_base.specs.declared.event.Follow.{Follow}
-use Rattle.tss_base.specs.declared.event.Farewell.{Farewell}
-use Rattle.tss_base.specs.declared.event.Farewell.TheVariants as farewell
 use Rattle.tss_base.specs.Machine.{IsAdmissible}
-use Rattle.tss_maps.specs.Ordered.{least}
-use Rattle.tss_maps.proofs.Keys.{IsKeyOrder, nat_order, name_order, below_from_less}
-use Rattle.tss_maps.proofs.Entries.{absent_empty, some_entry}
+use Rattle.tss_maps.proofs.Keys.{IsKeyOrder, nat_order, name_order}
+use Rattle.tss_maps.proofs.Entries.{some_entry}
 use Rattle.tss_maps.proofs.Sums.{count_none}
-use Rattle.tss_maps.proofs.OrderedLemmas.{IsLeast, least_some, least_none}
 use Rattle.tss_model.specs.MainStep.{Call, ExitCall, Spawn, Barrier, Print, Unknown}
-use Rattle.tss_protocol.specs.Names.{operand_name, station_of}
-use Rattle.tss_protocol.specs.Mail.{Buffer, Source, OpenContents, GoneContents, message_count}
-use Rattle.tss_protocol.specs.State.{State, OperandState, Flying, Entry, Version, CopyState}
+use Rattle.tss_protocol.specs.Names.{station_of}
+use Rattle.tss_protocol.specs.Mail.{Buffer, OpenContents, GoneContents, message_count}
+use Rattle.tss_protocol.specs.State.{State, Entry, Version, CopyState}
 use Rattle.tss_protocol.specs.Stations.{operand_at, tasks_in, has_slot}
 use Rattle.tss_protocol.specs.Gateway.{is_idle}
 use Rattle.tss_protocol.specs.MainEvent.{has_no_task, has_no_object, is_drained, call_next, may_call}
 use Rattle.tss_protocol.specs.Result.{is_finished}
-use Rattle.tss_protocol.specs.UnitMachine.{is_enabled, IsEnabled, can_take}
+use Rattle.tss_protocol.specs.UnitMachine.{is_enabled, can_take}
 use Rattle.tss_locality.proofs.Flights.{record_in}
-use Rattle.tss_phases.specs.Phase.{Decoding, Left, record_phase, station_phase, is_ahead, look_ups, phase_of, is_decoded}
-use Rattle.tss_phases.proofs.PhaseLemmas.{phase_silent}
-use Rattle.tss_phases.proofs.Shown.{is_still}
+use Rattle.tss_phases.specs.Phase.{Left, is_ahead, look_ups, phase_of, is_decoded}
 use Rattle.tss_phases.proofs.OrderlyLemmas.{decoding_stands, ahead_by_test, left_by_absence}
 use Rattle.tss_laws.specs.Readers.{Arrivals}
 use Rattle.tss_laws.specs.Control.{HasGroundwork, IsControlled}
 use Rattle.tss_laws.proofs.EntriesNames.{name_decoded}
-use Rattle.tss_laws.proofs.ProgressChoice.{IsStuck, enabled_or_stuck}
-use Rattle.tss_laws.proofs.ProgressStuck.{IsQuiet, quiet_when_stuck}
+use Rattle.tss_laws.proofs.ProgressChoice.{IsStuck}
+use Rattle.tss_laws.proofs.ProgressStuck.{IsQuiet}
 use Rattle.tss_laws.proofs.ProgressVersions.{AllLeft, none_behind, none_alone, nothing_retires, latest_version}
-use Rattle.tss_laws.proofs.ProgressPhases.{HasLetGo}
-use Rattle.tss_laws.proofs.ProgressOldest.{produced_when_left, some_decoding}
+use Rattle.tss_laws.proofs.ProgressOldest.{produced_when_left}
 use Rattle.tss_laws.proofs.ProgressBanks.{arrived_decoded}
-use Rattle.tss_laws.proofs.ProgressRoom.{entry_of_version, version_of_place, decode_enabled}
+use Rattle.tss_laws.proofs.ProgressRoom.{entry_of_version, version_of_place}
 
 -- ---- buffers
 
@@ -60,8 +51,8 @@ HoldsBuffer S n =
     ⊎ ((b : ℕ) × (c : CopyState) × (get S.copies b ≡ Some c) × (c.buffer ≡ n))))
 
 -- each held buffer is
-abbrev pub HasBuffers : State → Type 0
-HasBuffers S = (n : OpName) (bank : ℕ) → get S.buffers n ≡ Some bank → HoldsBuffer S n
+abbrev pub HaveHolders : State → Type 0
+HaveHolders S = (n : OpName) (bank : ℕ) → get S.buffers n ≡ Some bank → HoldsBuffer S n
 
 -- ---- plain facts
 
@@ -76,37 +67,8 @@ empty_if order m none = elim (some_entry order m) [
   | inr some ↦ absurd (none some.0 some.1 some.2)
 ]
 
-still_record : (f : Farewell) (s : Option Source) → is_still (record_phase f s) ≡ true
-still_record farewell.Nothing None = refl
-still_record farewell.Nothing (Some s) = refl
-still_record farewell.Promised s = refl
-still_record farewell.Left s = refl
-
-still_station : (r : Option OperandState) (ahead : Bool) → is_still (station_phase r ahead) ≡ true
-still_station None true = refl
-still_station None false = refl
-still_station (Some r) ahead = still_record r.farewell r.source
-
 module _ (m : Machine) (all ts : List Task) (g : Arrivals) (S : State) (ground : HasGroundwork m all ts S)
     (control : IsControlled ts g S) (quiet : IsQuiet S) where
-  -- an operand that is to be decoded has its decode under way
-  decode_there : (o : OpName) → phase_of S o ≡ Decoding → (p : Operand) × (get S.mail.decodes o ≡ Some p)
-  decode_there o decoding = by (get S.mail.decodes o) refl
-    where
-      by : (d : Option Operand) → get S.mail.decodes o ≡ d → (p : Operand) × (get S.mail.decodes o ≡ Some p)
-      by (Some p) e = (p, e)
-      by None e =
-          let silent = phase_silent (look_ups S o) (record {
-            decoding = e;
-            opening = quiet.opens o;
-            using = quiet.uses o;
-            telling = quiet.readies o;
-            releasing = quiet.releases o;
-            leaving = quiet.byes o;
-          }) in
-          absurd (true≢false (sym (still_station (operand_at S.flight o) (is_ahead S o.task))
-          ∙ ap is_still (sym silent ∙ decoding)))
-
   -- ---- no task in flight
 
   module _ (none : (n : ℕ) → get S.flight n ≡ None) where
@@ -180,7 +142,7 @@ module _ (m : Machine) (all ts : List Task) (g : Arrivals) (S : State) (ground :
         let y = version_of_place m all ts g S ground control quiet v bank at in
         no_version v y.0 y.1
 
-    no_buffer : HasBuffers S → (n : OpName) (bank : ℕ) → get S.buffers n ≡ Some bank → ⊥
+    no_buffer : HaveHolders S → (n : OpName) (bank : ℕ) → get S.buffers n ≡ Some bank → ⊥
     no_buffer buffers n bank at = elim (buffers n bank at) [
       | inl opening ↦ none-some opening.1 (sym (quiet.opens opening.0) ∙ opening.2)
       | inr (inl version) ↦ no_version version.0 version.1 version.2
@@ -243,7 +205,7 @@ module _ (m : Machine) (all ts : List Task) (g : Arrivals) (S : State) (ground :
         let three = and_from (i && c && (len S.flight == 0)) (length S.queue == 0) two queue in
         and_from (i && c && (len S.flight == 0) && (length S.queue == 0)) (len S.workers == 0) three workers
 
-    no_object : HasBuffers S → has_no_object S ≡ true
+    no_object : HaveHolders S → has_no_object S ≡ true
     no_object buffers =
         let e = len S.entries == 0 in
         let p = len S.places == 0 in
@@ -260,7 +222,7 @@ module _ (m : Machine) (all ts : List Task) (g : Arrivals) (S : State) (ground :
         let three = and_from (e && p && b) v two versions in
         and_from (e && p && b && v) (len S.copies == 0) three copies
 
-    drained_when_stuck : HasBuffers S → IsAdmissible m → IsStuck m S → is_drained S ≡ true
+    drained_when_stuck : HaveHolders S → IsAdmissible m → IsStuck m S → is_drained S ≡ true
     drained_when_stuck buffers fit stuck =
         and_from (has_no_task S && has_no_object S) (message_count S.mail == 0)
         (and_from (has_no_task S) (has_no_object S) (no_task fit stuck) (no_object buffers))
@@ -286,41 +248,9 @@ module _ (m : Machine) (all ts : List Task) (g : Arrivals) (S : State) (ground :
         absurd (true≢false (sym (and_from (is_none S.main.ending && is_none S.trap) (may_call S (call_next m S)) two
         (call_may fit stuck drained (call_next m S))) ∙ stuck event.Main))
 
-    finished_when_stuck : HasBuffers S → IsAdmissible m → IsStuck m S → is_finished S ≡ true
+    -- and finished
+    pub finished_when_stuck : HaveHolders S → IsAdmissible m → IsStuck m S → is_finished S ≡ true
     finished_when_stuck buffers fit stuck =
         let drained = drained_when_stuck buffers fit stuck in
         and_from (is_drained S) (is_some S.main.ending || is_some S.trap) drained
         (over_when_stuck fit stuck drained (is_some S.main.ending || is_some S.trap) refl)
-
--- ---- progress
-
-module _ (m : Machine) (all ts : List Task) (g : Arrivals) (S : State) (ground : HasGroundwork m all ts S)
-    (control : IsControlled ts g S) (gone : HasLetGo S) (buffers : HasBuffers S) (fit : IsAdmissible m) where
-  -- a task in flight has something to do
-  flight_moves : IsStuck m S → IsQuiet S → (n : ℕ) → IsLeast S.flight n → ⊥
-  flight_moves stuck quiet n h =
-      let from : (k : ℕ) (y : Flying) → get S.flight k ≡ Some y → n ≤ k = λ k y e. elim (cases_eq k n) [
-        | inl same ↦ omega (arith, same)
-        | inr other ↦ let below = below_from_less n k (h.others k y e other) in omega (arith, below)
-      ] in
-      let some = some_decoding m all ts g S ground control quiet gone n h.there.0 h.there.1 from in
-      let p = decode_there m all ts g S ground control quiet (operand_name n some.0) some.3 in
-      true≢false (sym (decode_enabled m all ts g S ground control quiet gone n h.there.0 h.there.1 from
-      (operand_name n some.0) p.0 refl p.1 fit)
-      ∙ stuck (event.Decode (operand_name n some.0)))
-
-  finished_by : IsStuck m S → IsQuiet S → (n : Option ℕ) → least S.flight ≡ n → is_finished S ≡ true
-  finished_by stuck quiet None e =
-      finished_when_stuck m all ts g S ground control quiet
-      (λ k. absent_empty S.flight k (least_none nat_order S.flight e)) buffers fit stuck
-  finished_by stuck quiet (Some n) e = absurd (flight_moves stuck quiet n (least_some nat_order S.flight n e))
-
-  -- a state that isn't finished has an enabled event
-  pub goes_on : is_finished S ≡ false → (e : Event) × IsEnabled m S e
-  goes_on unfinished = elim (enabled_or_stuck m S) [
-    | inl some ↦ some
-    | inr stuck ↦
-        absurd (true≢false
-        (sym (finished_by stuck (quiet_when_stuck m all ts g S ground control stuck fit) (least S.flight) refl)
-        ∙ unfinished))
-  ]

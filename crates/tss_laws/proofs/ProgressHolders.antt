@@ -32,9 +32,11 @@ Holder os vs gs cs n = OpenHolds os n ⊎ (VersionHolds vs n ⊎ (GoneHolds gs n
 abbrev pub Held : Named ℕ → Named OpenContents → Named Version → Named GoneContents → Numbered CopyState → Type 0
 Held bs os vs gs cs = (n : OpName) (bank : ℕ) → get bs n ≡ Some bank → Holder os vs gs cs n
 
+-- a storage in a buffer is in one alone
 pub same_buffer : (k n : OpName) → Some (Buffer k) ≡ Some (Buffer n) → k ≡ n
 same_buffer k n e = cc
 
+-- and not at home
 pub no_home : (n : OpName) → Some Home ≡ Some (Buffer n) → ⊥
 no_home n e = cc
 
@@ -50,7 +52,8 @@ module _ (cs : Numbered CopyState) (vs : Named Version) (n : OpName) where
       (subst (λ gs. Holder m.opens vs gs cs n) (sym same.1) h)
 
   -- so do those before what a settle sends
-  pub settle_holder : (m : Mail) (v : OpName) → CanSettle vs v → ((x : Version) → get vs v ≡ Some x → get m.gones v ≡ None)
+  pub settle_holder : (m : Mail) (v : OpName) → CanSettle vs v
+      → ((x : Version) → get vs v ≡ Some x → get m.gones v ≡ None)
       → Holder m.opens vs m.gones cs n
       → Holder (posted_all m (settled vs v).sent).opens (settled vs v).part
       (posted_all m (settled vs v).sent).gones cs n
@@ -70,6 +73,7 @@ module _ (cs : Numbered CopyState) (vs : Named Version) (n : OpName) where
       by (inr (inr (inl gone))) = lift (settled_holds vs v can m fresh n (inr gone))
       by (inr (inr (inr copy))) = inr (inr (inr copy))
 
+  -- a settle after messages that hold nothing
   pub settled_after : (m : Mail) (xs : List Message) (v : OpName) → AllSent HoldsNothing xs → CanSettle vs v
       → ((x : Version) → get vs v ≡ Some x → get m.gones v ≡ None) → Holder m.opens vs m.gones cs n
       → Holder (posted_all m (xs ++ (settled vs v).sent)).opens (settled vs v).part
@@ -79,10 +83,12 @@ module _ (cs : Numbered CopyState) (vs : Named Version) (n : OpName) where
       subst (λ k. Holder k.opens (settled vs v).part k.gones cs n) (sym (posted_all-append m xs (settled vs v).sent))
       (settle_holder (posted_all m xs) v can (λ x e. ap (λ gs. get gs v) same.1 ∙ fresh x e) (sent_nothing m xs none h))
 
+-- a ready holds nothing
 pub ready_nothing : (o v : OpName) (s : Option StorageName) → AllSent HoldsNothing (ready_with o v s)
 ready_nothing o v None = tt
 ready_nothing o v (Some s) = (tt, tt)
 
+-- nor does that of the head
 pub head_nothing : (v : OpName) (x : Version) (h : Option OpName) → AllSent HoldsNothing (head_ready v x h)
 head_nothing v x None = tt
 head_nothing v x (Some o) = ready_nothing o v x.storage
@@ -90,7 +96,8 @@ head_nothing v x (Some o) = ready_nothing o v x.storage
 -- ---- versions
 
 -- a version that is changed, but for its storage
-pub change_holds : (vs : Named Version) (k : OpName) (f : Version → Version) → ((y : Version) → (f y).storage ≡ y.storage)
+pub change_holds : (vs : Named Version) (k : OpName) (f : Version → Version)
+    → ((y : Version) → (f y).storage ≡ y.storage)
     → (n : OpName) → VersionHolds vs n → VersionHolds (change_version vs k f) n
 change_holds vs k f keeps n h = by (get vs k) refl
   where
@@ -98,6 +105,7 @@ change_holds vs k f keeps n h = by (get vs k) refl
     by None e = h
     by (Some x) e = put_holds vs k x (f x) n e (keeps x) h
 
+-- the first version of an object has the storage of its open
 pub first_stored : (o : OpName) (c : OpenContents) (mode : Mode)
     → (first_version o c.operand.object c.storage mode).storage ≡ c.storage
 first_stored o c Input = refl

@@ -1,5 +1,5 @@
--- The oldest task in flight of a quiet state: all that was before it has left, so none of its operands waits, and one is
--- still to be decoded.
+-- The oldest task in flight of a quiet state: all that was before it has left, so none of its operands waits, and one
+-- is still to be decoded.
 use Rattle.std.proofs.Common.{◌≡◌, ℕ, ◌<◌, ◌≤◌, ◌⊎◌, Bool, true, false, List, Option, Some, None, refl, sym, ap, ◌∙◌, subst, inl, inr, arith, true≢false}
 use Rattle.std.specs.Prelude.{slice_get, is_some}
 use Rattle.std.specs.FinMap.{get}
@@ -89,6 +89,7 @@ module _ (m : Machine) (all ts : List Task) (g : Arrivals) (S : State) (ground :
 
   module _ (gone : HasLetGo S) (n : ℕ) (x : Flying) (flies : get S.flight n ≡ Some x)
       (least : (k : ℕ) (y : Flying) → get S.flight k ≡ Some y → n ≤ k) where
+    -- operands of earlier tasks have left
     pub past : (q : OpName) → q.task < n → phase_of S q ≡ Left
     past q before = left_before m all ts g S ground control quiet n x flies least q before
 

@@ -1,5 +1,5 @@
--- Operands in a quiet state: each task in flight waits, and each of its operands is to be decoded, waits or is ready. No
--- reader of a produced version waits.
+-- Operands in a quiet state: each task in flight waits, and each of its operands is to be decoded, waits or is ready.
+-- No reader of a produced version waits.
 use Rattle.std.proofs.Common.{◌≡◌, ℕ, suc, ◌<◌, ◌≤◌, ◌⊎◌, Bool, true, false, List, [], ◌∷◌, Option, Some, None, refl, sym, ap, ◌∙◌, inl, inr, arith, true≢false}
 use Rattle.std.specs.Prelude.{◌==◌, nat_lt, slice_get}
 use Rattle.std.specs.List.{list_all, list_any}

@@ -1,5 +1,5 @@
 -- Progress of every run, where each event keeps the groups of the control.
-use Rattle.std.proofs.Common.{◌≡◌, List, Some, sym, ◌∙◌}
+use Rattle.std.proofs.Common.{List, sym, ◌∙◌}
 use Rattle.std.specs.Ordering.{nat_cmp}
 use Rattle.std.specs.FinMap.{get-empty}
 use Rattle.std.proofs.lemmas.Option.{none-some}
@@ -19,12 +19,13 @@ use Rattle.tss_laws.proofs.GroundworkEmpty.{IsControlled-bare, IsBare-initial_st
 use Rattle.tss_laws.proofs.GroundworkJoin.{AreGroupsKept, IsControlled-event}
 use Rattle.tss_laws.proofs.ProgressPhases.{HasLetGo}
 use Rattle.tss_laws.proofs.ProgressLetGo.{HasLetGo-after_event}
-use Rattle.tss_laws.proofs.ProgressDrained.{HasBuffers, goes_on}
-use Rattle.tss_laws.proofs.ProgressBuffers.{HasBuffers-after_event, HasBuffers-initial_state}
+use Rattle.tss_laws.proofs.ProgressDrained.{HaveHolders}
+use Rattle.tss_laws.proofs.ProgressGoesOn.{goes_on}
+use Rattle.tss_laws.proofs.ProgressBuffers.{HaveHolders-after_event, HaveHolders-initial_state}
 
 -- what progress needs of a state
 abbrev pub CanProgress : RoundFact
-CanProgress m all ts g S = IsControlled ts g S × HasLetGo S × HasBuffers S
+CanProgress m all ts g S = IsControlled ts g S × HasLetGo S × HaveHolders S
 
 -- nothing is in flight at first
 let_go_at_first : (i : ImageState) → HasLetGo (initial_state i)
@@ -37,7 +38,7 @@ module _ (kept : (e : Event) → AreGroupsKept e) where
       let order = (kept e).order m all ts g S ground h.0 on in (
         IsControlled-event e (kept e) m all ts g S ground h.0 on order,
         HasLetGo-after_event m S h.0.orderly h.1 e on order,
-        HasBuffers-after_event m all ts g S ground h.0 h.2 e on,
+        HaveHolders-after_event m all ts g S ground h.0 h.2 e on,
       )
 
   -- so it holds in every run
@@ -49,7 +50,7 @@ module _ (kept : (e : Event) → AreGroupsKept e) where
       (λ m i. (
         IsControlled-bare (initial_state i) (IsBare-initial_state i) no_arrivals (orderly_at_first i),
         let_go_at_first i,
-        HasBuffers-initial_state i,
+        HaveHolders-initial_state i,
       )) m i es S run).1
 
   -- and a run that isn't over can go on

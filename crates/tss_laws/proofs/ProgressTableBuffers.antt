@@ -23,14 +23,14 @@ use Rattle.tss_laws.specs.Readers.{Arrivals}
 use Rattle.tss_laws.specs.Control.{HasGroundwork, IsControlled}
 use Rattle.tss_laws.proofs.SentLemmas.{after_ready-all, after_link-all, flight_after_finish-all}
 use Rattle.tss_laws.proofs.HeldEvents.{HoldsNothing, decodes_nothing}
-use Rattle.tss_laws.proofs.ProgressDrained.{HasBuffers}
+use Rattle.tss_laws.proofs.ProgressDrained.{HaveHolders}
 use Rattle.tss_laws.proofs.ProgressHolders.{Holder, Held, sent_nothing}
 
 module _ (m : Machine) (all ts : List Task) (g : Arrivals) (S : State) (ground : HasGroundwork m all ts S)
-    (control : IsControlled ts g S) (h : HasBuffers S) where
+    (control : IsControlled ts g S) (h : HaveHolders S) where
   -- of a state
   abbrev Keeps : State → Type 0
-  Keeps T = HasBuffers T
+  Keeps T = HaveHolders T
 
   -- ---- events that leave the holders
 
@@ -38,27 +38,32 @@ module _ (m : Machine) (all ts : List Task) (g : Arrivals) (S : State) (ground :
   buffers_call (main, None) = h
   buffers_call (main, Some t) = h
 
+  -- main leaves each held buffer a holder
   pub buffers_main : (c : Option Call) → Keeps (main_by m S c)
   buffers_main None = h
   buffers_main (Some call) = buffers_call (main_call m.limits S.home S.main call)
 
+  -- take leaves each held buffer a holder
   pub buffers_take : (t : Option Task) → Keeps (after_take S t)
   buffers_take None = h
   buffers_take (Some t) = λ n bank e.
       sent_nothing S.copies S.versions n S.mail _ (decodes_nothing t.number 0 (operands_of t)) (h n bank e)
 
+  -- ready leaves each held buffer a holder
   pub buffers_ready : (o : OpName) (c : Option Source) → Keeps (ready_message_taken (without S (event.Ready o)) o c)
   buffers_ready o None = h
   buffers_ready o (Some source) = λ n bank e.
       sent_nothing S.copies S.versions n (taken S.mail (event.Ready o)) _
       (after_ready-all HoldsNothing (λ o source. tt) (λ o r. tt) S.flight o source) (h n bank e)
 
+  -- link leaves each held buffer a holder
   pub buffers_link : (o : OpName) (next : Option OpName) → Keeps (link_message_taken (without S (event.Link o)) o next)
   buffers_link o None = h
   buffers_link o (Some next) = λ n bank e.
       sent_nothing S.copies S.versions n (taken S.mail (event.Link o)) _
       (after_link-all HoldsNothing (λ o source. tt) (λ o r. tt) S.flight o next) (h n bank e)
 
+  -- bye leaves each held buffer a holder
   pub buffers_bye : (o : OpName) (c : Option Bool) → Keeps (bye_message_taken (without S (event.Bye o)) o c)
   buffers_bye o None = h
   buffers_bye o (Some promised) = h
@@ -67,14 +72,17 @@ module _ (m : Machine) (all ts : List Task) (g : Arrivals) (S : State) (ground :
   buffers_start_task w t us None = h
   buffers_start_task w t us (Some x) = h
 
+  -- start leaves each held buffer a holder
   pub buffers_start : (w : ℕ) (queue : List ℕ) → Keeps (after_start m S w queue)
   buffers_start w [] = h
   buffers_start w (t ∷ us) = buffers_start_task w t us (get S.flight t)
 
+  -- exec leaves each held buffer a holder
   pub buffers_exec : (w : ℕ) (b : Option Busy) → Keeps (after_exec m S w b)
   buffers_exec w None = h
   buffers_exec w (Some b) = h
 
+  -- finish leaves each held buffer a holder
   pub buffers_finish : (w : ℕ) (b : Option Busy) → Keeps (after_finish S w b)
   buffers_finish w None = h
   buffers_finish w (Some b) = λ n bank e.
@@ -90,6 +98,7 @@ module _ (m : Machine) (all ts : List Task) (g : Arrivals) (S : State) (ground :
   buffers_idle_by v i true = h
   buffers_idle_by v i false = h
 
+  -- idle leaves each held buffer a holder
   pub buffers_idle : (v : OpName) (c : Option IdleContents) → Keeps (idle_message_taken (without S (event.Idle v)) v c)
   buffers_idle v None = h
   buffers_idle v (Some i) = buffers_idle_by v i (may_retire v i.count (get S.entries i.base))
@@ -140,6 +149,7 @@ module _ (m : Machine) (all ts : List Task) (g : Arrivals) (S : State) (ground :
     buffers_decoded None = opens_held _
     buffers_decoded (Some e) = buffers_live e operand.mode
 
+  -- decode leaves each held buffer a holder
   pub buffers_decode : (o : OpName) (c : Option Operand) → get S.mail.decodes o ≡ c
       → Keeps (decode_message_taken m (without S (event.Decode o)) o c)
   buffers_decode o None e = h

@@ -22,15 +22,15 @@ use Rattle.tss_laws.specs.Control.{HasGroundwork, IsControlled}
 use Rattle.tss_laws.proofs.SentLemmas.{AllSent, AllSent-append}
 use Rattle.tss_laws.proofs.PlainLemmas.{name_apart}
 use Rattle.tss_laws.proofs.HeldEvents.{HoldsNothing}
-use Rattle.tss_laws.proofs.ProgressDrained.{HasBuffers}
+use Rattle.tss_laws.proofs.ProgressDrained.{HaveHolders}
 use Rattle.tss_laws.proofs.ProgressSettled.{put_holds, can_settle_written, can_settle_followed}
 use Rattle.tss_laws.proofs.ProgressHolders.{Holder, sent_nothing, settle_holder, settled_after, ready_nothing, head_nothing, change_holds, first_stored}
 
 module _ (m : Machine) (all ts : List Task) (g : Arrivals) (S : State) (ground : HasGroundwork m all ts S)
-    (control : IsControlled ts g S) (h : HasBuffers S) where
+    (control : IsControlled ts g S) (h : HaveHolders S) where
   -- of a state
   abbrev Keeps : State → Type 0
-  Keeps T = HasBuffers T
+  Keeps T = HaveHolders T
 
   no_gone : (v : OpName) (x : Version) → get S.versions v ≡ Some x → get S.mail.gones v ≡ None
   no_gone v x e = (ground.places.versions v x e).2
@@ -118,6 +118,7 @@ module _ (m : Machine) (all ts : List Task) (g : Arrivals) (S : State) (ground :
         opened_behind f follows (get S.versions f.version) refl
         (ap (λ s. is_followable S.versions s) (sym follows) ∙ on) n k
 
+  -- open leaves each held buffer a holder
   pub buffers_open : (o : OpName) (c : Option OpenContents) → get S.mail.opens o ≡ c → can_open_message S c ≡ true
       → Keeps (open_message_taken (without S (event.Open o)) o c)
   buffers_open o None e on = absurd (true≢false (sym on))
@@ -157,6 +158,7 @@ module _ (m : Machine) (all ts : List Task) (g : Arrivals) (S : State) (ground :
   used_at_holder o v None there n k = k
   used_at_holder o v (Some x) there n k = used_behind_holder o v x there x.tail n k
 
+  -- use leaves each held buffer a holder
   pub buffers_use : (o : OpName) (c : Option OpName) → Keeps (use_message_taken (without S (event.Use o)) o c)
   buffers_use o None = h
   buffers_use o (Some v) = λ n bank e. used_at_holder o v (get S.versions v) refl n (h n bank e)
@@ -195,12 +197,14 @@ module _ (m : Machine) (all ts : List Task) (g : Arrivals) (S : State) (ground :
   released_at_holder o v producer None there n k = k
   released_at_holder o v producer (Some x) there n k = released_holder o v x there producer n k
 
+  -- release leaves each held buffer a holder
   pub buffers_release : (o : OpName) (c : Option ReleaseContents)
       → Keeps (release_message_taken (without S (event.Release o)) o c)
   buffers_release o None = h
   buffers_release o (Some r) =
       λ n bank e. released_at_holder o r.version r.producer (get S.versions r.version) refl n (h n bank e)
 
+  -- so does nack
   pub nacked_holder : (v : OpName) (x : Option Version) → get S.versions v ≡ x → (n : OpName)
       → Holder S.mail.opens S.versions S.mail.gones S.copies n
       → after_versioned (event.Nack v) (nacked_at S.versions v x) n

@@ -1,5 +1,5 @@
 -- Readers after a use: its operand comes to the version as the newest reader.
-use Rattle.std.proofs.Common.{◌≡◌, ◌≢◌, ◌⊎◌, inl, inr, ℕ, suc, ◌<◌, Bool, true, false, cond, List, ◌∷◌, Option, Some, None, refl, sym, ap, ◌∙◌, subst, arith}
+use Rattle.std.proofs.Common.{◌≡◌, ◌≢◌, ◌⊎◌, inl, inr, ℕ, suc, ◌<◌, Bool, true, false, List, ◌∷◌, Option, Some, None, refl, sym, ap, ◌∙◌, subst, arith}
 use Rattle.std.specs.Prelude.{is_some}
 use Rattle.std.specs.FinMap.{get, contains_key}
 use Rattle.std.proofs.lemmas.Option.{none-some, same_Some}
@@ -11,7 +11,7 @@ use Rattle.tss_base.specs.declared.event.LinkState.{LinkState}
 use Rattle.tss_base.specs.declared.event.LinkState.TheVariants as link
 use Rattle.tss_base.specs.Names.{Named}
 use Rattle.tss_maps.proofs.Keys.{name_order, decide_key}
-use Rattle.tss_maps.proofs.Changes.{from_inserted, still_inserted, at_inserted, beside_inserted}
+use Rattle.tss_maps.proofs.Changes.{at_inserted, beside_inserted}
 use Rattle.tss_protocol.specs.Mail.{StorageName, posted_all}
 use Rattle.tss_protocol.specs.State.{State, OperandState, Version}
 use Rattle.tss_protocol.specs.Stations.{operand_at}
@@ -21,7 +21,6 @@ use Rattle.tss_phases.specs.Phase.{Phase, Sent, Waiting, Told, look_ups, phase_o
 use Rattle.tss_phases.specs.Told.{tells, phase_told}
 use Rattle.tss_phases.specs.Orderly.{AreOrderly}
 use Rattle.tss_phases.proofs.Tests.{something, not_both}
-use Rattle.tss_phases.proofs.Received.{own_name, other_name}
 use Rattle.tss_phases.proofs.PhaseLemmas.{phase_using}
 use Rattle.tss_phases.proofs.OrderlyLemmas.{using_stands}
 use Rattle.tss_phases.proofs.UseEvent.{use_tells, use_tells_reader, phase_of-use, phase_of-use-other}
@@ -32,7 +31,6 @@ use Rattle.tss_laws.specs.Openings.{HasOpenings}
 use Rattle.tss_laws.specs.Readers.{Arrivals, set_arrivals, arrivals_used, arrivals_after_event, Has, has_arrived, IsArrival, IsLinking, HasArrivals, HasReaders}
 use Rattle.tss_laws.specs.Holders.{link_fits, HasHolders}
 use Rattle.tss_laws.proofs.ReadersLists.{has_newest}
-use Rattle.tss_laws.proofs.ReadersKept.{alike_same, same_version, arrivals_kept}
 use Rattle.tss_laws.proofs.ReadersLinks.{links_kept, ready_with-no_link}
 use Rattle.tss_laws.proofs.ReadersSettled.{fails}
 use Rattle.tss_laws.proofs.ReadersTold.{produced_has_storage}

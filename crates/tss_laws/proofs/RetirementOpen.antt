@@ -87,7 +87,7 @@ module _ (m : Machine) (all ts : List Task) (g : Arrivals) (S : State) (ground :
     apart = front_apart m all ts g S ground k o c opening f to u there
 
     -- each version is new, the one that is followed, or as it was
-    opened_from : (w : OpName) (t : Version) → get U.versions w ≡ Some t
+    pub opened_from : (w : OpName) (t : Version) → get U.versions w ≡ Some t
         → ((w ≡ o) × (t ≡ following c f))
         ⊎ (((w ≡ f.version) × (t ≡ linked_to o f u)) ⊎ (get S.versions w ≡ Some t))
     opened_from w t e = elim (decide_key name_order w o) [

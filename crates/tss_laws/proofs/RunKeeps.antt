@@ -139,7 +139,8 @@ output_zeroed-ranges limits s o (Buffer n) = by (reads o.mode)
     by true = refl
     by false = refl
 
-outputs_zeroed-ranges : (limits : Limits) (s : Stores) (os : List Operand) (ss : List StorageName)
+-- zeros at outputs change no range
+pub outputs_zeroed-ranges : (limits : Limits) (s : Stores) (os : List Operand) (ss : List StorageName)
     → HasRanges s.home.ranges (outputs_zeroed limits s os ss)
 outputs_zeroed-ranges limits s [] ss = refl
 outputs_zeroed-ranges limits s (o ∷ os) [] = refl
@@ -198,7 +199,8 @@ after_start-kept : (m : Machine) (S : State) (w : ℕ) (q : List ℕ) → SameMa
 after_start-kept m S w [] = still S S refl refl refl
 after_start-kept m S w (t ∷ ts) = start_task-kept m S w t ts (get S.flight t)
 
-after_exec-kept : (m : Machine) (S : State) (w : ℕ) (b : Option Busy) → SameMain S (after_exec m S w b)
+-- a stretch changes none
+pub after_exec-kept : (m : Machine) (S : State) (w : ℕ) (b : Option Busy) → SameMain S (after_exec m S w b)
 after_exec-kept m S w None = still S S refl refl refl
 after_exec-kept m S w (Some b) =
     rewritten S _ refl (stretched (placed_in (operands_of b.task) b.storages)) refl
@@ -310,11 +312,13 @@ pub record HasGround (i : ImageState) (S : State) : Type 0 where
   pub code : S.code ≡ frozen i
   pub ranges : S.home.ranges ≡ memory_ranges i
 
-HasGround-initial_state : (i : ImageState) → HasGround i (initial_state i)
+-- the first state has it
+pub HasGround-initial_state : (i : ImageState) → HasGround i (initial_state i)
 unfolding loaded
 HasGround-initial_state i = record { code = refl; ranges = refl }
 
-HasGround-event : (m : Machine) (i : ImageState) (S : State) (e : Event) → HasGround i S
+-- each event keeps it
+pub HasGround-event : (m : Machine) (i : ImageState) (S : State) (e : Event) → HasGround i S
     → HasGround i (after_event m S e)
 HasGround-event m i S e ground =
     let same = after_event-ground m S e in

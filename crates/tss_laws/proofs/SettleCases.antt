@@ -100,8 +100,8 @@ module _ (vs : Named Version) (v : OpName) (x : Version) (s : OpName) where
       → get (unlinked vs v x s) s ≡ Some (moved_up x y)
   at_unlinked apart other y e =
       at_changed (moved_up x) _ s y
-      (beside_changed_named (λ q. record q { successor = followed_by s q.successor }) (drop_version vs v) x.predecessor s
-      other
+      (beside_changed_named (λ q. record q { successor = followed_by s q.successor }) (drop_version vs v) x.predecessor
+      s other
       ∙ beside_removed name_order vs v s apart
       ∙ e)
 
@@ -160,7 +160,8 @@ next_case n vs v x there stays =
     (case_calm vs v (settle n) x there stays x.successor refl)
 
 module _ (n : ℕ) (vs : Named Version) (v : OpName) (others : OthersSettled vs v) where
-  module _ (x : Version) (f : Follow) (there : get vs v ≡ Some x) (to : x.successor ≡ Some f) (next : HasNext vs v x) where
+  module _ (x : Version) (f : Follow) (there : get vs v ≡ Some x) (to : x.successor ≡ Some f)
+      (next : HasNext vs v x) where
     case_gives : (h : How) → GivesWay vs v x f h → SettleCase vs v (settle_how vs v x f (settle (suc n)) h)
     case_gives Over gives = inr (inr (inl (record { version = x; follow = f; gives = gives; is = refl })))
     case_gives Beside gives =

@@ -202,7 +202,7 @@ staged_changed m ts S T n h k c = (
 )
 
 -- a task in flight has as many storages as operands
-length-storages : (ts : List Task) (S : State) (n : ℕ) (x : Flying) → IsInFlight ts S n x
+pub length-storages : (ts : List Task) (S : State) (n : ℕ) (x : Flying) → IsInFlight ts S n x
     → length (storages_of x) ≡ length (operands_of x.task)
 length-storages ts S n x f =
     length-map x.operands _ ∙ sym (length-map x.operands (λ r. r.operand)) ∙ ap length f.operands

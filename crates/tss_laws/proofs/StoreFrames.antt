@@ -195,7 +195,8 @@ outputs_zeroed-left limits s (o ∷ operands) (storage ∷ storages) next other 
 -- ---- copies
 
 -- the bytes of a piece are as many as it has
-length-piece : (c : CopyState) (bytes : List ℕ) → length (piece_of c bytes) ≡ min (piece_len c) (length bytes - c.moved)
+-- a piece is as long as that, or as what is left of its bytes
+pub length-piece : (c : CopyState) (bytes : List ℕ) → length (piece_of c bytes) ≡ min (piece_len c) (length bytes - c.moved)
 length-piece c bytes =
     length-take (piece_len c) (drop c.moved bytes) ∙ ap (min (piece_len c)) (length-drop c.moved bytes)
 

@@ -156,7 +156,8 @@ exec_stretch-alike code limits quantum b s u separate count alike =
 
 -- ---- the bytes of an operand
 
-stored_by : (s : Stores) (m : Memory) (object : Range) (storage : StorageName)
+-- the bytes of an object in its storage, where that shows each of them
+pub stored_by : (s : Stores) (m : Memory) (object : Range) (storage : StorageName)
     → ((n : OpName) → storage ≡ Buffer n → object.len ≤ length (buffer_bytes s.contents n))
     → ((a : ℕ) → object.base ≤ a → a < object.base + object.len → storage_byte s object storage a ≡ byte_at m a)
     → stored_bytes s object storage ≡ bytes_of m object

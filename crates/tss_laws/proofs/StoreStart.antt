@@ -196,7 +196,7 @@ module _ (placed : List Placed) (separate : AreSeparate placed) (limits : Limits
   room_own false x object n len short room = zeroed_own limits x object n len short
 
   -- room that a buffer has stays
-  room_stays : (os : List Operand) (ss : List StorageName) (k : OpName) (len : ℕ) → len ≤ limits.object_bytes
+  pub room_stays : (os : List Operand) (ss : List StorageName) (k : OpName) (len : ℕ) → len ≤ limits.object_bytes
       → len ≤ length (buffer_bytes s.contents k)
       → len ≤ length (buffer_bytes (outputs_zeroed limits s os ss).contents k)
   room_stays [] ss k len short room = room

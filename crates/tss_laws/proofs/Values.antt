@@ -1,31 +1,33 @@
 -- The bytes of program order: what stands in each storage, at home, and on each worker, as far as program order starts the
 -- tasks.
-use Rattle.std.proofs.Common.{◌≡◌, ◌⊎◌, ℕ, ◌+◌, ◌<◌, ◌≤◌, Bool, true, false, List, length, take, Option, Some, None}
-use Rattle.std.specs.Prelude.{cond}
+use Rattle.std.proofs.Common.{◌≡◌, ◌⊎◌, ℕ, ◌+◌, ◌<◌, ◌≤◌, true, false, List, length, take, Some, None}
+use Rattle.std.specs.Prelude.{cond, slice_index}
 use Rattle.std.specs.FinMap.{get}
 use Rattle.tss_base.specs.declared.range.Range.{Range}
 use Rattle.tss_base.specs.declared.operand.OpName.{OpName}
-use Rattle.tss_base.specs.declared.operand.Mode.TheVariants.{Input, Output, Inout}
+use Rattle.tss_base.specs.declared.operand.Mode.TheVariants.{Output, Inout}
 use Rattle.tss_base.specs.declared.operand.Operand.{Operand}
 use Rattle.tss_base.specs.declared.operand.Task.{Task}
 use Rattle.tss_base.specs.declared.ending.Trap.{Trap}
 use Rattle.tss_base.specs.declared.event.Stage.TheVariants as stage
 use Rattle.tss_base.specs.declared.machine.Machine.{Machine}
 use Rattle.tss_base.specs.Image.{ImageState}
-use Rattle.tss_model.specs.Memory.{bytes_of}
-use Rattle.tss_model.specs.Access.{writes}
-use Rattle.tss_model.specs.InOrder.{Started, started_at, end_of_started}
+use Rattle.tss_model.specs.Memory.{byte_at, bytes_of}
+use Rattle.tss_model.specs.Access.{reads, writes}
+use Rattle.tss_model.specs.InOrder.{Started, flat_stepped, started_at, end_of_started}
 use Rattle.tss_protocol.specs.Mail.{StorageName, Buffer, OpenContents, GoneContents}
 use Rattle.tss_protocol.specs.State.{State, Flying, Busy, Version, CopyState, HeldTrap}
-use Rattle.tss_protocol.specs.Stations.{storages_of}
+use Rattle.tss_protocol.specs.Stations.{storages_of, has_finished}
 use Rattle.tss_protocol.specs.Buffers.{buffer_bytes}
 use Rattle.tss_protocol.specs.Workers.{stored_bytes}
 use Rattle.tss_protocol.specs.UnitMachine.{stores_of}
+use Rattle.tss_locality.specs.Rounds.{IsTaskOf}
 use Rattle.tss_phases.specs.Phase.{Told, Ready, Releasing, phase_of, is_decoded}
 use Rattle.tss_laws.specs.Members.{operand_among}
 use Rattle.tss_laws.specs.Stages.{IsOnWorker}
-use Rattle.tss_laws.specs.Tasks.{task_at}
-use Rattle.tss_laws.specs.MainInOrder.{flat_beside, IsCutOff}
+use Rattle.tss_laws.specs.Tasks.{task_at, IsTaken}
+use Rattle.tss_laws.specs.MainInOrder.{steps_taken, flat_beside, IsCutOff}
+use Rattle.tss_laws.proofs.FlatNames.{Has}
 use Rattle.tss_laws.proofs.StoreFollows.{RunsInOrder}
 
 -- ---- tasks of program order
@@ -87,14 +89,17 @@ pub record HasWorkers (m : Machine) (i : ImageState) (S : State) : Type 0 where
 
 -- ---- home
 
--- what is copied home, or has come there, is the value of the object's last version
+-- what is copied home, or has come there, is the value of the object's last version. The bytes that a copy has moved are
+-- at home
 pub record HasReturns (m : Machine) (i : ImageState) (ts : List Task) (S : State) : Type 0 where
   pub copied : (bank : ℕ) (c : CopyState) (p : Operand) (s : Started) → get S.copies bank ≡ Some c
-      → IsKnown m i ts c.version p s → IsGood m i s p → take c.object.len (buffer_bytes S.contents c.buffer) ≡ bytes_after m i s p
-  pub moved : (bank : ℕ) (c : CopyState) (p : Operand) (s : Started) → get S.copies bank ≡ Some c
-      → IsKnown m i ts c.version p s → IsGood m i s p → take c.moved (bytes_of S.home c.object) ≡ take c.moved (bytes_after m i s p)
-  pub gone : (v : OpName) (g : GoneContents) (p : Operand) (s : Started) → get S.mail.gones v ≡ Some g → g.retired ≡ true
-      → IsKnown m i ts v p s → IsGood m i s p → bytes_of S.home g.object ≡ bytes_after m i s p
+      → IsKnown m i ts c.version p s → IsGood m i s p
+      → take c.object.len (buffer_bytes S.contents c.buffer) ≡ bytes_after m i s p
+  pub within : (bank : ℕ) (c : CopyState) → get S.copies bank ≡ Some c → c.moved ≤ c.object.len
+  pub moved : (bank : ℕ) (c : CopyState) (k : ℕ) → get S.copies bank ≡ Some c → k < c.moved
+      → byte_at S.home (c.object.base + k) ≡ slice_index (buffer_bytes S.contents c.buffer) k
+  pub gone : (v : OpName) (g : GoneContents) (p : Operand) (s : Started) → get S.mail.gones v ≡ Some g
+      → g.retired ≡ true → IsKnown m i ts v p s → IsGood m i s p → bytes_of S.home g.object ≡ bytes_after m i s p
 
 -- an operand on an object is the first of it that isn't decoded
 pub record IsFirstAhead (ts : List Task) (S : State) (x : Range) (o : OpName) (p : Operand) : Type 0 where
@@ -124,9 +129,9 @@ IsRoomy m S b = m.limits.object_bytes ≤ length (buffer_bytes S.contents b)
 abbrev pub HasBegun : State → ℕ → Type 0
 HasBegun S n = (x : Flying) → get S.flight n ≡ Some x → (x.stage ≡ stage.Running) ⊎ (x.stage ≡ stage.Finished)
 
--- the buffer of a version is set: it is an inout's, or its task has begun
+-- the buffer of a version is set: its opener reads it, or has begun
 abbrev pub IsSet : List Task → State → OpName → Type 0
-IsSet ts S v = ((p : Operand) × (operand_among ts v ≡ Some p) × (p.mode ≡ Inout)) ⊎ HasBegun S v.task
+IsSet ts S v = ((p : Operand) × (operand_among ts v ≡ Some p) × (reads p.mode ≡ true)) ⊎ HasBegun S v.task
 
 -- buffers that are set have room: those of versions, and those that are copied home
 pub record HasRoom (m : Machine) (ts : List Task) (S : State) : Type 0 where
@@ -136,16 +141,36 @@ pub record HasRoom (m : Machine) (ts : List Task) (S : State) : Type 0 where
 
 -- ---- main, and the held trap
 
+-- a task is under way
+abbrev pub IsUnfinished : State → ℕ → Type 0
+IsUnfinished S n = (x : Flying) × (get S.flight n ≡ Some x) × (has_finished x.stage ≡ false)
+
+-- the trap of no later task is held
+abbrev pub HoldsTrapBy : State → ℕ → Type 0
+HoldsTrapBy S n = (h : HeldTrap) × (S.trap ≡ Some h) × (h.task ≤ n)
+
 -- main follows program order, or a task that it has spawned traps there. Each task of program order is the one of its
--- number that main has spawned. The held trap is that of program order where that starts its task, and a task that has
--- ended with a trap in program order is no longer under way without one as low being held
+-- number that main has spawned. The held trap is of a spawned task, and that of program order where that starts the
+-- task. Once a task has ended that traps in program order, its trap is held, or that of an earlier one
 pub record HasMain (m : Machine) (i : ImageState) (all : List Task) (S : State) : Type 0 where
   pub follows : (S.main ≡ (flat_beside i m.limits S.main).main) ⊎ IsCutOff i m.limits S.main
   pub same : (n : ℕ) (t : Task) (s : Started) → task_at all n ≡ Some t → Starts m i n s → s.task ≡ t
+  pub held : (h : HeldTrap) → S.trap ≡ Some h → (0 < h.task) × (h.task ≤ S.main.spawned)
   pub trap : (h : HeldTrap) (s : Started) → S.trap ≡ Some h → Starts m i h.task s
       → (end_of_started i m.limits s).trap ≡ Some h.trap
-  pub lowest : (n : ℕ) (s : Started) (t : Trap) → 0 < n → n ≤ S.main.spawned → Starts m i n s
-      → (end_of_started i m.limits s).trap ≡ Some t → (h : HeldTrap) → S.trap ≡ Some h → n ≤ h.task
+  pub judged : (n : ℕ) (s : Started) (t : Trap) → IsTaken S n → Starts m i n s
+      → (end_of_started i m.limits s).trap ≡ Some t → IsUnfinished S n ⊎ HoldsTrapBy S n
+
+-- ---- named objects
+
+-- the object of a round's operand is named in program order from its task's start up to where main stands, and the round
+-- has each spawned task from its oldest on
+pub record HasNaming (m : Machine) (i : ImageState) (all ts : List Task) (S : State) : Type 0 where
+  pub named : (o : OpName) (p : Operand) (k j : ℕ) (s : Started) → operand_among ts o ≡ Some p
+      → started_at i m.limits k ≡ Some s → s.task.number ≡ o.task → k < j → j ≤ steps_taken S.main
+      → Has (flat_stepped i m.limits j).main.epoch p.object
+  pub among : (n : ℕ) (t : Task) (o : OpName) (p : Operand) → task_at all n ≡ Some t → operand_among ts o ≡ Some p
+      → o.task ≤ n → IsTaskOf ts t
 
 -- ---- the whole
 
@@ -157,3 +182,4 @@ pub record HasValues (m : Machine) (i : ImageState) (all ts : List Task) (S : St
   pub home : HasHome m i ts S
   pub room : HasRoom m ts S
   pub main : HasMain m i all S
+  pub naming : HasNaming m i all ts S

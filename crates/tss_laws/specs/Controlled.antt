@@ -6,7 +6,6 @@ use Rattle.tss_base.specs.declared.event.Event.{Event}
 use Rattle.tss_base.specs.Image.{ImageState}
 use Rattle.tss_protocol.specs.State.{State, initial_state}
 use Rattle.tss_protocol.specs.Needs.{round_of}
-use Rattle.tss_protocol.specs.Counts.{counts_of, sizes_of, AreWithin}
 use Rattle.tss_phases.specs.Alone.{IsAlone}
 use Rattle.tss_laws.specs.Runs.{OverRuns}
 use Rattle.tss_laws.specs.Tasks.{spawned_tasks}
@@ -37,11 +36,3 @@ HasOneMessage m i es S = (o : OpName) → IsAlone S o
 -- after every run
 abbrev pub OneMessageLaw : Type 0
 OneMessageLaw = OverRuns HasOneMessage
-
--- each of the seven counts is at most its size
-abbrev pub StaysWithinSizes : Machine → ImageState → List Event → State → Type 0
-StaysWithinSizes m i es S = AreWithin (counts_of m S) (sizes_of m)
-
--- after every run it is
-abbrev pub SizesLaw : Type 0
-SizesLaw = OverRuns StaysWithinSizes

@@ -59,12 +59,14 @@ pub record IsRetiring (ts : List Task) (S : State) (x : Range) (e : Entry) : Typ
   pub unused : IsUsed ts S x → ⊥
   pub leaving : IsLeaving S x e.latest
   pub only : (v : OpName) → IsLeaving S x v → v ≡ e.latest
-  pub last : (y : Version) → get S.mail.retires e.latest ≡ Some tt → get S.versions e.latest ≡ Some y → IsLastVersion S x e y
+  pub last : (y : Version) → get S.mail.retires e.latest ≡ Some tt → get S.versions e.latest ≡ Some y
+      → IsLastVersion S x e y
   pub none : IsGoingHome S x e.latest → (v : OpName) → IsVersionOf S x v → ⊥
 
 -- the entries of the objects of a round
 pub record HasEntries (ts : List Task) (S : State) : Type 0 where
-  pub absent : (o : OpName) (p : Operand) → operand_among ts o ≡ Some p → get S.entries p.object.base ≡ None → IsAbsent ts S p.object
+  pub absent : (o : OpName) (p : Operand) → operand_among ts o ≡ Some p → get S.entries p.object.base ≡ None
+      → IsAbsent ts S p.object
   pub operand : (b : ℕ) (e : Entry) → get S.entries b ≡ Some e
       → (e.object.base ≡ b) × ((p : Operand) × (operand_among ts e.latest ≡ Some p) × (p.object ≡ e.object))
   pub live : (b : ℕ) (e : Entry) → get S.entries b ≡ Some e → e.retiring ≡ false → IsLive S e.object e
@@ -92,8 +94,10 @@ pub record IsSettled (y : Version) : Type 0 where
 
 -- in a state
 pub record HasRetirement (S : State) : Type 0 where
-  pub asked : (v : OpName) (y : Version) (count : ℕ) → get S.versions v ≡ Some y → y.asked ≡ Some count → AsksRightly S v y count
-  pub refused : (v : OpName) (y : Version) (count : ℕ) → get S.versions v ≡ Some y → y.refused ≡ Some count → HasCause S v y count
+  pub asked : (v : OpName) (y : Version) (count : ℕ) → get S.versions v ≡ Some y → y.asked ≡ Some count
+      → AsksRightly S v y count
+  pub refused : (v : OpName) (y : Version) (count : ℕ) → get S.versions v ≡ Some y → y.refused ≡ Some count
+      → HasCause S v y count
   pub refusing : (v : OpName) (y : Version) (count : ℕ) → get S.versions v ≡ Some y → y.asked ≡ Some count
       → get S.mail.nacks v ≡ Some tt → HasCause S v y count
   pub settled : (v : OpName) (y : Version) → get S.versions v ≡ Some y → IsSettled y

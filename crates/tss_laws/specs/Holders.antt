@@ -1,5 +1,5 @@
--- What each operand of a round holds: the version that it was told, its link, and what its phase says of the version that
--- it has opened.
+-- What each operand of a round holds: the version that it was told, its link, and what its phase says of the version
+-- that it has opened.
 use Rattle.std.specs.Prelude.{◌≡◌, Bool, true, false, ◌⊎◌, List, Option, Some, None}
 use Rattle.std.specs.FinMap.{get}
 use Rattle.tss_base.specs.declared.operand.OpName.{OpName}
@@ -73,21 +73,29 @@ pub record HasLinks (S : State) (o : OpName) (p : Operand) (r : OperandState) : 
 -- what each operand of a round holds, and the phase of the opener of each registered version. A link under way is of an
 -- operand with a record that hasn't left
 pub record HasHolders (ts : List Task) (g : Arrivals) (S : State) : Type 0 where
-  pub told : (o : OpName) (p : Operand) (s : Source) → operand_among ts o ≡ Some p → get S.mail.readies o ≡ Some s → IsTrue g S o p s
-  pub ready : (o : OpName) (p : Operand) (r : OperandState) (s : Source) → operand_among ts o ≡ Some p → operand_at S.flight o ≡ Some r
+  pub told : (o : OpName) (p : Operand) (s : Source) → operand_among ts o ≡ Some p → get S.mail.readies o ≡ Some s
+      → IsTrue g S o p s
+  pub ready : (o : OpName) (p : Operand) (r : OperandState) (s : Source) → operand_among ts o ≡ Some p
+      → operand_at S.flight o ≡ Some r
       → r.source ≡ Some s → (phase_of S o ≡ Ready) ⊎ (phase_of S o ≡ Releasing) → IsTrue g S o p s
-  pub linking : (o next : OpName) (p : Operand) (r : OperandState) (s : Source) → operand_among ts o ≡ Some p → operand_at S.flight o ≡ Some r
+  pub linking : (o next : OpName) (p : Operand) (r : OperandState) (s : Source) → operand_among ts o ≡ Some p
+      → operand_at S.flight o ≡ Some r
       → r.source ≡ Some s → get S.mail.links o ≡ Some next → IsTrue g S o p s
-  pub releases : (o : OpName) (p : Operand) (c : ReleaseContents) → operand_among ts o ≡ Some p → get S.mail.releases o ≡ Some c
+  pub releases : (o : OpName) (p : Operand) (c : ReleaseContents) → operand_among ts o ≡ Some p
+      → get S.mail.releases o ≡ Some c
       → (c.producer ≡ writes p.mode)
-      × ((r : OperandState) × (s : Source) × (operand_at S.flight o ≡ Some r) × (r.source ≡ Some s) × (s.version ≡ c.version))
-  pub waiting_writer : (o : OpName) (p : Operand) → operand_among ts o ≡ Some p → writes p.mode ≡ true → phase_of S o ≡ Waiting
+      × ((r : OperandState) × (s : Source) × (operand_at S.flight o ≡ Some r) × (r.source ≡ Some s)
+      × (s.version ≡ c.version))
+  pub waiting_writer : (o : OpName) (p : Operand) → operand_among ts o ≡ Some p → writes p.mode ≡ true
+      → phase_of S o ≡ Waiting
       → (y : Version) × (get S.versions o ≡ Some y) × (y.storage ≡ None)
-  pub waiting_reader : (o : OpName) (p : Operand) → operand_among ts o ≡ Some p → writes p.mode ≡ false → phase_of S o ≡ Waiting
+  pub waiting_reader : (o : OpName) (p : Operand) → operand_among ts o ≡ Some p → writes p.mode ≡ false
+      → phase_of S o ≡ Waiting
       → (v : OpName) × (y : Version) × (get S.versions v ≡ Some y) × Has o (g v)
   pub openers : (v : OpName) (y : Version) (p : Operand) → get S.versions v ≡ Some y → operand_among ts v ≡ Some p
       → version_opener y p.mode (phase_of S v) ≡ true
   pub records : (o next : OpName) → get S.mail.links o ≡ Some next
       → (r : OperandState) × (operand_at S.flight o ≡ Some r) × (phase_of S o ≡ Left → ⊥)
-  pub links : (o : OpName) (p : Operand) (r : OperandState) → operand_among ts o ≡ Some p → operand_at S.flight o ≡ Some r → HasLinks S o p r
+  pub links : (o : OpName) (p : Operand) (r : OperandState) → operand_among ts o ≡ Some p
+      → operand_at S.flight o ≡ Some r → HasLinks S o p r
   pub runners : HasRunners S

@@ -1,5 +1,5 @@
--- The tasks that are queued or run: each is in flight at that stage, and once. One of whose operands the release has come
--- has finished.
+-- The tasks that are queued or run: each is in flight at that stage, and once. A task one of whose operands has been
+-- released has finished.
 use Rattle.std.specs.Prelude.{◌≡◌, ℕ, ◌==◌, Bool, true, false, List, [], ◌∷◌, Some}
 use Rattle.std.specs.List.{list_any}
 use Rattle.std.specs.FinMap.{get}

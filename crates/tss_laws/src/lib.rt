@@ -10,11 +10,13 @@ ghost use Rattle.tss_laws.specs.Openings.{OpeningsLaw};
 ghost use Rattle.tss_laws.specs.Tables.{TablesLaw};
 ghost use Rattle.tss_laws.specs.Progress.{EnabledLaw, FinishedLaw};
 ghost use Rattle.tss_laws.specs.Asking.{AskingLaw};
+ghost use Rattle.tss_laws.specs.Bound.{EventsLaw};
 ghost use Rattle.tss_laws.specs.Held.{HeldPlacesLaw};
 ghost use Rattle.tss_laws.specs.NoFalseWait.{QueuedLaw};
 ghost use Rattle.tss_laws.specs.UseCounts.{ReadersLaw};
 ghost use Rattle.tss_laws.specs.MessageCounts.{MessagesLaw};
-ghost use Rattle.tss_laws.specs.Controlled.{RoundLaw, ControlLaw, OneMessageLaw, SizesLaw};
+ghost use Rattle.tss_laws.specs.Controlled.{RoundLaw, ControlLaw, OneMessageLaw};
+ghost use Rattle.tss_laws.specs.Refinement.{SizesLaw};
 ghost use Rattle.tss_laws.specs.MainInOrder.{MainInOrderLaw, MainCutOffLaw, MainStoresLaw};
 
 /// Spawned tasks are numbered from 1 in their order, at most as many as there may be, and each with at most as many
@@ -81,6 +83,13 @@ pub fn progress()
 /// and the number of its readers, that it may not, or that it may. No other version has any.
 pub fn asking()
     ensures { AskingLaw }
+{}
+
+/// No run has more events than `event_bound`, a number that the machine alone gives: of main one for each instruction and
+/// one that ends, of each task take, start, finish, one for each instruction and one more, and of each operand ten and one
+/// for each 64 bytes of the longest object.
+pub fn bound()
+    ensures { EventsLaw }
 {}
 
 /// A place is held under the name of an open under way, of a version, of one that is copied home, or of one that is gone
