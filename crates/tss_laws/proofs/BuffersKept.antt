@@ -110,8 +110,7 @@ module _ (ts : List Task) (S T : State) (v s : OpName) (h : HasBuffers ts S) (k 
   own_then w b (inl t) = h.own w b t
   own_then w b (inr p) =
       let f = h.own v b p.1 in
-      let same = same_Some f.0 k.from_one (sym f.2 ∙ k.from_there) in
-      (
+      let same = same_Some f.0 k.from_one (sym f.2 ∙ k.from_there) in (
         k.to_one,
         f.1,
         ap (operand_among ts) p.0 ∙ k.to_there,

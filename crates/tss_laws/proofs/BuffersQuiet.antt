@@ -282,9 +282,9 @@ module _ (m : Machine) (ts : List Task) (S : State) (h : HasBuffers ts S) where
     still_by None e w b bank t f = f
     still_by (Some n) e w b bank t f =
         beside_removed name_order S.buffers n b (λ same.
-          let one = h.one w v b (had_before S Gone gone_passes w b t)
-          (inr (inr (inl (g, there, e ∙ ap Some (sym same))))) in
-          no_more b (subst (λ w. HasBuffer Gone w b) one t))
+        let one = h.one w v b (had_before S Gone gone_passes w b t)
+        (inr (inr (inl (g, there, e ∙ ap Some (sym same))))) in
+        no_more b (subst (λ w. HasBuffer Gone w b) one t))
         ∙ f
 
     gone_kept : HasBuffers ts Gone

@@ -46,8 +46,7 @@ module _ (vs : Named Version) (v : OpName) (x : Version) (s : OpName) where
   unlinked_storages w z e =
       let h = from_changed (change_named (drop_version vs v) x.predecessor bridge) s moved w z e in
       let k = from_named (drop_version vs v) x.predecessor bridge w h.0 h.1 in
-      let d = from_removed name_order vs v w k.0 k.1 in
-      (
+      let d = from_removed name_order vs v w k.0 k.1 in (
         d.0,
         (
           k.0,
@@ -150,8 +149,7 @@ module _ (vs : Named Version) (v : OpName) where
   over_storages x s w z e =
       let taken : Version → Version = λ y. record y { storage = x.storage } in
       let h = from_changed (unlinked vs v x s) s taken w z e in
-      let k = unlinked_storages vs v x s w h.0 h.1 in
-      (
+      let k = unlinked_storages vs v x s w h.0 h.1 in (
         k.0,
         elim h.2 [
           | inl i ↦ inl (k.1.0, k.1.1, ap (λ (y : Version). y.storage) i ∙ k.1.2)

@@ -169,11 +169,15 @@ module _ (m : Machine) (all ts : List Task) (g : Arrivals) (S : State) (ground :
       | inl alike ↦
           let y = from_alike written left.part v alike z (ap (get left.part) (sym same) ∙ e) in
           let is = is_written y.0 y.1 in
-          inl (x, ap (get S.versions) same ∙ there, record {
-            object = y.2.object ∙ ap (λ (y : Version). y.object) (sym is);
-            produced = y.2.produced ∙ ap (λ (y : Version). y.produced) (sym is);
-            storage = y.2.storage ∙ ap (λ (y : Version). y.storage) (sym is);
-          })
+          inl (
+            x,
+            ap (get S.versions) same ∙ there,
+            record {
+              object = y.2.object ∙ ap (λ (y : Version). y.object) (sym is);
+              produced = y.2.produced ∙ ap (λ (y : Version). y.produced) (sym is);
+              storage = y.2.storage ∙ ap (λ (y : Version). y.storage) (sym is);
+            },
+          )
       | inr gone ↦ absurd (none-some z (sym gone.gone ∙ ap (get left.part) (sym same) ∙ e))
     ]
     | inr apart ↦ elim (settles.others w apart) [
@@ -312,8 +316,7 @@ module _ (m : Machine) (all ts : List Task) (g : Arrivals) (S : State) (ground :
       holders_by ts g Nacked holds_now
       (λ w z p e at. openers_now w z p (sym (ap (λ vs. get vs w) versions) ∙ e) at)
       (λ o next e.
-      let r = h.holders.records o next (sym (ap (λ ks. get ks o) (links-nack m S v)) ∙ e) in
-      (
+      let r = h.holders.records o next (sym (ap (λ ks. get ks o) (links-nack m S v)) ∙ e) in (
         r.0,
         ap (λ f. operand_at f o) (λ i. (Leaves-after_event m S (event.Nack v) i).flight) ∙ r.1,
         λ l. stays_by (tells left.sent o) (phase_of S o) r.2 (sym (phase_now o) ∙ l),

@@ -310,8 +310,7 @@ module _ (m : Machine) (all ts : List Task) (g : Arrivals) (S : State) (ground :
       (λ q next e. elim (decide_key name_order q o) [
         | inl same ↦ absurd (no_link next (ap (get After.mail.links) (sym same) ∙ e))
         | inr apart ↦
-            let r = h.holders.records q next (sym (links_left q) ∙ e) in
-            (
+            let r = h.holders.records q next (sym (links_left q) ∙ e) in (
               r.0,
               ap (λ (l : LookUps). l.station) (looked_other q apart) ∙ r.1,
               λ gone. r.2 (sym (ap phase_at (looked_other q apart)) ∙ gone),

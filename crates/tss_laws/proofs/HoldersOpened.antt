@@ -86,8 +86,7 @@ module _ (m : Machine) (all ts : List Task) (g : Arrivals) (S : State) (ground :
       let last = ap (λ (k : Follow). k.last) same in
       let all = ((h.chains.opens o c opening).after f to).last
       ∙ ap (λ r. registered_of r + opening_reader (get S.mail.opens f.version) + uses_of S.mail.uses f.version) there in
-      let released = ap (λ (y : Version). y.released) is ∙ d.1 ∙ last in
-      (
+      let released = ap (λ (y : Version). y.released) is ∙ d.1 ∙ last in (
         ap (λ (y : Version). y.produced) is ∙ d.0,
         few u.registered u.released (opening_reader (get S.mail.opens f.version)) (uses_of S.mail.uses f.version) f.last
             all released,
@@ -165,12 +164,15 @@ module _ (m : Machine) (all ts : List Task) (g : Arrivals) (S : State) (ground :
     | inl same ↦ elim settles.itself [
       | inl alike ↦
           let y = from_alike linked rest.part f.version alike z (ap (get rest.part) (sym same) ∙ e) in
-          let is = is_front y.0 y.1 in
-          (u, ap (get S.versions) same ∙ there, record {
-            object = y.2.object ∙ ap (λ (y : Version). y.object) (sym is);
-            produced = y.2.produced ∙ ap (λ (y : Version). y.produced) (sym is);
-            storage = y.2.storage ∙ ap (λ (y : Version). y.storage) (sym is);
-          })
+          let is = is_front y.0 y.1 in (
+            u,
+            ap (get S.versions) same ∙ there,
+            record {
+              object = y.2.object ∙ ap (λ (y : Version). y.object) (sym is);
+              produced = y.2.produced ∙ ap (λ (y : Version). y.produced) (sym is);
+              storage = y.2.storage ∙ ap (λ (y : Version). y.storage) (sym is);
+            },
+          )
       | inr gone ↦ absurd (none-some z (sym gone.gone ∙ ap (get rest.part) (sym same) ∙ e))
     ]
     | inr other ↦ elim (settles.others w other) [

@@ -126,7 +126,7 @@ module _ (ts : List Task) (xs : List OpName) (S T : State) (v : OpName) (x z : V
 not_early : (p : Phase) → has_released p ≡ true → (p ≢ Waiting) × (p ≢ Told)
 not_early p e =
     let clash : (q : Phase) → has_released q ≡ false → p ≢ q = λ q late f.
-      not_both (has_released p) e (ap has_released f ∙ late) in
+    not_both (has_released p) e (ap has_released f ∙ late) in
     (clash Waiting refl, clash Told refl)
 
 told_first : (p : Phase) → p ≡ Told → p ≡ Waiting → ⊥

@@ -90,7 +90,7 @@ module _ (m : Machine) (ts : List Task) (g : Arrivals) (S : State) (h : HasReade
           holds = λ c k. holds_after S Finished b.task.number (finished_task m S w b x busy flying)
               (flight-finish m S w b x busy flying) Any ts g orderly holders
               (λ q r fit same there early.
-                absurd (late_ready (phase_of S q) (ready q r same there) early)) a c p tt at k;
+              absurd (late_ready (phase_of S q) (ready q r same there) early)) a c p tt at k;
           station = finish_station a;
         })
         (λ a c k. let s = finish_station a k.0 k.1 in (s.0, s.1, sym s.2 ∙ k.2))

@@ -105,8 +105,11 @@ module _ (m : Machine) (i : ImageState) (all ts : List Task) (S : State) (ground
       let last = ap (λ f. taken_by f.inbox f.spawned) one.front in
       let before = ap (λ x. taken_by x S.main.spawned) one.empty in (
         omega (arith, spawned),
-        λ n t. (t.0, let few = t.1 in fewer n (taken_by T.inbox T.main.spawned) S.main.spawned
-            (taken_by S.inbox S.main.spawned) few last before),
+        λ n t. (
+          t.0,
+          let few = t.1 in fewer n (taken_by T.inbox T.main.spawned) S.main.spawned
+              (taken_by S.inbox S.main.spawned) few last before,
+        ),
       )
     where
       fewer : (n a s b : ℕ) → n ≤ a → a ≡ suc s - 1 → b ≡ s → n ≤ b
@@ -138,8 +141,11 @@ module _ (m : Machine) (i : ImageState) (all ts : List Task) (S : State) (ground
               ∙ at_inserted nat_order S.flight p.task.number (entered p.task),
           entered_under p.task,
         )
-        | inr other ↦ inl (t.0, earlier n p.task.number (taken_by T.inbox T.main.spawned) S.main.spawned
-            (taken_by S.inbox S.main.spawned) t.1 now before newest.number other)
+        | inr other ↦ inl (
+          t.0,
+          earlier n p.task.number (taken_by T.inbox T.main.spawned) S.main.spawned
+              (taken_by S.inbox S.main.spawned) t.1 now before newest.number other,
+        )
       ])
       (StayUnder-after_event m S event.Take (λ w e. cc))
     where
@@ -209,8 +215,7 @@ module _ (m : Machine) (i : ImageState) (all ts : List Task) (S : State) (ground
         by None e = (k.0, trap_now ∙ ap (trap_after_finish S.trap b.task.number) e ∙ k.1, k.2)
         by (Some t) e =
             let few = lower_held b.task.number t k.0 in
-            let less = k.2 in
-            (
+            let less = k.2 in (
               lower_trap b.task.number t (Some k.0),
               trap_now ∙ ap (trap_after_finish S.trap b.task.number) e
                   ∙ ap (λ x. Some (lower_trap b.task.number t x)) k.1,

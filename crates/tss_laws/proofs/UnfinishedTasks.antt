@@ -49,8 +49,7 @@ module _ (f : Numbered Flying) where
     | inl is ↦
         let one = same_Some u.0 x (sym u.1 ∙ ap (get f) is ∙ there) in
         let open_yet = ap has_finished (same ∙ ap (λ (x : Flying). x.stage) (sym one)) ∙ u.2 in
-        let stays = not_gone y open_yet in
-        (
+        let stays = not_gone y open_yet in (
           y,
           ap (get (remaining_tasks f t y)) is
               ∙ ap (λ b. get (if b then remove f t else insert f t y) t) stays

@@ -211,11 +211,11 @@ carried_after e m i all ts g S f on = record {
     room = HasRoom-after_event m all ts g S f.ground f.control f.values.room f.buffers e on;
     main = keeps_main e m i all ts g S f on;
     naming =
-    HasNaming-after_event m i all ts g S f.ground f.code f.pieces f.values.home f.values.main f.values.naming e on;
+        HasNaming-after_event m i all ts g S f.ground f.code f.pieces f.values.home f.values.main f.values.naming e on;
   };
   fixed =
-  λ a fixed. same_fixed m i f.accepted all ts g S f.ground f.control f.buffers f.code f.values.workers f.values.returns
-  f.operands f.outputs a fixed e ∙ f.fixed a fixed;
+      λ a fixed. same_fixed m i f.accepted all ts g S f.ground f.control f.buffers f.code f.values.workers f.values.returns
+      f.operands f.outputs a fixed e ∙ f.fixed a fixed;
 }
 
 -- every event keeps the values

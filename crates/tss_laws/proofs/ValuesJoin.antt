@@ -30,7 +30,6 @@ on_run : (b : Bool) (next : Option State) (T : State) → cond b next None ≡ S
 on_run true next T e = (refl, e)
 on_run false next T e = absurd (none-some T e)
 
-
 module _ (m : Machine) where
   -- the events before the last, and the last
   pub after_events-push : (es : List Event) (e : Event) (S T : State) → after_events m S es ≡ Some T → IsEnabled m T e
