@@ -16,7 +16,7 @@ ghost use Rattle.tss_laws.specs.NoFalseWait.{QueuedLaw};
 ghost use Rattle.tss_laws.specs.UseCounts.{ReadersLaw};
 ghost use Rattle.tss_laws.specs.MessageCounts.{MessagesLaw};
 ghost use Rattle.tss_laws.specs.Controlled.{RoundLaw, ControlLaw, OneMessageLaw};
-ghost use Rattle.tss_laws.specs.Refinement.{SizesLaw};
+ghost use Rattle.tss_laws.specs.Refinement.{ResultLaw, SizesLaw, ProducedBytesLaw, WorkerBytesLaw};
 ghost use Rattle.tss_laws.specs.MainInOrder.{MainInOrderLaw, MainCutOffLaw, MainStoresLaw};
 
 /// Spawned tasks are numbered from 1 in their order, at most as many as there may be, and each with at most as many
@@ -134,6 +134,25 @@ pub fn control()
 /// Of the decode, open, use, ready, release and bye of an operand at most one is under way.
 pub fn one_message()
     ensures { OneMessageLaw }
+{}
+
+/// A finished run has the result of program order: its ending, its number of tasks and its output, and at home its memory,
+/// unless program order ends by the trap of a task. So it is for every accepted image, every admissible machine and every
+/// order of events, where program order has the machine's limits.
+pub fn result()
+    ensures { ResultLaw }
+{}
+
+/// A produced version has a storage. Where program order starts the task that writes the version, and runs it to its end,
+/// the storage has the bytes of the version's object right after that task there.
+pub fn produced_bytes()
+    ensures { ProducedBytesLaw }
+{}
+
+/// A busy worker is where program order has its task after as many instructions, where that runs all earlier tasks to their
+/// ends: in registers, scratch memory and the bytes of each operand; and a trap on the worker is the task's trap there.
+pub fn worker_bytes()
+    ensures { WorkerBytesLaw }
 {}
 
 /// None of the seven counts ever exceeds its size.
