@@ -57,8 +57,8 @@ pub mod FlatOperands
 pub mod FlatStarted
 pub mod FlatFixed
 pub mod FlatNumbers
-pub mod StoreFrames
 pub mod StoreViews
+pub mod StoreFrames
 pub mod RunKeeps
 pub mod MainFollows
 pub mod MainEvent

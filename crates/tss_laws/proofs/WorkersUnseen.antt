@@ -90,8 +90,8 @@ module _ (m : Machine) (i : ImageState) (all ts : List Task) (g : Arrivals) (S :
             let same = one_object m all ts g S ground control o d p c.operand a holds.among opens.operand inside
             (inside_covers c.operand.object a within) in
             let own = writes_own m all ts g S ground control buffers o p s holds writer in
-            let version : IsVersionOf S c.operand.object o = (holds.told.version, ap (get S.versions) (sym own) ∙ holds.told.there,
-            holds.told.object ∙ same) in
+            let version : IsVersionOf S c.operand.object o =
+            (holds.told.version, ap (get S.versions) (sym own) ∙ holds.told.there, holds.told.object ∙ same) in
             let low = opens.behind o version in
             let high = (opens.first first).first o (inl version) in
             absurd (omega (arith, low, high)))
