@@ -1,27 +1,22 @@
 -- What a worker leaves of the bytes that others have, and what a copy brings home.
-use Rattle.std.proofs.Common.{◌≡◌, ℕ, zero, suc, ◌+◌, ◌-◌, ◌<◌, ◌≤◌, inl, inr, Bool, true, false, Some, None, List, [], ◌∷◌, length, drop, refl, sym, ap, subst, ◌∙◌, arith, nat_le, nat_lt}
-use Rattle.std.specs.Prelude.{cond, slice_get, slice_index, min, ◌&&◌}
-use Rattle.std.specs.List.{list_any}
-use Rattle.std.proofs.lemmas.Bool.{cond-true, cond-false, and_parts, or_cases, le-leb, lt-ltb, and_from, both_ways, cases_lt}
+use Rattle.std.proofs.Common.{◌≡◌, ℕ, ◌+◌, ◌-◌, ◌<◌, ◌≤◌, inl, inr, true, false, Some, List, length, drop, refl, ap, ◌∙◌, arith, nat_le, nat_lt}
+use Rattle.std.specs.Prelude.{slice_get, slice_index, min}
+use Rattle.std.proofs.lemmas.Bool.{le-leb, lt-ltb, and_from, both_ways, cases_lt}
 use Rattle.std.proofs.lemmas.List.{get_or-take, get_or-drop, length-take, length-drop}
 use Rattle.tss_base.specs.declared.range.Range.{Range}
 use Rattle.tss_base.specs.declared.operand.OpName.{OpName}
 use Rattle.tss_base.specs.declared.operand.Operand.{Operand}
 use Rattle.tss_base.specs.declared.machine.Limits.{Limits}
 use Rattle.tss_base.specs.Image.{SegmentState}
-use Rattle.tss_base.specs.Range.{contains, end_of}
-use Rattle.tss_model.specs.Memory.{MemoryRange, Memory, covers, scratch_range, byte_at, code_word, zeros}
-use Rattle.tss_model.specs.Access.{TaskActor, writes, reads, operands_of}
-use Rattle.tss_model.specs.Core.{Write, Stepped, Executed, Called, Ended, Trapped, Touched, core_step}
-use Rattle.tss_model.specs.TaskRun.{TaskState, repeated, is_over, task_byte, task_write, task_on, task_step}
+use Rattle.tss_base.specs.Range.{end_of}
+use Rattle.tss_model.specs.Memory.{Memory, covers, byte_at, zeros}
+use Rattle.tss_model.specs.Access.{writes, operands_of}
+use Rattle.tss_model.specs.Core.{Write}
 use Rattle.tss_protocol.specs.Mail.{StorageName, Home, Buffer}
 use Rattle.tss_protocol.specs.State.{Busy, CopyState}
 use Rattle.tss_protocol.specs.Buffers.{piece_len, piece_of, home_after_copy}
-use Rattle.tss_protocol.specs.Workers.{Stores as WorkerStores, Placed, placed_in, storage_byte, worker_byte, worker_write, storage_write, storage_zeroed, outputs_zeroed, exec_stretch, task_state_of}
-use Rattle.tss_laws.proofs.FlatCore.{IsStep, core_step-step}
-use Rattle.tss_laws.proofs.FlatTask.{MayWrite, granted_write, covers_inside, written_where_unread}
-use Rattle.tss_laws.proofs.FlatTaskAlike.{task_step-over, task_step-spent, task_step-core}
-use Rattle.tss_laws.proofs.StoreBytes.{IsPlaced, AreSeparate, LiesIn, beside_write, unwritten_byte, written_byte, buffer_beside, worker_write-there}
+use Rattle.tss_protocol.specs.Workers.{Stores as WorkerStores, placed_in, storage_byte, storage_write, storage_zeroed, outputs_zeroed, exec_stretch}
+use Rattle.tss_laws.proofs.StoreBytes.{AreSeparate, LiesIn, beside_write, unwritten_byte, written_byte, buffer_beside}
 use Rattle.tss_laws.proofs.StoreStart.{zeroed_beside}
 use Rattle.tss_laws.proofs.StoreViews.{AreUnseen, outputs_zeroed-unseen, exec_stretch-unseen}
 
@@ -96,7 +91,8 @@ outputs_zeroed-left limits s operands storages next other a beside =
 -- ---- copies
 
 -- a piece is as long as its length, or as what is left of the bytes
-pub length-piece : (c : CopyState) (bytes : List ℕ) → length (piece_of c bytes) ≡ min (piece_len c) (length bytes - c.moved)
+pub length-piece : (c : CopyState) (bytes : List ℕ)
+    → length (piece_of c bytes) ≡ min (piece_len c) (length bytes - c.moved)
 length-piece c bytes =
     length-take (piece_len c) (drop c.moved bytes) ∙ ap (min (piece_len c)) (length-drop c.moved bytes)
 
