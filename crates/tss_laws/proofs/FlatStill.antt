@@ -30,7 +30,8 @@ pub record SameButEnding (x y : MainState) : Type 0 where
 abbrev pub IsStill : Flat → Flat → Type 0
 IsStill f g = SameButEnding f.main g.main × (g.memory ≡ f.memory)
 
-same_ended : (x : MainState) → SameButEnding x x
+-- where nothing changes
+pub same_ended : (x : MainState) → SameButEnding x x
 same_ended x = record { registers = refl; spawned = refl; epoch = refl; pieces = refl }
 
 -- as many instructions are completed

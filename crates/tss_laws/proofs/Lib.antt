@@ -304,3 +304,5 @@ pub mod ValuesProducedLaw
 pub mod UndecodedOperands
 pub mod RoundSteps
 pub mod FlatStill
+pub mod UnclaimedMemory
+pub mod ValuesMainLaw
