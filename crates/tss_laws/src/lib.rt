@@ -89,7 +89,7 @@ pub fn asking()
 /// one that ends, of each task take, start, finish, one for each instruction and one more, and of each operand ten and one
 /// for each 64 bytes of the longest object.
 pub fn bound()
-    ensures { EventsLaw }
+    ensures events { EventsLaw }
 {}
 
 /// A place is held under the name of an open under way, of a version, of one that is copied home, or of one that is gone
@@ -104,7 +104,7 @@ pub fn held_places()
 /// an input needs the last that writes its object, an inout that one and those that read the object since, and an output
 /// none.
 pub fn no_false_wait()
-    ensures { QueuedLaw }
+    ensures queued { QueuedLaw }
 {}
 
 /// Neither an entry of a renaming table nor a version counts more readers than a run may have operands.
@@ -136,28 +136,18 @@ pub fn one_message()
     ensures { OneMessageLaw }
 {}
 
-/// A finished run has the result of program order: its ending, its number of tasks and its output, and at home its memory,
-/// unless program order ends by the trap of a task. So it is for every accepted image, every admissible machine and every
-/// order of events, where program order has the machine's limits.
-pub fn result()
-    ensures { ResultLaw }
-{}
-
-/// A produced version has a storage. Where program order starts the task that writes the version, and runs it to its end,
-/// the storage has the bytes of the version's object right after that task there.
-pub fn produced_bytes()
-    ensures { ProducedBytesLaw }
-{}
-
-/// A busy worker is where program order has its task after as many instructions, where that runs all earlier tasks to their
-/// ends: in registers, scratch memory and the bytes of each operand; and a trap on the worker is the task's trap there.
-pub fn worker_bytes()
-    ensures { WorkerBytesLaw }
-{}
-
-/// None of the seven counts ever exceeds its size.
-pub fn sizes()
-    ensures { SizesLaw }
+/// Every run refines the execution in program order under the machine's limits, for every accepted image, every admissible
+/// machine and every order of events. A finished run has the ending, the number of tasks and the output of program order,
+/// and at home its memory, unless program order ends by the trap of a task. None of the seven counts ever exceeds its
+/// size. A produced version has a storage; where program order starts the task that writes the version, and runs it to
+/// its end, the storage has the bytes of the version's object right after that task. A busy worker is where program order
+/// has its task after as many instructions, where that runs all earlier tasks to their ends: in registers, scratch memory
+/// and the bytes of each operand; and a trap on the worker is the task's trap there.
+pub fn refines()
+    ensures result { ResultLaw }
+    ensures sizes { SizesLaw }
+    ensures produced_bytes { ProducedBytesLaw }
+    ensures worker_bytes { WorkerBytesLaw }
 {}
 
 /// One event of main. Where main's registers, number of spawned tasks, epoch, pieces and ending are those of program
