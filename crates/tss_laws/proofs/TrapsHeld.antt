@@ -1,4 +1,4 @@
--- The held trap is that of program order, where its task is started there, and no task that traps there ends without it.
+-- The held trap is that of program order, where its task is started there. No task that traps there ends without it.
 use Rattle.std.proofs.Common.{◌≡◌, ◌≢◌, ◌⊎◌, ℕ, suc, ◌+◌, ◌<◌, ◌≤◌, Bool, true, false, cond, List, Option, Some, None, refl, sym, ap, ◌∙◌, subst, inl, inr, arith}
 use Rattle.std.specs.Prelude.{◌-◌, nat_lt}
 use Rattle.std.specs.FinMap.{get, insert}
@@ -115,6 +115,7 @@ module _ (m : Machine) (i : ImageState) (all ts : List Task) (S : State) (ground
       fewer : (n a s b : ℕ) → n ≤ a → a ≡ suc s - 1 → b ≡ s → n ≤ b
       fewer n a s b few now before = omega (arith, few, now, before)
 
+  -- after main's event
   pub HasTraps-main : IsEnabled m S event.Main → HasTraps m i (after_event m S event.Main)
   HasTraps-main on =
       let T = after_event m S event.Main in
@@ -229,7 +230,8 @@ module _ (m : Machine) (i : ImageState) (all ts : List Task) (S : State) (ground
     taken_few : IsTaken S b.task.number → (0 < b.task.number) × (b.task.number ≤ S.main.spawned)
     taken_few t = (let a = t.0 in omega (arith, a), by S.inbox refl t.1)
       where
-        by : (x : Option Task) → S.inbox ≡ x → b.task.number ≤ taken_by x S.main.spawned → b.task.number ≤ S.main.spawned
+        by : (x : Option Task) → S.inbox ≡ x → b.task.number ≤ taken_by x S.main.spawned
+            → b.task.number ≤ S.main.spawned
         by None e few = few
         by (Some t) e few = omega (arith, few)
 

@@ -169,7 +169,8 @@ module _ (m : Machine) (S : State) where
   same_flight T same n u = (u.0, ap (λ f. get f n) same ∙ u.1, u.2)
 
   -- each task stays under way through every event but a finish
-  pub StayUnder-after_event : (e : Event) → ((w : ℕ) → e ≢ event.Finish w) → StayUnder S.flight (after_event m S e).flight
+  pub StayUnder-after_event : (e : Event) → ((w : ℕ) → e ≢ event.Finish w)
+      → StayUnder S.flight (after_event m S e).flight
   unfolding after_event
   StayUnder-after_event event.Main other =
       same_flight (after_event m S event.Main) (λ i. (Leaves-after_event m S event.Main i).flight)

@@ -197,8 +197,8 @@ keeps_main e m i all ts g S f on =
 keeps_workers : (e : Event) → IsPartKept e (λ m i all ts S. HasWorkers m i S)
 keeps_workers e m i all ts g S f on =
     HasWorkers-after_event m i all ts g S f.ground f.control f.buffers f.code f.accepted f.fixed
-    (λ e a fixed. same_fixed m i f.accepted all ts g S f.ground f.control f.buffers f.code f.values.workers f.values.returns
-    f.operands f.outputs a fixed e)
+    (λ e a fixed. same_fixed m i f.accepted all ts g S f.ground f.control f.buffers f.code f.values.workers
+    f.values.returns f.operands f.outputs a fixed e)
     (finds_left m i all ts S f.ground f.values.main f.values.naming) f.values e on
 
 carried_after : (e : Event) → IsPartKept e HasCarried
@@ -214,8 +214,8 @@ carried_after e m i all ts g S f on = record {
         HasNaming-after_event m i all ts g S f.ground f.code f.pieces f.values.home f.values.main f.values.naming e on;
   };
   fixed =
-      λ a fixed. same_fixed m i f.accepted all ts g S f.ground f.control f.buffers f.code f.values.workers f.values.returns
-      f.operands f.outputs a fixed e ∙ f.fixed a fixed;
+      λ a fixed. same_fixed m i f.accepted all ts g S f.ground f.control f.buffers f.code f.values.workers
+      f.values.returns f.operands f.outputs a fixed e ∙ f.fixed a fixed;
 }
 
 -- every event keeps the values
