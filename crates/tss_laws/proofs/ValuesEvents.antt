@@ -1,5 +1,5 @@
 -- Every event keeps the values of program order, so every run has them, and a finished run has its result.
-use Rattle.std.proofs.Common.{ℕ, List, [], ◌∙◌}
+use Rattle.std.proofs.Common.{List, [], ◌∙◌}
 use Rattle.tss_base.specs.declared.operand.Task.{Task}
 use Rattle.tss_base.specs.declared.machine.Machine.{Machine}
 use Rattle.tss_base.specs.declared.event.Event.{Event}
