@@ -16,7 +16,9 @@ ghost use Rattle.tss_laws.specs.NoFalseWait.{QueuedLaw};
 ghost use Rattle.tss_laws.specs.UseCounts.{ReadersLaw};
 ghost use Rattle.tss_laws.specs.MessageCounts.{MessagesLaw};
 ghost use Rattle.tss_laws.specs.Controlled.{RoundLaw, ControlLaw, OneMessageLaw};
-ghost use Rattle.tss_laws.specs.Refinement.{ResultLaw, SizesLaw, ProducedBytesLaw, WorkerBytesLaw};
+ghost use Rattle.tss_laws.specs.Refinement.{
+    ResultLaw, SizesLaw, ProducedBytesLaw, WorkerBytesLaw, MainStateLaw,
+};
 ghost use Rattle.tss_laws.specs.MainInOrder.{MainInOrderLaw, MainCutOffLaw, MainStoresLaw};
 
 /// Spawned tasks are numbered from 1 in their order, at most as many as there may be, and each with at most as many
@@ -142,12 +144,15 @@ pub fn one_message()
 /// size. A produced version has a storage; where program order starts the task that writes the version, and runs it to
 /// its end, the storage has the bytes of the version's object right after that task. A busy worker is where program order
 /// has its task after as many instructions, where that runs all earlier tasks to their ends: in registers, scratch memory
-/// and the bytes of each operand; and a trap on the worker is the task's trap there.
+/// and the bytes of each operand; and a trap on the worker is the task's trap there. Where program order has a state after
+/// as many instructions of main, main's registers, named objects, number of spawned tasks and pieces are as there, and so
+/// is home at each address but those of objects that have an entry, are in the inbox, or are still to be decoded.
 pub fn refines()
     ensures result { ResultLaw }
     ensures sizes { SizesLaw }
     ensures produced_bytes { ProducedBytesLaw }
     ensures worker_bytes { WorkerBytesLaw }
+    ensures main_state { MainStateLaw }
 {}
 
 /// One event of main. Where main's registers, number of spawned tasks, epoch, pieces and ending are those of program
