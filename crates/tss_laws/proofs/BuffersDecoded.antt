@@ -110,8 +110,7 @@ module _ (m : Machine) (all ts : List Task) (g : Arrivals) (S : State) (ground :
     own_then : (w b : OpName) → Was w b → Own w b
     own_then w b (inl t) = h.own w b t
     own_then w b (inr q) =
-        let among = decode_among m all ts S ground k.orderly o p there in
-        (
+        let among = decode_among m all ts S ground k.orderly o p there in (
           p,
           p,
           ap (operand_among ts) q.0 ∙ among,

@@ -55,8 +55,8 @@ buffers_longer last ts us S long h = record {
 buffers_empty : (ts us : List Task) (S : State) → len S.buffers ≡ 0 → HasBuffers ts S → HasBuffers us S
 buffers_empty ts us S empty h =
     let none : (v b : OpName) → HasBuffer S v b → ⊥ = λ v b t.
-      let f = h.held v b t in
-      none-some f.0 (sym (absent_empty S.buffers b empty) ∙ f.1) in
+    let f = h.held v b t in
+    none-some f.0 (sym (absent_empty S.buffers b empty) ∙ f.1) in
     record {
       held = λ v b t. absurd (none v b t);
       one = λ v w b t u. absurd (none v b t);
@@ -162,8 +162,7 @@ pub HasBuffers-Run : (m : Machine) (i : ImageState) (es : List Event) (S : State
     → HasBuffers (round_of m (initial_state i) es) S
 HasBuffers-Run m i es S run =
     (ground_of_runs (λ m all ts g S. IsControlled ts g S × HasBuffers ts S)
-    (λ m all ts g S e ground h on.
-    (
+    (λ m all ts g S e ground h on. (
       IsControlled-event e (keeps_groups e) m all ts g S ground h.0 on
           ((keeps_groups e).order m all ts g S ground h.0 on),
       HasBuffers-after_event m all ts g S ground h.0 h.1 e on,

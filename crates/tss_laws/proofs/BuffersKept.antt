@@ -61,6 +61,7 @@ pub version_had : (S : State) (us : Named Version) → KeepsStorages S.versions 
     → get us v ≡ Some y → y.storage ≡ Some (Buffer b) → VersionHas S v b
 version_had S us k v b y e s = let h = k v y e in (h.0, h.1, sym h.2 ∙ s)
 
+-- so each buffer has one holder
 pub HasBuffers-same : (ts : List Task) (S T : State) → SameHolders S T → HasBuffers ts S → HasBuffers ts T
 HasBuffers-same ts S T k h = buffers_kept ts S T h (record {
   opens = λ v b t. inl (t.0, sym (ap (λ os. get os v) k.opens) ∙ t.1, t.2);
@@ -119,6 +120,7 @@ module _ (ts : List Task) (S T : State) (v s : OpName) (h : HasBuffers ts S) (k 
         below b.task v.task w.task f.5 (subst (λ (q : OpName). v.task < q.task) (sym p.0) k.younger),
       )
 
+  -- each buffer has one holder
   pub buffers_given : HasBuffers ts T
   buffers_given = record {
     held = λ w b t. held_then w b (k.from w b t);

@@ -111,6 +111,7 @@ module _ (vs : Named Version) (o : OpName) (c : OpenContents) (f : Follow) (apar
 
 module _ (m : Machine) (all ts : List Task) (g : Arrivals) (S : State) (ground : HasGroundwork m all ts S)
     (k : IsControlled ts g S) (o : OpName) (c : OpenContents) (opening : get S.mail.opens o ≡ Some c) where
+  -- no version has the name yet
   pub fresh : get S.versions o ≡ None
   fresh = (ground.openings.opens o c opening).no_version
 

@@ -101,6 +101,7 @@ bridged_none : (s : OpName) (o : Option Follow) → followed_by s o ≡ None →
 bridged_none s None e = refl
 bridged_none s (Some h) e = absurd (none-some (record h { version = s }) (sym e))
 
+-- a settled version stays so where its successor is bridged
 pub settled_bridged : (s : OpName) (y : Version) → IsSettled y → IsSettled (bridged s y)
 settled_bridged s y k = record {
   dies = λ f to.

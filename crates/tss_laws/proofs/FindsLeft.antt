@@ -38,5 +38,5 @@ module _ (m : Machine) (i : ImageState) (all ts : List Task) (S : State) (ground
         t.1,
         λ writer. runs_on m i all ts S ground main naming v t.0 known.starts.0 s t.1 known.starts.1 t.2,
         sym (found_between m i all ts S ground main naming v w q p t.0 s from known.operand same less
-        (subst (λ x. NoWriterBetween ts x v w) (sym same) none) t.1 known.starts),
+            (subst (λ x. NoWriterBetween ts x v w) (sym same) none) t.1 known.starts),
       )

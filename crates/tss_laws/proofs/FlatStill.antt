@@ -1,5 +1,5 @@
 -- A step of program order that completes no instruction of main changes nothing but main's ending.
-use Rattle.std.proofs.Common.{◌≡◌, ℕ, suc, ◌+◌, Bool, true, false, List, Option, Some, None, Result, Ok, Err, refl, sym, ap, ◌∙◌, subst, arith}
+use Rattle.std.proofs.Common.{◌≡◌, ℕ, ◌+◌, Bool, true, false, List, Option, Some, None, Result, Ok, Err, refl, sym, ap, ◌∙◌, subst, arith}
 use Rattle.std.specs.Prelude.{cond, is_some, is_none, nat_lt, length, ◌==◌}
 use Rattle.tss_base.specs.declared.range.Range.{Range}
 use Rattle.tss_base.specs.declared.operand.Task.{Task}
@@ -7,14 +7,14 @@ use Rattle.tss_base.specs.declared.ending.Trap.{Trap}
 use Rattle.tss_base.specs.declared.machine.Limits.{Limits}
 use Rattle.tss_base.specs.Image.{SegmentState}
 use Rattle.tss_model.specs.Memory.{Memory, range_of, bytes_of}
-use Rattle.tss_model.specs.Registers.{Registers, trap_of}
+use Rattle.tss_model.specs.Registers.{trap_of}
 use Rattle.tss_model.specs.Causes.{load_denied, main_touch, output_full}
 use Rattle.tss_model.specs.Access.{MainActor, touches}
 use Rattle.tss_model.specs.Core.{Stepped, Executed, Called, Ended, Trapped, Touched}
 use Rattle.tss_model.specs.Spawn.{spawn_of}
-use Rattle.tss_model.specs.TaskRun.{TaskEnd, task_end}
-use Rattle.tss_model.specs.MainStep.{Piece, MainState, Flat, Call, ExitCall, Spawn, Barrier, Print, Unknown, main_on, main_core, main_step, main_call, next_call, has_spent, output_of, spawn_on, spawn_call, spawn_done, call_done, main_trapped, main_refused, print_done, print_call, print_some, print_range}
-use Rattle.tss_model.specs.InOrder.{flat_step, flat_by, call_ran, task_ran, main_after_task}
+use Rattle.tss_model.specs.TaskRun.{task_end}
+use Rattle.tss_model.specs.MainStep.{MainState, Flat, Call, ExitCall, Spawn, Barrier, Print, Unknown, main_on, main_core, main_step, main_call, next_call, has_spent, output_of, spawn_on, spawn_call, spawn_done, call_done, main_trapped, main_refused, print_done, print_call, print_range}
+use Rattle.tss_model.specs.InOrder.{flat_step, call_ran, main_after_task}
 use Rattle.tss_laws.proofs.FlatCore.{IsStep}
 use Rattle.tss_laws.proofs.FlatMain.{main_core-step}
 use Rattle.tss_laws.proofs.FlatSteps.{main_step-ended, main_step-spent, main_step-core, flat_step-main, flat_step-call}
@@ -30,7 +30,8 @@ pub record SameButEnding (x y : MainState) : Type 0 where
 abbrev pub IsStill : Flat → Flat → Type 0
 IsStill f g = SameButEnding f.main g.main × (g.memory ≡ f.memory)
 
-same_ended : (x : MainState) → SameButEnding x x
+-- where nothing changes
+pub same_ended : (x : MainState) → SameButEnding x x
 same_ended x = record { registers = refl; spawned = refl; epoch = refl; pieces = refl }
 
 -- as many instructions are completed

@@ -70,6 +70,7 @@ posted-nothing m (Nack v) h = (refl, refl)
 posted-nothing m (Retire v) h = (refl, refl)
 posted-nothing m (Gone v g) h = absurd h
 
+-- and so do messages of which none holds a buffer
 pub posted_all-nothing : (m : Mail) (xs : List Message) → AllSent HoldsNothing xs
     → ((posted_all m xs).opens ≡ m.opens) × ((posted_all m xs).gones ≡ m.gones)
 posted_all-nothing m [] h = (refl, refl)

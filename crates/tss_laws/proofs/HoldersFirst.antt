@@ -79,6 +79,7 @@ module _ (vs : Named Version) (o : OpName) (c : OpenContents) (fresh : get vs o 
   sent_first None e = tt
   sent_first (Some s) e = ((refl, (new, at_new, (new_by c.operand.mode refl).1 ∙ e)), tt)
 
+  -- an open that follows nothing tells its operand where it holds
   pub opens_first : OpensHeld vs with_new o c (ready_with o o c.storage)
   opens_first =
       let n = new_by c.operand.mode refl in

@@ -287,6 +287,7 @@ module _ (m : Machine) (all ts : List Task) (g : Arrivals) (S : State) (ground :
       let sent = phase_opening (look_ups S o) c stands.0.decoding opening in
       none-some next (sym ((h.holders.links o c.operand r.kept p r.there).early (inr sent)) ∙ sym (links_left o) ∙ e)
 
+  -- who holds what, after it
   pub holders_opened : HasHolders ts come After
   holders_opened =
       holders_by ts come After

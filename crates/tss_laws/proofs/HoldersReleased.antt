@@ -325,6 +325,7 @@ module _ (m : Machine) (all ts : List Task) (g : Arrivals) (S : State) (ground :
     | inr apart ↦ other_holds q apart p e
   ]
 
+  -- who holds what, after it
   pub holders_released : HasHolders ts g T
   holders_released =
       holders_by ts g T each_holds (openers m all ts g S ground h o on c there k) records

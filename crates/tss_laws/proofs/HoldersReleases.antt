@@ -82,6 +82,7 @@ module _ (ts : List Task) (g : Arrivals) (S : State) (h : IsControlled ts g S) (
   same_parts true x = (refl, refl, refl, refl)
   same_parts false x = (refl, refl, refl, refl)
 
+  -- the version that is left has the same object, storage and neighbours
   pub z_parts : (z.object ≡ x.object) × (z.storage ≡ x.storage) × (z.successor ≡ x.successor)
       × (z.predecessor ≡ x.predecessor)
   z_parts = same_parts c.producer x

@@ -173,6 +173,7 @@ module _ (p : Standing) (h : Runs p) where
 
   -- ---- take: a task comes into flight that wasn't there
 
+  -- which tasks run, after it
   pub runs_taken : (t : Task) (inbox : Option Task) → get p.flight t.number ≡ None → Runs (record p {
     inbox = inbox;
     flight = flight_after_take p.flight t;
@@ -258,6 +259,7 @@ module _ (p : Standing) (h : Runs p) where
 
   -- ---- exec: a worker goes on with its task
 
+  -- which tasks run, after it
   pub runs_executed : (w : ℕ) (b c : Busy) → get p.workers w ≡ Some b → c.task ≡ b.task
       → Runs (record p { workers = insert p.workers w c })
   runs_executed w b c there task = record {
@@ -284,6 +286,7 @@ module _ (p : Standing) (h : Runs p) where
 
   -- ---- finish: a worker is idle, and its task has finished
 
+  -- which tasks run, after it
   pub runs_finished : (w : ℕ) (b : Busy) (x : Option Flying) → get p.workers w ≡ Some b
       → Runs (record p { flight = (finished_in p.flight b.task.number x).part; workers = remove p.workers w })
   runs_finished w b None there = record {

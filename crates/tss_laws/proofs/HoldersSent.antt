@@ -89,6 +89,7 @@ abbrev pub opener_from : Bool → Option StorageName → Mode → Phase → Bool
 opener_from true s mode p = produced_opener mode p
 opener_from false s mode p = open_opener s p
 
+-- what a version says of its opener, by whether it is produced and by its storage
 pub version_opener-from : (y : Version) (mode : Mode) (p : Phase)
     → version_opener y mode p ≡ opener_from y.produced y.storage mode p
 version_opener-from y mode p = by y.produced

@@ -301,7 +301,7 @@ settles_held vs v others next = elim (settle_cases vs v others next) [
       let us = unlinked vs v passed.version passed.follow.version in
       let gone = died v passed.version.object (buffer_of passed.version.storage) in
       let by =
-          held_passed vs v passed.version passed.follow passed.gives.there passed.gives.next passed.gives.done n.1 in
+      held_passed vs v passed.version passed.follow passed.gives.there passed.gives.next passed.gives.done n.1 in
       subst (SettlesHeld vs v) (sym passed.is)
       (elim passed.rest [
         | inl quiet ↦

@@ -126,6 +126,7 @@ no_opener_ahead y mode = no_opener_by y mode Ahead (by mode) (at y.storage) y.pr
     at None = refl
     at (Some s) = refl
 
+-- no version has an opener that is being decoded
 pub no_opener_decoding : (y : Version) (mode : Mode) → version_opener y mode Decoding ≡ false
 no_opener_decoding y mode = no_opener_by y mode Decoding (by mode) (at y.storage) y.produced
   where

@@ -347,6 +347,7 @@ module _ (m : Machine) (all ts : List Task) (g : Arrivals) (S : State) (ground :
     ]
   ]
 
+  -- who holds what, after it
   pub holders_used : HasHolders ts New T
   holders_used =
       holders_by ts New T each_holds openers_used records_used

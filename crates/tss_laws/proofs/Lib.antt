@@ -57,8 +57,8 @@ pub mod FlatOperands
 pub mod FlatStarted
 pub mod FlatFixed
 pub mod FlatNumbers
-pub mod StoreFrames
 pub mod StoreViews
+pub mod StoreFrames
 pub mod RunKeeps
 pub mod MainFollows
 pub mod MainEvent
@@ -304,3 +304,5 @@ pub mod ValuesProducedLaw
 pub mod UndecodedOperands
 pub mod RoundSteps
 pub mod FlatStill
+pub mod UnclaimedMemory
+pub mod ValuesMainLaw

@@ -254,9 +254,9 @@ module _ (m : Machine) (i : ImageState) (S : State) (ground : HasGround i S) (on
       called call next (main, spawned) e =
           let f = there call next main spawned e in (
             ap (λ (f : Flat). f.main.epoch) f
-            ∙ call_ran-epoch (frozen i) m.limits beside.memory (main, spawned),
+                ∙ call_ran-epoch (frozen i) m.limits beside.memory (main, spawned),
             ap (λ (f : Flat). f.main.spawned) f
-            ∙ call_ran-spawned (frozen i) m.limits beside.memory (main, spawned),
+                ∙ call_ran-spawned (frozen i) m.limits beside.memory (main, spawned),
           )
 
       after : (p : MainState × Option Task) → HasEpochBeside p.0 → HasEpochBeside (after_call S p).main
@@ -266,9 +266,10 @@ module _ (m : Machine) (i : ImageState) (S : State) (ground : HasGround i S) (on
       by : (c : Option Call) → call_next m S ≡ c → HasEpochBeside (main_by m S c).main
       by None e =
           subst (λ (code : List SegmentState).
-          HasEpochBeside (main_stretch code m.limits m.sizes.quantum (flat_of S)).main) (sym ground.code)
-          (ap (λ (s : MainState). s.epoch) (sym (stretch_main e)),
-          ap (λ (s : MainState). s.spawned) (sym (stretch_main e)))
+          HasEpochBeside (main_stretch code m.limits m.sizes.quantum (flat_of S)).main) (sym ground.code) (
+            ap (λ (s : MainState). s.epoch) (sym (stretch_main e)),
+            ap (λ (s : MainState). s.spawned) (sym (stretch_main e)),
+          )
       by (Some call) e =
           after (main_call m.limits S.home S.main call)
           (called call e (main_call m.limits S.home S.main call) refl)

@@ -123,12 +123,12 @@ module _ (m : Machine) (i : ImageState) (es : List Event) (all ts : List Task) (
   few_links : len S.mail.links ≤ len S.flight * m.limits.max_operands
   few_links =
       let few =
-          few_in_tasks (those_in S.mail.links) (IsMeasure-map S.mail.links)
-          (λ k.
-          let a = those_at S.mail.links k in
-          let one = one_if-le-one (is_some (get S.mail.links k)) in
-          omega (arith, a, one))
-          m.limits.max_operands S.flight in
+      few_in_tasks (those_in S.mail.links) (IsMeasure-map S.mail.links)
+      (λ k.
+      let a = those_at S.mail.links k in
+      let one = one_if-le-one (is_some (get S.mail.links k)) in
+      omega (arith, a, one))
+      m.limits.max_operands S.flight in
       let all = those_all S.mail.links (in_tasks S.flight m.limits.max_operands)
       (λ o x e. let r = h.holders.records o x e in in_flight o r.0 r.1) in
       omega (arith, few, all)

@@ -106,7 +106,7 @@ module _ (m : Machine) (i : ImageState) (all ts : List Task) (S : State) (ground
   round_by_call (Some Print) = still
   round_by_call (Some (Unknown n)) = still
 
--- ---- where program order is cut off
+  -- ---- where program order is cut off
 
   module _ (place : ℕ) (c : Started) (trap : Trap) (before : place < steps_taken S.main)
       (start : started_at i m.limits place ≡ Some c) (trapped : (end_of_started i m.limits c).trap ≡ Some trap) where

@@ -19,6 +19,7 @@ use Rattle.tss_laws.proofs.ReadersKept.{alike_same, same_version, arrivals_kept}
 pub at_set : (g : Arrivals) (v : OpName) (xs : List OpName) → set_arrivals g v xs v ≡ xs
 at_set g v xs = ap (λ b. cond b xs (g v)) (own_name v)
 
+-- at another version they stay
 pub beside_set : (g : Arrivals) (v w : OpName) (xs : List OpName) → w ≢ v → set_arrivals g v xs w ≡ g w
 beside_set g v w xs apart = ap (λ b. cond b xs (g w)) (other_name w v apart)
 

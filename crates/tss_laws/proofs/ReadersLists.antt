@@ -29,6 +29,7 @@ pub has_older : (a b : OpName) (xs : List OpName) → IsNext a b xs → Has a xs
 has_older a b [] h = absurd h
 has_older a b (x ∷ xs) h = inr (older_behind a b x xs h)
 
+-- and the newer one
 pub has_newer : (a b : OpName) (xs : List OpName) → IsNext a b xs → Has b xs
 has_newer a b [] h = absurd h
 has_newer a b (x ∷ []) h = absurd h

@@ -95,9 +95,11 @@ module _ (vs : Named Version) (v : OpName) (x z : Version) (there : get vs v ≡
     | inr p ↦ (y, p.1, refl, refl)
   ]
 
+  -- what holds of all that a version gives way over to holds where one version is written
   pub follows_over_written : (Q : OpName → Type 0) → FollowsOver Q vs → FollowsOver Q Written
   follows_over_written Q over q y f e to way = let w = was_there q y e in over q w.0 f w.1 (sym w.2 ∙ to) way
 
+  -- and so does what stands beside
   pub beside_written : StandsBeside vs x → (y : Version) → get Written v ≡ Some y → StandsBeside Written y
   beside_written beside y e q w f back at to =
       let k = was_there q w at in
@@ -105,6 +107,7 @@ module _ (vs : Named Version) (v : OpName) (x z : Version) (there : get vs v ≡
       let same = same_Some h.0 x (sym h.1 ∙ there) in
       beside q k.0 f (ap (λ (y : Version). y.predecessor) (sym same) ∙ sym h.3 ∙ back) k.1 (sym k.2 ∙ to)
 
+  -- and how few readers there are
   pub few_written : z.registered ≡ x.registered → HasFewReaders vs → HasFewReaders Written
   few_written same few w y f e to = elim (from_inserted name_order vs v z w y e) [
     | inr p ↦ few w y f p.1 to

@@ -40,9 +40,11 @@ alike_by p q a b e f h = subst (λ p. LooksAlike p q) (sym e) (subst (LooksAlike
 pub sent_alike : LooksAlike Decoding Sent
 sent_alike = record { waiting = refl; told = refl; released = refl; arrived = refl }
 
+-- nor between one that is ready and one that releases
 pub releasing_alike : LooksAlike Ready Releasing
 releasing_alike = record { waiting = refl; told = refl; released = refl; arrived = refl }
 
+-- nor between one that leaves and one that has parted
 pub parted_alike : (b : Bool) → LooksAlike Leaving (phase_parted b)
 parted_alike true = record { waiting = refl; told = refl; released = refl; arrived = refl }
 parted_alike false = record { waiting = refl; told = refl; released = refl; arrived = refl }

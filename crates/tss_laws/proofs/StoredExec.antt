@@ -1,6 +1,5 @@
 -- The bytes in the storages of versions after a stretch of a worker.
-use Rattle.std.proofs.Common.{◌≡◌, ℕ, zero, suc, ◌+◌, ◌-◌, ◌<◌, ◌≤◌, Bool, true, false, List, [], ◌∷◌, length, take, Option, Some, None, refl, sym, ap, ◌∙◌, subst, inl, inr, arith, nat_le, nat_lt}
-use Rattle.std.specs.Prelude.{slice_get, slice_index}
+use Rattle.std.proofs.Common.{◌≡◌, ℕ, zero, suc, ◌+◌, ◌<◌, ◌≤◌, true, List, take, Option, Some, None, refl, sym, ap, ◌∙◌, subst, inl, inr, arith, nat_le, nat_lt}
 use Rattle.std.specs.FinMap.{get, insert}
 use Rattle.std.proofs.lemmas.Bool.{and_from, le-leb, lt-ltb}
 use Rattle.std.proofs.lemmas.Option.{same_Some}
@@ -16,7 +15,7 @@ use Rattle.tss_model.specs.Memory.{covers, byte_at}
 use Rattle.tss_model.specs.Access.{operands_of}
 use Rattle.tss_model.specs.TaskRun.{TaskState}
 use Rattle.tss_protocol.specs.Mail.{StorageName, Home, Buffer}
-use Rattle.tss_protocol.specs.State.{State, Busy, Version}
+use Rattle.tss_protocol.specs.State.{State, Busy}
 use Rattle.tss_protocol.specs.Buffers.{buffer_bytes}
 use Rattle.tss_protocol.specs.Workers.{Stores, exec_stretch, busy_after, stored_bytes}
 use Rattle.tss_protocol.specs.UnitMachine.{after_event, after_exec, stores_of}
@@ -28,30 +27,27 @@ use Rattle.tss_laws.specs.Readers.{Arrivals}
 use Rattle.tss_laws.specs.Control.{HasGroundwork, IsControlled}
 use Rattle.tss_laws.proofs.FlatLoads.{same_bytes}
 use Rattle.tss_laws.proofs.RunKeeps.{HasGround}
-use Rattle.tss_laws.proofs.RoomyStores.{size_executed}
 use Rattle.tss_laws.proofs.StoreFrames.{IsBeside, exec_stretch-left}
-use Rattle.tss_laws.proofs.Values.{content, HasStored, HasWorkers}
-use Rattle.tss_laws.proofs.StoredWorkers.{LeavesBeside, stored_beside}
+use Rattle.tss_laws.proofs.Values.{HasStored, HasWorkers}
+use Rattle.tss_laws.proofs.StoreViews.{exec_stretch-unseen, buffer_unseen}
+use Rattle.tss_laws.proofs.StoredWorkers.{stored_beside}
 use Rattle.tss_laws.proofs.WorkersRuns.{worker_holds, worker_separate}
 
--- ---- lists
-
--- lists of one length that agree on their first elements have the same front
-pub same_front : (n : ℕ) (xs ys : List ℕ) → length xs ≡ length ys
-    → ((k : ℕ) → k < n → slice_index xs k ≡ slice_index ys k) → take n xs ≡ take n ys
-same_front zero xs ys count same = refl
-same_front (suc n) [] [] count same = refl
-same_front (suc n) [] (y ∷ ys) count same = absurd (omega (arith, count))
-same_front (suc n) (x ∷ xs) [] count same = absurd (omega (arith, count))
-same_front (suc n) (x ∷ xs) (y ∷ ys) count same =
-    let first = same 0 (omega arith) in
-    let rest = same_front n xs ys (omega (arith, count)) (λ k small. same (suc k) (omega (arith, small))) in
-    λ j. first j ∷ rest j
+-- ---- objects
 
 -- an address within a range
 pub inside_range : (r : Range) (a : ℕ) → r.base ≤ a → a < r.base + r.len → covers r a ≡ true
 inside_range r a low high =
     and_from (nat_le r.base a) (nat_lt a (end_of r)) (le-leb r.base a low) (lt-ltb a (end_of r) high)
+
+-- the front of a list that stays unless the range is empty
+pub front_left : (r : Range) (xs ys : List ℕ) → (covers r r.base ≡ true → xs ≡ ys) → take r.len xs ≡ take r.len ys
+front_left r xs ys same = by r.len refl
+  where
+    by : (n : ℕ) → r.len ≡ n → take r.len xs ≡ take r.len ys
+    by zero none = ap (λ n. take n xs) none ∙ sym (ap (λ n. take n ys) none)
+    by (suc n) some =
+        ap (take r.len) (same (inside_range r r.base (omega arith) (omega (arith, some))))
 
 -- ---- exec
 
@@ -83,15 +79,12 @@ module _ (m : Machine) (i : ImageState) (all ts : List Task) (g : Arrivals) (S :
         (worker_separate m i all ts g S ground k buffers image workers w b busy)
         (ground.stages.workers w b busy).storages (beside a (inside_range x a low high)))
     left_bytes x (Buffer q) beside =
-        same_front x.len (buffer_bytes stretched.memory.contents q) (buffer_bytes S.contents q)
-        (size_executed S.code m.limits m.sizes.quantum b (stores_of S) q) (λ j small.
-        let back : j ≡ (x.base + j) - x.base = omega arith in
-        ap (slice_index (buffer_bytes stretched.memory.contents q)) back
-        ∙ exec_stretch-left S.code m.limits m.sizes.quantum b (stores_of S) x (Buffer q) (x.base + j)
-          (worker_separate m i all ts g S ground k buffers image workers w b busy)
-          (ground.stages.workers w b busy).storages
-          (beside (x.base + j) (inside_range x (x.base + j) (omega arith) (omega (arith, small))))
-        ∙ ap (slice_index (buffer_bytes S.contents q)) (sym back))
+        front_left x (buffer_bytes stretched.memory.contents q) (buffer_bytes S.contents q) (λ inside.
+        exec_stretch-unseen m.limits (λ (s : Stores). buffer_bytes s.contents q) S.code m.sizes.quantum b (stores_of S)
+        (worker_separate m i all ts g S ground k buffers image workers w b busy)
+        (ground.stages.workers w b busy).storages (λ j o storage at told writer.
+        buffer_unseen m.limits q o.object storage
+        (λ is. (beside x.base inside j o storage at told writer).buffer q is refl)))
 
     -- who is on a worker stays there
     stays_busy : (n : ℕ) → IsOnWorker S n → IsOnWorker T n

@@ -1,11 +1,10 @@
 -- The bytes in the storages of versions after a task's start, which makes zeros of the storages that it doesn't read.
-use Rattle.std.proofs.Common.{◌≡◌, ℕ, zero, suc, Bool, true, false, cond, List, [], ◌∷◌, length, take, Option, Some, None, refl, sym, ap, ◌∙◌, subst, inl, inr, arith}
-use Rattle.std.specs.Prelude.{slice_get, slice_index, is_none, nat_lt}
+use Rattle.std.proofs.Common.{◌≡◌, ℕ, true, List, [], ◌∷◌, Option, Some, None, refl, sym, ap, ◌∙◌}
+use Rattle.std.specs.Prelude.{is_none, nat_lt}
 use Rattle.std.specs.FinMap.{get, insert}
-use Rattle.std.proofs.lemmas.Bool.{cond-true, cond-false, and_parts}
+use Rattle.std.proofs.lemmas.Bool.{and_parts}
 use Rattle.std.proofs.lemmas.Option.{none-some, same_Some}
 use Rattle.tss_base.specs.declared.range.Range.{Range}
-use Rattle.tss_base.specs.declared.operand.OpName.{OpName}
 use Rattle.tss_base.specs.declared.operand.Operand.{Operand}
 use Rattle.tss_base.specs.declared.operand.Task.{Task}
 use Rattle.tss_base.specs.declared.machine.Limits.{Limits}
@@ -13,88 +12,53 @@ use Rattle.tss_base.specs.declared.machine.Machine.{Machine}
 use Rattle.tss_base.specs.declared.event.Event.TheVariants as event
 use Rattle.tss_base.specs.declared.event.Stage.TheVariants as stage
 use Rattle.tss_base.specs.Image.{ImageState}
-use Rattle.tss_maps.proofs.Keys.{nat_order, decide_key}
+use Rattle.tss_maps.proofs.Keys.{nat_order}
 use Rattle.tss_maps.proofs.Changes.{at_inserted, beside_inserted}
-use Rattle.tss_model.specs.Memory.{covers, zeros, byte_at}
-use Rattle.tss_model.specs.Access.{reads, writes, operands_of}
+use Rattle.tss_model.specs.Memory.{covers, byte_at}
+use Rattle.tss_model.specs.Access.{operands_of}
 use Rattle.tss_protocol.specs.Mail.{StorageName, Home, Buffer}
-use Rattle.tss_protocol.specs.State.{State, Flying, Busy, Version}
+use Rattle.tss_protocol.specs.State.{State, Flying}
 use Rattle.tss_protocol.specs.Stations.{is_complete, storages_of}
 use Rattle.tss_protocol.specs.Buffers.{buffer_bytes}
-use Rattle.tss_protocol.specs.Workers.{Stores, stored_bytes, storage_zeroed, outputs_zeroed, busy_at_start, can_start}
+use Rattle.tss_protocol.specs.Workers.{Stores, stored_bytes, outputs_zeroed, busy_at_start, can_start}
 use Rattle.tss_protocol.specs.UnitMachine.{IsEnabled, is_enabled, after_event, start_task, after_start, stores_of}
 use Rattle.tss_phases.proofs.StartEvent.{phase_of-start}
 use Rattle.tss_locality.proofs.LeftFields.{Leaves-after_event}
 use Rattle.tss_laws.specs.Stages.{IsOnWorker}
-use Rattle.tss_laws.specs.Tasks.{task_at}
 use Rattle.tss_laws.specs.Buffers.{HasBuffers}
 use Rattle.tss_laws.specs.Readers.{Arrivals}
 use Rattle.tss_laws.specs.Control.{HasGroundwork, IsControlled}
 use Rattle.tss_laws.proofs.PlainLemmas.{none_from_test}
 use Rattle.tss_laws.proofs.FlatLoads.{same_bytes}
-use Rattle.tss_laws.proofs.FlatTask.{written_where_unread}
 use Rattle.tss_laws.proofs.QueueLemmas.{in_queue, at_front}
 use Rattle.tss_laws.proofs.StageEvents.{length-storages}
-use Rattle.tss_laws.proofs.StoreBytes.{buffer_beside}
-use Rattle.tss_laws.proofs.StoreFrames.{IsBeside, IsElsewhere, outputs_zeroed-left}
+use Rattle.tss_laws.proofs.StoreFrames.{IsBeside, outputs_zeroed-left}
 use Rattle.tss_laws.proofs.Values.{content, HasStored}
-use Rattle.tss_laws.proofs.StoredWorkers.{LeavesBeside, stored_beside}
-use Rattle.tss_laws.proofs.StoredExec.{inside_range}
+use Rattle.tss_laws.proofs.StoredWorkers.{stored_beside}
+use Rattle.tss_laws.proofs.StoreViews.{outputs_zeroed-unseen, buffer_unseen}
+use Rattle.tss_laws.proofs.StoredExec.{inside_range, front_left}
 use Rattle.tss_laws.proofs.WorkersApart.{held}
 use Rattle.tss_laws.proofs.WorkersFinds.{queued_unfinished}
 
--- ---- buffers
+-- ---- objects
 
-zeroed_other : (limits : Limits) (s : Stores) (object : Range) (storage : StorageName) (q : OpName)
-    → (storage ≡ Buffer q → ⊥)
-    → buffer_bytes (storage_zeroed limits s object storage).contents q ≡ buffer_bytes s.contents q
-zeroed_other limits s object Home q apart = refl
-zeroed_other limits s object (Buffer n) q apart =
-    buffer_beside s.contents n q (zeros limits.object_bytes) (λ same. apart (ap Buffer (sym same)))
-
--- zeros at a task's outputs leave a buffer that it doesn't write
-buffer_left : (limits : Limits) (s : Stores) (os : List Operand) (ss : List StorageName) (q : OpName)
-    → ((k : ℕ) (o : Operand) (storage : StorageName) → slice_get os k ≡ Some o → slice_get ss k ≡ Some storage
-    → writes o.mode ≡ true → storage ≡ Buffer q → ⊥)
-    → buffer_bytes (outputs_zeroed limits s os ss).contents q ≡ buffer_bytes s.contents q
-buffer_left limits s [] ss q apart = refl
-buffer_left limits s (o ∷ os) [] q apart = refl
-buffer_left limits s (o ∷ os) (storage ∷ ss) q apart =
-    by (reads o.mode) refl ∙ buffer_left limits s os ss q (λ k r t e d w. apart (suc k) r t e d w)
-  where
-    by : (b : Bool) → reads o.mode ≡ b
-        → buffer_bytes (cond (reads o.mode) (outputs_zeroed limits s os ss)
-        (storage_zeroed limits (outputs_zeroed limits s os ss) o.object storage)).contents q
-        ≡ buffer_bytes (outputs_zeroed limits s os ss).contents q
-    by true read = ap (λ (x : Stores). buffer_bytes x.contents q) (cond-true _ _ _ read)
-    by false unread =
-        ap (λ (x : Stores). buffer_bytes x.contents q) (cond-false _ _ _ unread)
-        ∙ zeroed_other limits (outputs_zeroed limits s os ss) o.object storage q
-          (apart 0 o storage refl refl (written_where_unread o.mode unread))
-
--- so they leave an object beside what the task writes
+-- zeros at a task's outputs leave an object beside what the task writes
 pub left_at_start : (limits : Limits) (s : Stores) (os : List Operand) (ss : List StorageName) (x : Range)
     (st : StorageName) → ((a : ℕ) → covers x a ≡ true → IsBeside os ss st a)
     → stored_bytes (outputs_zeroed limits s os ss) x st ≡ stored_bytes s x st
 left_at_start limits s os ss x Home beside =
     same_bytes (byte_at (outputs_zeroed limits s os ss).home) (byte_at s.home) x.base x.len (λ a low high.
     outputs_zeroed-left limits s os ss x Home a (beside a (inside_range x a low high)))
-left_at_start limits s os ss x (Buffer q) beside = by x.len refl
-  where
-    by : (n : ℕ) → x.len ≡ n
-        → take x.len (buffer_bytes (outputs_zeroed limits s os ss).contents q) ≡ take x.len (buffer_bytes s.contents q)
-    by zero none =
-        ap (λ n. take n (buffer_bytes (outputs_zeroed limits s os ss).contents q)) none
-        ∙ sym (ap (λ n. take n (buffer_bytes s.contents q)) none)
-    by (suc n) some =
-        let first = beside x.base (inside_range x x.base (omega arith) (omega (arith, some))) in
-        ap (take x.len) (buffer_left limits s os ss q (λ k o storage at told writer is.
-        (first k o storage at told writer).buffer q is refl))
+left_at_start limits s os ss x (Buffer q) beside =
+    front_left x (buffer_bytes (outputs_zeroed limits s os ss).contents q) (buffer_bytes s.contents q) (λ inside.
+    outputs_zeroed-unseen limits (λ (s : Stores). buffer_bytes s.contents q) s os ss (λ k o storage at told writer.
+    buffer_unseen limits q o.object storage (λ is. (beside x.base inside k o storage at told writer).buffer q is refl)))
 
 -- ---- start
 
 module _ (m : Machine) (i : ImageState) (all ts : List Task) (g : Arrivals) (S : State)
-    (ground : HasGroundwork m all ts S) (k : IsControlled ts g S) (buffers : HasBuffers ts S) (h : HasStored m i ts S) where
+    (ground : HasGroundwork m all ts S) (k : IsControlled ts g S) (buffers : HasBuffers ts S)
+    (h : HasStored m i ts S) where
   module _ (w n : ℕ) (rest : List ℕ) (queue : S.queue ≡ n ∷ rest) (x : Flying) (flies : get S.flight n ≡ Some x)
       (on : can_start m.sizes.workers w (get S.workers w) (n ∷ rest) ≡ true) where
     abbrev T : State
@@ -137,7 +101,7 @@ module _ (m : Machine) (i : ImageState) (all ts : List Task) (g : Arrivals) (S :
       on.1,
       ap (λ ws. get ws on.0) workers_after
           ∙ beside_inserted nat_order S.workers w (busy_at_start x) on.0
-            (λ same. none-some on.1 (sym idle ∙ ap (get S.workers) (sym same) ∙ on.2))
+          (λ same. none-some on.1 (sym idle ∙ ap (get S.workers) (sym same) ∙ on.2))
           ∙ on.2,
       on.3,
     )

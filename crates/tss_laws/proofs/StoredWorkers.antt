@@ -44,8 +44,8 @@ module _ (m : Machine) (i : ImageState) (all ts : List Task) (g : Arrivals) (S :
       → covers y.object a ≡ true → IsBeside (operands_of t) ss st a
   version_beside v y st p among there stored way a inside j o storage at told writer =
       subst (λ s. IsElsewhere o.object s st a) held.told
-      (writes_beside m all ts g S ground k buffers (operand_name n j) o held.source held.holds writer v y st there stored
-      (λ same. apart same way) a inside)
+      (writes_beside m all ts g S ground k buffers (operand_name n j) o held.source held.holds writer v y st there
+      stored (λ same. apart same way) a inside)
     where
       held : IsHeld ts g S n j o storage
       held = holds j o storage at told

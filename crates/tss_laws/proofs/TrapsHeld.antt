@@ -1,4 +1,4 @@
--- The held trap is that of program order, where its task is started there, and no task that traps there ends without it.
+-- The held trap is that of program order, where its task is started there. No task that traps there ends without it.
 use Rattle.std.proofs.Common.{◌≡◌, ◌≢◌, ◌⊎◌, ℕ, suc, ◌+◌, ◌<◌, ◌≤◌, Bool, true, false, cond, List, Option, Some, None, refl, sym, ap, ◌∙◌, subst, inl, inr, arith}
 use Rattle.std.specs.Prelude.{◌-◌, nat_lt}
 use Rattle.std.specs.FinMap.{get, insert}
@@ -105,13 +105,17 @@ module _ (m : Machine) (i : ImageState) (all ts : List Task) (S : State) (ground
       let last = ap (λ f. taken_by f.inbox f.spawned) one.front in
       let before = ap (λ x. taken_by x S.main.spawned) one.empty in (
         omega (arith, spawned),
-        λ n t. (t.0, let few = t.1 in fewer n (taken_by T.inbox T.main.spawned) S.main.spawned
-            (taken_by S.inbox S.main.spawned) few last before),
+        λ n t. (
+          t.0,
+          let few = t.1 in fewer n (taken_by T.inbox T.main.spawned) S.main.spawned
+              (taken_by S.inbox S.main.spawned) few last before,
+        ),
       )
     where
       fewer : (n a s b : ℕ) → n ≤ a → a ≡ suc s - 1 → b ≡ s → n ≤ b
       fewer n a s b few now before = omega (arith, few, now, before)
 
+  -- after main's event
   pub HasTraps-main : IsEnabled m S event.Main → HasTraps m i (after_event m S event.Main)
   HasTraps-main on =
       let T = after_event m S event.Main in
@@ -138,8 +142,11 @@ module _ (m : Machine) (i : ImageState) (all ts : List Task) (S : State) (ground
               ∙ at_inserted nat_order S.flight p.task.number (entered p.task),
           entered_under p.task,
         )
-        | inr other ↦ inl (t.0, earlier n p.task.number (taken_by T.inbox T.main.spawned) S.main.spawned
-            (taken_by S.inbox S.main.spawned) t.1 now before newest.number other)
+        | inr other ↦ inl (
+          t.0,
+          earlier n p.task.number (taken_by T.inbox T.main.spawned) S.main.spawned
+              (taken_by S.inbox S.main.spawned) t.1 now before newest.number other,
+        )
       ])
       (StayUnder-after_event m S event.Take (λ w e. cc))
     where
@@ -209,8 +216,7 @@ module _ (m : Machine) (i : ImageState) (all ts : List Task) (S : State) (ground
         by None e = (k.0, trap_now ∙ ap (trap_after_finish S.trap b.task.number) e ∙ k.1, k.2)
         by (Some t) e =
             let few = lower_held b.task.number t k.0 in
-            let less = k.2 in
-            (
+            let less = k.2 in (
               lower_trap b.task.number t (Some k.0),
               trap_now ∙ ap (trap_after_finish S.trap b.task.number) e
                   ∙ ap (λ x. Some (lower_trap b.task.number t x)) k.1,
@@ -224,7 +230,8 @@ module _ (m : Machine) (i : ImageState) (all ts : List Task) (S : State) (ground
     taken_few : IsTaken S b.task.number → (0 < b.task.number) × (b.task.number ≤ S.main.spawned)
     taken_few t = (let a = t.0 in omega (arith, a), by S.inbox refl t.1)
       where
-        by : (x : Option Task) → S.inbox ≡ x → b.task.number ≤ taken_by x S.main.spawned → b.task.number ≤ S.main.spawned
+        by : (x : Option Task) → S.inbox ≡ x → b.task.number ≤ taken_by x S.main.spawned
+            → b.task.number ≤ S.main.spawned
         by None e few = few
         by (Some t) e few = omega (arith, few)
 

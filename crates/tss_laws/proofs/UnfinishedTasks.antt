@@ -49,8 +49,7 @@ module _ (f : Numbered Flying) where
     | inl is ↦
         let one = same_Some u.0 x (sym u.1 ∙ ap (get f) is ∙ there) in
         let open_yet = ap has_finished (same ∙ ap (λ (x : Flying). x.stage) (sym one)) ∙ u.2 in
-        let stays = not_gone y open_yet in
-        (
+        let stays = not_gone y open_yet in (
           y,
           ap (get (remaining_tasks f t y)) is
               ∙ ap (λ b. get (if b then remove f t else insert f t y) t) stays
@@ -170,7 +169,8 @@ module _ (m : Machine) (S : State) where
   same_flight T same n u = (u.0, ap (λ f. get f n) same ∙ u.1, u.2)
 
   -- each task stays under way through every event but a finish
-  pub StayUnder-after_event : (e : Event) → ((w : ℕ) → e ≢ event.Finish w) → StayUnder S.flight (after_event m S e).flight
+  pub StayUnder-after_event : (e : Event) → ((w : ℕ) → e ≢ event.Finish w)
+      → StayUnder S.flight (after_event m S e).flight
   unfolding after_event
   StayUnder-after_event event.Main other =
       same_flight (after_event m S event.Main) (λ i. (Leaves-after_event m S event.Main i).flight)

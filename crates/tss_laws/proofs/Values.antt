@@ -1,5 +1,5 @@
--- The bytes of program order: what stands in each storage, at home, and on each worker, as far as program order starts the
--- tasks.
+-- The bytes of program order: what stands in each storage, at home, and on each worker, as far as program order starts
+-- the tasks.
 use Rattle.std.proofs.Common.{◌≡◌, ◌⊎◌, ℕ, ◌+◌, ◌<◌, ◌≤◌, true, false, List, length, take, Some, None}
 use Rattle.std.specs.Prelude.{cond, slice_index}
 use Rattle.std.specs.FinMap.{get}
@@ -55,7 +55,8 @@ IsGood m i s p = writes p.mode ≡ true → RunsOut m i s
 -- ---- storages
 
 -- an operand on a name that program order says
-pub record IsKnown (m : Machine) (i : ImageState) (ts : List Task) (o : OpName) (p : Operand) (s : Started) : Type 0 where
+pub record IsKnown (m : Machine) (i : ImageState) (ts : List Task) (o : OpName) (p : Operand) (s : Started)
+    : Type 0 where
   pub operand : operand_among ts o ≡ Some p
   pub starts : Starts m i o.task s
 
@@ -89,8 +90,8 @@ pub record HasWorkers (m : Machine) (i : ImageState) (S : State) : Type 0 where
 
 -- ---- home
 
--- what is copied home, or has come there, is the value of the object's last version. The bytes that a copy has moved are
--- at home
+-- what is copied home, or has come there, is the value of the object's last version. The bytes that a copy has moved
+-- are at home
 pub record HasReturns (m : Machine) (i : ImageState) (ts : List Task) (S : State) : Type 0 where
   pub copied : (bank : ℕ) (c : CopyState) (p : Operand) (s : Started) → get S.copies bank ≡ Some c
       → IsKnown m i ts c.version p s → IsGood m i s p
@@ -106,20 +107,22 @@ pub record IsFirstAhead (ts : List Task) (S : State) (x : Range) (o : OpName) (p
   pub operand : operand_among ts o ≡ Some p
   pub object : p.object ≡ x
   pub ahead : is_decoded (phase_of S o) ≡ false
-  pub first : (q : OpName) (r : Operand) → operand_among ts q ≡ Some r → r.object ≡ x → is_decoded (phase_of S q) ≡ false
-      → o.task ≤ q.task
+  pub first : (q : OpName) (r : Operand) → operand_among ts q ≡ Some r → r.object ≡ x
+      → is_decoded (phase_of S q) ≡ false → o.task ≤ q.task
 
 -- home has the bytes of program order: of an object without an entry right before the first operand that isn't decoded,
 -- or as main has it where all are; and before an open that follows nothing, where that reads
 pub record HasHome (m : Machine) (i : ImageState) (ts : List Task) (S : State) : Type 0 where
-  pub ahead : (x : Range) (o : OpName) (p : Operand) (s : Started) → get S.entries x.base ≡ None → IsFirstAhead ts S x o p
-      → Starts m i o.task s → bytes_of S.home x ≡ bytes_before s p
+  pub ahead : (x : Range) (o : OpName) (p : Operand) (s : Started) → get S.entries x.base ≡ None
+      → IsFirstAhead ts S x o p → Starts m i o.task s → bytes_of S.home x ≡ bytes_before s p
   pub beside : (a : ℕ) → S.main ≡ (flat_beside i m.limits S.main).main
-      → ((o : OpName) (p : Operand) → operand_among ts o ≡ Some p → (p.object.base ≤ a) × (a < p.object.base + p.object.len)
+      → ((o : OpName) (p : Operand) → operand_among ts o ≡ Some p
+      → (p.object.base ≤ a) × (a < p.object.base + p.object.len)
       → (get S.entries p.object.base ≡ None) × (is_decoded (phase_of S o) ≡ true))
       → get S.home.bytes a ≡ get (flat_beside i m.limits S.main).memory.bytes a
   pub opening : (o : OpName) (c : OpenContents) (s : Started) → get S.mail.opens o ≡ Some c → c.follows ≡ None
-      → (c.operand.mode ≡ Output → ⊥) → Starts m i o.task s → bytes_of S.home c.operand.object ≡ bytes_before s c.operand
+      → (c.operand.mode ≡ Output → ⊥) → Starts m i o.task s
+      → bytes_of S.home c.operand.object ≡ bytes_before s c.operand
 
 -- a buffer has room for any object
 abbrev pub IsRoomy : Machine → State → OpName → Type 0
@@ -163,8 +166,8 @@ pub record HasMain (m : Machine) (i : ImageState) (all : List Task) (S : State) 
 
 -- ---- named objects
 
--- the object of a round's operand is named in program order from its task's start up to where main stands, and the round
--- has each spawned task from its oldest on
+-- the object of a round's operand is named in program order from its task's start up to where main stands, and the
+-- round has each spawned task from its oldest on
 pub record HasNaming (m : Machine) (i : ImageState) (all ts : List Task) (S : State) : Type 0 where
   pub named : (o : OpName) (p : Operand) (k j : ℕ) (s : Started) → operand_among ts o ≡ Some p
       → started_at i m.limits k ≡ Some s → s.task.number ≡ o.task → k < j → j ≤ steps_taken S.main

@@ -54,10 +54,11 @@ module _ (m : Machine) (all ts : List Task) (S : State) (ground : HasGroundwork 
       by false e = e
       by true e = absurd (apart (ground.round.separate.one x y named also (covers-meet x y a inside e)))
 
-  -- the object of a copy, and of a gone message, is of the round
+  -- the object of a copy is of the round
   pub copy_object : (bank : ℕ) (c : CopyState) → get S.copies bank ≡ Some c → object_in ts c.version ≡ Some (c.object)
   copy_object bank c at = ground.round.within.named.copies bank c at
 
+  -- and so is that of a gone message
   pub gone_object : (v : OpName) (g : GoneContents) → get S.mail.gones v ≡ Some g → object_in ts v ≡ Some (g.object)
   gone_object v g at =
       let x = ground.round.within.named.mail.gones v g at in

@@ -1,5 +1,5 @@
 -- Every event keeps the values of program order, so every run has them, and a finished run has its result.
-use Rattle.std.proofs.Common.{ℕ, List, [], ◌∙◌}
+use Rattle.std.proofs.Common.{List, [], ◌∙◌}
 use Rattle.tss_base.specs.declared.operand.Task.{Task}
 use Rattle.tss_base.specs.declared.machine.Machine.{Machine}
 use Rattle.tss_base.specs.declared.event.Event.{Event}
@@ -197,8 +197,8 @@ keeps_main e m i all ts g S f on =
 keeps_workers : (e : Event) → IsPartKept e (λ m i all ts S. HasWorkers m i S)
 keeps_workers e m i all ts g S f on =
     HasWorkers-after_event m i all ts g S f.ground f.control f.buffers f.code f.accepted f.fixed
-    (λ e a fixed. same_fixed m i f.accepted all ts g S f.ground f.control f.buffers f.code f.values.workers f.values.returns
-    f.operands f.outputs a fixed e)
+    (λ e a fixed. same_fixed m i f.accepted all ts g S f.ground f.control f.buffers f.code f.values.workers
+    f.values.returns f.operands f.outputs a fixed e)
     (finds_left m i all ts S f.ground f.values.main f.values.naming) f.values e on
 
 carried_after : (e : Event) → IsPartKept e HasCarried
@@ -211,11 +211,11 @@ carried_after e m i all ts g S f on = record {
     room = HasRoom-after_event m all ts g S f.ground f.control f.values.room f.buffers e on;
     main = keeps_main e m i all ts g S f on;
     naming =
-    HasNaming-after_event m i all ts g S f.ground f.code f.pieces f.values.home f.values.main f.values.naming e on;
+        HasNaming-after_event m i all ts g S f.ground f.code f.pieces f.values.home f.values.main f.values.naming e on;
   };
   fixed =
-  λ a fixed. same_fixed m i f.accepted all ts g S f.ground f.control f.buffers f.code f.values.workers f.values.returns
-  f.operands f.outputs a fixed e ∙ f.fixed a fixed;
+      λ a fixed. same_fixed m i f.accepted all ts g S f.ground f.control f.buffers f.code f.values.workers
+      f.values.returns f.operands f.outputs a fixed e ∙ f.fixed a fixed;
 }
 
 -- every event keeps the values

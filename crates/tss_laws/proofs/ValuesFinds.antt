@@ -57,7 +57,8 @@ IsPartKept e P =
 pub fit_run : (m : Machine) (i : ImageState) (es : List Event) (S : State) → IsRun m i es S
     → HaveFitObjects m.limits (spawned_tasks m i es)
 fit_run m i es S run =
-    kept_after (λ m all S. HaveFitObjects m.limits all) (λ m all S e fit on. HaveFitObjects-after_event m all S fit e) m es []
+    kept_after (λ m all S. HaveFitObjects m.limits all)
+    (λ m all S e fit on. HaveFitObjects-after_event m all S fit e) m es []
     (initial_state i) S (no_objects m.limits) run
 
 -- memory has no fewer bytes than the image in every run
@@ -90,6 +91,7 @@ module _ (m : Machine) (i : ImageState) (accepted : IsAccepted i) (admissible : 
       values_of_run (λ m i all ts S. HasOutputs ts S)
       (λ m i es S e accepted admissible run outputs on.
       let k = IsControlled-Run m i es S run in
-      HasOutputs-after_event m (spawned_tasks m i es) (round_of m (initial_state i) es) S (HasGroundwork-Run m i es S run)
+      HasOutputs-after_event m (spawned_tasks m i es) (round_of m (initial_state i) es) S
+      (HasGroundwork-Run m i es S run)
       k.orderly outputs e on)
       m i accepted admissible (HasOutputs-initial_state [] i) es S run

@@ -24,8 +24,8 @@ use Rattle.tss_laws.proofs.ValuesHomeBeside.{home_left}
 use Rattle.tss_laws.proofs.ValuesHomeKept.{decoded_kept}
 use Rattle.tss_laws.proofs.WorkersUnseen.{LeavesAway, away_start, away_exec}
 
-module _ (m : Machine) (i : ImageState) (all ts : List Task) (g : Arrivals) (S : State) (ground : HasGroundwork m all ts S)
-    (control : IsControlled ts g S) (h : HasHome m i ts S) where
+module _ (m : Machine) (i : ImageState) (all ts : List Task) (g : Arrivals) (S : State)
+    (ground : HasGroundwork m all ts S) (control : IsControlled ts g S) (h : HasHome m i ts S) where
   -- where the stores leave what is away from workers, so is what stands at home
   home_away : (e : Event) → IsEnabled m S e → is_of_front e ≡ false → (after_event m S e).main ≡ S.main
       → (after_event m S e).entries ≡ S.entries → SameObjects S (after_event m S e)

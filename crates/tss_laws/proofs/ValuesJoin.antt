@@ -1,4 +1,4 @@
--- The induction over a run of what every event keeps where its state is left by a run, and the law of the result from it.
+-- The induction over a run of what every event keeps where a run leaves its state, and the law of the result from it.
 use Rattle.std.proofs.Common.{◌≡◌, Bool, true, false, cond, List, [], ◌∷◌, ◌++◌, append-nil, Option, Some, None, refl, sym, ap, ◌∙◌, subst}
 use Rattle.std.proofs.lemmas.Bool.{and_parts}
 use Rattle.std.proofs.lemmas.List.{append_assoc}
@@ -29,7 +29,6 @@ use Rattle.tss_laws.proofs.Values.{HasValues}
 on_run : (b : Bool) (next : Option State) (T : State) → cond b next None ≡ Some T → (b ≡ true) × (next ≡ Some T)
 on_run true next T e = (refl, e)
 on_run false next T e = absurd (none-some T e)
-
 
 module _ (m : Machine) where
   -- the events before the last, and the last
@@ -136,6 +135,7 @@ result_of_values have m i es S accepted admissible run finished =
     let ts = round_of m (initial_state i) es in
     let g = arrivals_from m (initial_state i) no_arrivals es in
     let values = have m i es S accepted admissible run in
-    finished_result m i all ts g S (HasGroundwork-Run m i es S run) (IsControlled-Run m i es S run) values.home values.main
+    finished_result m i all ts g S (HasGroundwork-Run m i es S run) (IsControlled-Run m i es S run) values.home
+    values.main
     (HasGround-run m i es S run) (no_task_trap S.main (EndsItself-Run m i es S run))
     (and_parts (is_drained S) (is_some S.main.ending || is_some S.trap) finished).0 finished

@@ -1,12 +1,11 @@
 -- Produced versions have the bytes of program order in every run that has the values.
-use Rattle.std.proofs.Common.{◌≡◌, ℕ, Bool, true, false, Option, Some, None, refl, sym, ap, ◌∙◌, true≢false}
+use Rattle.std.proofs.Common.{◌≡◌, Option, Some, None, refl, sym, ap, ◌∙◌, true≢false}
 use Rattle.std.specs.Prelude.{option_map}
-use Rattle.std.specs.FinMap.{get}
 use Rattle.tss_base.specs.declared.range.Range.{Range}
 use Rattle.tss_model.specs.Memory.{bytes_of}
-use Rattle.tss_model.specs.InOrder.{Started, end_of_started}
+use Rattle.tss_model.specs.InOrder.{end_of_started}
 use Rattle.tss_protocol.specs.Mail.{StorageName}
-use Rattle.tss_protocol.specs.State.{Version, initial_state}
+use Rattle.tss_protocol.specs.State.{initial_state}
 use Rattle.tss_protocol.specs.Needs.{round_of}
 use Rattle.tss_protocol.specs.Workers.{stored_bytes}
 use Rattle.tss_protocol.specs.UnitMachine.{stores_of}

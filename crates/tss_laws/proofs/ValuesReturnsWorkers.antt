@@ -26,27 +26,27 @@ module _ (m : Machine) (all ts : List Task) (S : State) (ground : HasGroundwork 
   returns_away : (T : State) → SameObjects S T → LeavesAway ts S (stores_of T) → KeepsReturns S T
   returns_away T same away = record {
     copies = λ bank c at.
-        let old : get S.copies bank ≡ Some c = ap (λ (x : Numbered CopyState). get x bank) (sym same.copies) ∙ at in
-        (
+        let old : get S.copies bank ≡ Some c = ap (λ (x : Numbered CopyState). get x bank) (sym same.copies) ∙ at in (
           old,
           away.copies bank c old,
           λ a inside.
-          ap (λ (o : Option ℕ). unwrap_or o 0)
-          (away.going c.object c.version (copy_object m all ts S ground bank c old) (inl (bank, c, old, refl, refl)) a
-          inside),
+              ap (λ (o : Option ℕ). unwrap_or o 0)
+              (away.going c.object c.version (copy_object m all ts S ground bank c old)
+              (inl (bank, c, old, refl, refl)) a
+              inside),
         );
     gones = λ v g at last.
-        let old : get S.mail.gones v ≡ Some g = ap (λ (x : Named GoneContents). get x v) (sym same.gones) ∙ at in
-        (
+        let old : get S.mail.gones v ≡ Some g = ap (λ (x : Named GoneContents). get x v) (sym same.gones) ∙ at in (
           old,
           λ a inside.
-          ap (λ (o : Option ℕ). unwrap_or o 0)
-          (away.going g.object v (gone_object m all ts S ground v g old) (inr (g, old, last, refl)) a inside),
+              ap (λ (o : Option ℕ). unwrap_or o 0)
+              (away.going g.object v (gone_object m all ts S ground v g old) (inr (g, old, last, refl)) a inside),
         );
   }
 
-module _ (m : Machine) (i : ImageState) (all ts : List Task) (g : Arrivals) (S : State) (ground : HasGroundwork m all ts S)
-    (control : IsControlled ts g S) (buffers : HasBuffers ts S) (image : HasGround i S) (workers : HasWorkers m i S)
+module _ (m : Machine) (i : ImageState) (all ts : List Task) (g : Arrivals) (S : State)
+    (ground : HasGroundwork m all ts S) (control : IsControlled ts g S) (buffers : HasBuffers ts S)
+    (image : HasGround i S) (workers : HasWorkers m i S)
     (h : HasReturns m i ts S) where
   -- after a start
   pub HasReturns-start : (w : ℕ) → HasReturns m i ts (after_event m S (event.Start w))

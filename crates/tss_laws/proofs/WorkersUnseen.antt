@@ -1,7 +1,7 @@
 -- A worker's start and its stretches leave the buffers of copies, home where no object has an entry, where the first
 -- version of an object is being opened, and in objects that are copied home, or have come there.
-use Rattle.std.proofs.Common.{◌≡◌, ℕ, ◌<◌, true, false, List, [], ◌∷◌, Option, Some, None, inl, refl, sym, ap, ◌∙◌, subst, arith}
-use Rattle.std.specs.Prelude.{slice_get, unwrap_or}
+use Rattle.std.proofs.Common.{◌≡◌, ℕ, true, false, List, [], ◌∷◌, Option, Some, None, inl, refl, sym, ap, ◌∙◌, arith}
+use Rattle.std.specs.Prelude.{slice_get}
 use Rattle.std.specs.FinMap.{get}
 use Rattle.std.proofs.lemmas.Bool.{false_from_ne_true}
 use Rattle.std.proofs.lemmas.Option.{same_Some}
@@ -13,7 +13,7 @@ use Rattle.tss_base.specs.declared.machine.Machine.{Machine}
 use Rattle.tss_base.specs.declared.event.Event.TheVariants as event
 use Rattle.tss_base.specs.declared.event.Stage.TheVariants as stage
 use Rattle.tss_base.specs.Image.{ImageState}
-use Rattle.tss_model.specs.Memory.{covers, byte_at}
+use Rattle.tss_model.specs.Memory.{covers}
 use Rattle.tss_model.specs.Access.{writes, operands_of}
 use Rattle.tss_protocol.specs.Names.{operand_name}
 use Rattle.tss_protocol.specs.Mail.{StorageName, Source, OpenContents}
@@ -66,8 +66,9 @@ away_itself ts S = record {
   copies = λ bank c at. refl;
 }
 
-module _ (m : Machine) (i : ImageState) (all ts : List Task) (g : Arrivals) (S : State) (ground : HasGroundwork m all ts S)
-    (control : IsControlled ts g S) (buffers : HasBuffers ts S) (image : HasGround i S) (workers : HasWorkers m i S)
+module _ (m : Machine) (i : ImageState) (all ts : List Task) (g : Arrivals) (S : State)
+    (ground : HasGroundwork m all ts S) (control : IsControlled ts g S) (buffers : HasBuffers ts S)
+    (image : HasGround i S) (workers : HasWorkers m i S)
   where
     -- ---- an operand that writes what it holds
 
@@ -90,8 +91,8 @@ module _ (m : Machine) (i : ImageState) (all ts : List Task) (g : Arrivals) (S :
             let same = one_object m all ts g S ground control o d p c.operand a holds.among opens.operand inside
             (inside_covers c.operand.object a within) in
             let own = writes_own m all ts g S ground control buffers o p s holds writer in
-            let version : IsVersionOf S c.operand.object o = (holds.told.version, ap (get S.versions) (sym own) ∙ holds.told.there,
-            holds.told.object ∙ same) in
+            let version : IsVersionOf S c.operand.object o =
+            (holds.told.version, ap (get S.versions) (sym own) ∙ holds.told.there, holds.told.object ∙ same) in
             let low = opens.behind o version in
             let high = (opens.first first).first o (inl version) in
             absurd (omega (arith, low, high)))
@@ -154,8 +155,8 @@ module _ (m : Machine) (i : ImageState) (all ts : List Task) (g : Arrivals) (S :
         (worker_holds m i all ts g S ground control buffers image workers w b e)
         (stores_of (after_exec m S w (Some b)))
         (λ a unseen.
-        exec_stretch-unseen m.limits (λ (s : Stores). get s.home.bytes a) S.code m.sizes.quantum b (stores_of S) separate
-        count unseen)
+        exec_stretch-unseen m.limits (λ (s : Stores). get s.home.bytes a) S.code m.sizes.quantum b (stores_of S)
+        separate count unseen)
         (λ n unseen.
         exec_stretch-unseen m.limits (λ (s : Stores). buffer_bytes s.contents n) S.code m.sizes.quantum b (stores_of S)
         separate count unseen)

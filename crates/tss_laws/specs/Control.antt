@@ -1,5 +1,5 @@
--- The control of the unit machine: what holds of tasks, operands, versions, readers and tables in every state that a run
--- leaves, and says nothing of bytes.
+-- The control of the unit machine: what holds of tasks, operands, versions, readers and tables in every state that a
+-- run leaves, and says nothing of bytes.
 use Rattle.std.specs.Prelude.{◌≡◌, ℕ, List, Some, slice_get}
 use Rattle.tss_base.specs.declared.operand.OpName.{OpName}
 use Rattle.tss_base.specs.declared.operand.Operand.{Operand}

@@ -16,7 +16,9 @@ ghost use Rattle.tss_laws.specs.NoFalseWait.{QueuedLaw};
 ghost use Rattle.tss_laws.specs.UseCounts.{ReadersLaw};
 ghost use Rattle.tss_laws.specs.MessageCounts.{MessagesLaw};
 ghost use Rattle.tss_laws.specs.Controlled.{RoundLaw, ControlLaw, OneMessageLaw};
-ghost use Rattle.tss_laws.specs.Refinement.{SizesLaw};
+ghost use Rattle.tss_laws.specs.Refinement.{
+    ResultLaw, SizesLaw, ProducedBytesLaw, WorkerBytesLaw, MainStateLaw,
+};
 ghost use Rattle.tss_laws.specs.MainInOrder.{MainInOrderLaw, MainCutOffLaw, MainStoresLaw};
 
 /// Spawned tasks are numbered from 1 in their order, at most as many as there may be, and each with at most as many
@@ -89,7 +91,7 @@ pub fn asking()
 /// one that ends, of each task take, start, finish, one for each instruction and one more, and of each operand ten and one
 /// for each 64 bytes of the longest object.
 pub fn bound()
-    ensures { EventsLaw }
+    ensures events { EventsLaw }
 {}
 
 /// A place is held under the name of an open under way, of a version, of one that is copied home, or of one that is gone
@@ -104,7 +106,7 @@ pub fn held_places()
 /// an input needs the last that writes its object, an inout that one and those that read the object since, and an output
 /// none.
 pub fn no_false_wait()
-    ensures { QueuedLaw }
+    ensures queued { QueuedLaw }
 {}
 
 /// Neither an entry of a renaming table nor a version counts more readers than a run may have operands.
@@ -136,9 +138,21 @@ pub fn one_message()
     ensures { OneMessageLaw }
 {}
 
-/// None of the seven counts ever exceeds its size.
-pub fn sizes()
-    ensures { SizesLaw }
+/// Every run refines the execution in program order under the machine's limits, for every accepted image, every admissible
+/// machine and every order of events. A finished run has the ending, the number of tasks and the output of program order,
+/// and at home its memory, unless program order ends by the trap of a task. None of the seven counts ever exceeds its
+/// size. A produced version has a storage; where program order starts the task that writes the version, and runs it to
+/// its end, the storage has the bytes of the version's object right after that task. A busy worker is where program order
+/// has its task after as many instructions, where that runs all earlier tasks to their ends: in registers, scratch memory
+/// and the bytes of each operand; and a trap on the worker is the task's trap there. Where program order has a state after
+/// as many instructions of main, main's registers, named objects, number of spawned tasks and pieces are as there, and so
+/// is home at each address but those of objects that have an entry, are in the inbox, or are still to be decoded.
+pub fn refines()
+    ensures result { ResultLaw }
+    ensures sizes { SizesLaw }
+    ensures produced_bytes { ProducedBytesLaw }
+    ensures worker_bytes { WorkerBytesLaw }
+    ensures main_state { MainStateLaw }
 {}
 
 /// One event of main. Where main's registers, number of spawned tasks, epoch, pieces and ending are those of program

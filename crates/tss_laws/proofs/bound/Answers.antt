@@ -2,4 +2,4 @@ use Rattle.tss_laws.proofs.BoundRuns.{events_of_runs}
 use Rattle.tss_laws.proofs.bound.Goals as goal
 
 pub returns : goal.returns
-returns c = events_of_runs
+returns c = record { events = events_of_runs }

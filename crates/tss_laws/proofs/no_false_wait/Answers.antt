@@ -2,4 +2,4 @@ use Rattle.tss_laws.proofs.WaitsRuns.{queued_of_runs}
 use Rattle.tss_laws.proofs.no_false_wait.Goals as goal
 
 pub returns : goal.returns
-returns c = queued_of_runs
+returns c = record { queued = queued_of_runs }
