@@ -17,7 +17,11 @@ ghost use Rattle.tss_laws.specs.UseCounts.{ReadersLaw};
 ghost use Rattle.tss_laws.specs.MessageCounts.{MessagesLaw};
 ghost use Rattle.tss_laws.specs.Controlled.{RoundLaw, ControlLaw, OneMessageLaw};
 ghost use Rattle.tss_laws.specs.Refinement.{
-    ResultLaw, SizesLaw, ProducedBytesLaw, WorkerBytesLaw, MainStateLaw,
+  ResultLaw,
+  SizesLaw,
+  ProducedBytesLaw,
+  WorkerBytesLaw,
+  MainStateLaw,
 };
 ghost use Rattle.tss_laws.specs.MainInOrder.{MainInOrderLaw, MainCutOffLaw, MainStoresLaw};
 
