@@ -72,8 +72,7 @@ module _ (m : Machine) (i : ImageState) (all ts : List Task) (g : Arrivals) (S :
         spawned = ap (λ (x : MainState). x.spawned) same ∙ still.0.spawned;
         pieces = ap (λ (x : MainState). x.pieces) same ∙ still.0.pieces;
         home = λ a free.
-            home.beside a same (λ o p among inside.
-            (
+            home.beside a same (λ o p among inside. (
               no_entry m all ts g S ground control a free o p among inside,
               decoded m all ts g S ground control a free o p among inside,
             ))

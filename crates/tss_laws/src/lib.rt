@@ -16,9 +16,7 @@ ghost use Rattle.tss_laws.specs.NoFalseWait.{QueuedLaw};
 ghost use Rattle.tss_laws.specs.UseCounts.{ReadersLaw};
 ghost use Rattle.tss_laws.specs.MessageCounts.{MessagesLaw};
 ghost use Rattle.tss_laws.specs.Controlled.{RoundLaw, ControlLaw, OneMessageLaw};
-ghost use Rattle.tss_laws.specs.Refinement.{
-    ResultLaw, SizesLaw, ProducedBytesLaw, WorkerBytesLaw, MainStateLaw,
-};
+ghost use Rattle.tss_laws.specs.Refinement.{ResultLaw, SizesLaw, ProducedBytesLaw, WorkerBytesLaw, MainStateLaw};
 ghost use Rattle.tss_laws.specs.MainInOrder.{MainInOrderLaw, MainCutOffLaw, MainStoresLaw};
 
 /// Spawned tasks are numbered from 1 in their order, at most as many as there may be, and each with at most as many
