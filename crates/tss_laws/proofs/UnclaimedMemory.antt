@@ -1,6 +1,6 @@
 -- An address that nobody claims lies in no object that has an entry, or has an operand that isn't decoded.
-use Rattle.std.proofs.Common.{Ordering, ◌≡◌, inl, inr, ℕ, zero, suc, ◌+◌, ◌<◌, ◌≤◌, Bool, true, false, List, [], ◌∷◌, Option, Some, None, refl, sym, ap, ◌∙◌, subst, arith, true≢false}
-use Rattle.std.specs.Prelude.{slice_get, option_map, ◌==◌, ◌||◌}
+use Rattle.std.proofs.Common.{Ordering, ◌≡◌, inl, inr, ℕ, zero, suc, Bool, true, false, List, [], ◌∷◌, Option, Some, None, refl, sym, ap, ◌∙◌, arith, true≢false}
+use Rattle.std.specs.Prelude.{slice_get, option_map, ◌||◌}
 use Rattle.std.specs.List.{list_any}
 use Rattle.std.specs.FinMap.{FinMap, get, entries, values}
 use Rattle.std.proofs.lemmas.Bool.{or_parts, or_left, or_right, both_ways, eqb-true}

@@ -1,8 +1,8 @@
 -- Main, and home where nobody claims it, follow program order in every run that has the values.
-use Rattle.std.proofs.Common.{◌≡◌, ◌⊎◌, inl, inr, ℕ, suc, ◌<◌, Bool, true, false, List, Option, Some, None, refl, sym, ap, ◌∙◌, subst}
+use Rattle.std.proofs.Common.{◌≡◌, ◌⊎◌, inl, inr, ℕ, Bool, true, false, List, Some, None, refl, sym, ap, ◌∙◌, subst}
 use Rattle.std.specs.Prelude.{cond, ◌==◌, ◌&&◌}
 use Rattle.std.specs.FinMap.{get}
-use Rattle.std.proofs.lemmas.Bool.{and_parts, eqb-true, cond-true, cond-false}
+use Rattle.std.proofs.lemmas.Bool.{eqb-true, cond-true, cond-false}
 use Rattle.std.proofs.lemmas.Option.{none-some, same_Some}
 use Rattle.tss_base.specs.declared.operand.Task.{Task}
 use Rattle.tss_base.specs.declared.machine.Limits.{Limits}
@@ -13,7 +13,7 @@ use Rattle.tss_model.specs.MainStep.{MainState, Flat}
 use Rattle.tss_model.specs.InOrder.{is_executed, flat_step, flat_stepped, main_after}
 use Rattle.tss_protocol.specs.State.{State, initial_state}
 use Rattle.tss_protocol.specs.Needs.{round_of}
-use Rattle.tss_laws.specs.MainInOrder.{steps_taken, flat_beside, IsCutOff}
+use Rattle.tss_laws.specs.MainInOrder.{flat_beside, IsCutOff}
 use Rattle.tss_laws.specs.Readers.{Arrivals, arrivals_from, no_arrivals}
 use Rattle.tss_laws.specs.Refinement.{FollowsMain, MainStateLaw}
 use Rattle.tss_laws.specs.Tasks.{spawned_tasks}
