@@ -1,5 +1,5 @@
 -- The chains after a produced version, to which no use is under way, has given way to the one that follows it.
-use Rattle.std.proofs.Common.{◌≡◌, ◌≢◌, ◌+◌, ◌<◌, ◌⊎◌, true, List, Option, Some, None, refl, sym, ap, ◌∙◌, subst, inl, inr, arith}
+use Rattle.std.proofs.Common.{◌≡◌, ◌≢◌, ◌+◌, ◌⊎◌, true, List, Option, Some, None, refl, sym, ap, ◌∙◌, inl, inr}
 use Rattle.std.specs.FinMap.{get}
 use Rattle.std.proofs.lemmas.Option.{none-some, same_Some}
 use Rattle.tss_base.specs.declared.range.Range.{Range}
@@ -12,7 +12,6 @@ use Rattle.tss_maps.proofs.Keys.{name_order, decide_key}
 use Rattle.tss_protocol.specs.State.{State, Version}
 use Rattle.tss_laws.specs.Members.{IsVersionOf, IsOpenOf, IsMember, registered_of, opening_reader, uses_of, total}
 use Rattle.tss_laws.specs.Chains.{IsAfter, IsFollowed, HasChains}
-use Rattle.tss_laws.proofs.ChainsNumbers.{below_self, crossed}
 use Rattle.tss_laws.proofs.UnlinkedVersions.{bridged, GaveWay}
 
 -- ---- what gives way to what
@@ -59,20 +58,9 @@ module _ (ts : List Task) (S T : State) (h : HasChains ts S) (v : OpName) (x : V
   pub next_back : y.predecessor ≡ Some v
   next_back = ap (λ (u : Version). u.predecessor) (sym next_is) ∙ follows.back
 
-  next_apart : f.version ≢ v
-  next_apart e = below_self v.task (subst (λ (q : OpName). v.task < q.task) e follows.younger)
-
   -- one before it
   pub before_is : (p : OpName) → x.predecessor ≡ Some p → IsAfter S v x p
   before_is p e = (h.linked v x d.there).after p e
-
-  not_before_self : x.predecessor ≡ Some v → ⊥
-  not_before_self e = below_self v.task (before_is v e).older
-
-  not_before_next : x.predecessor ≡ Some f.version → ⊥
-  not_before_next e =
-      crossed f.version.task v.task (before_is f.version e).older
-      (omega (arith, follows.younger))
 
   -- the version before v is followed by v
   pub before_to : (p : OpName) (u : Version) → x.predecessor ≡ Some p → get S.versions p ≡ Some u

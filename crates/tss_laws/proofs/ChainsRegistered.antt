@@ -64,9 +64,6 @@ module _ (ts : List Task) (S T : State) (h : HasChains ts S) (o : OpName) (c : O
 
   -- ---- the version that is followed
 
-  front_there : (f : Follow) (to : c.follows ≡ Some f) → get S.versions f.version ≡ Some (d.behind f to).0
-  front_there f to = (d.behind f to).1
-
   -- the version that is followed is of the same object
   pub front_object : (f : Follow) (to : c.follows ≡ Some f) → (d.behind f to).0.object ≡ c.operand.object
   front_object f to =

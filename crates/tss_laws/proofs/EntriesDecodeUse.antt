@@ -23,7 +23,7 @@ use Rattle.tss_laws.specs.Members.{operand_among, IsWriterOn, IsOpenOf, IsMember
 use Rattle.tss_laws.specs.Entries.{IsUsed, IsAbsent, IsLive, IsRetiring, HasEntries}
 use Rattle.tss_laws.specs.Control.{HasGroundwork}
 use Rattle.tss_laws.proofs.EntriesLeaving.{SameLeaving, leaving_turned, version_back, going_back, leaving_back, last_version_still}
-use Rattle.tss_laws.proofs.EntriesNames.{object_of_entry, decode_among, no_use}
+use Rattle.tss_laws.proofs.EntriesNames.{decode_among, no_use}
 
 -- what a decode that sends a use leaves, by the entry
 pub record DecodesUse (S T : State) (o : OpName) (p : Operand) (n : Entry) : Type 0 where
@@ -45,10 +45,6 @@ module _ (m : Machine) (all ts : List Task) (S : State) (ground : HasGroundwork 
   -- what leaves, the other way round
   back : SameLeaving T S
   back = leaving_turned S T d.leaving
-
-  -- the entry's object
-  n_object : n.object ≡ p.object
-  n_object = object_of_entry m all ts S ground orderly h o p there n d.there
 
   open_back : (x : Range) (v : OpName) → IsOpenOf T x v → IsOpenOf S x v
   open_back x v e = (e.0, ap (λ m. get m v) (sym d.opens) ∙ e.1, e.2)
@@ -77,9 +73,6 @@ module _ (m : Machine) (all ts : List Task) (S : State) (ground : HasGroundwork 
       ap (λ m. uses_of m v) d.uses
       ∙ sum_added name_order (λ q w. one_if (same_name w v)) S.mail.uses o n.latest
       (no_use m all ts S ground orderly o p there)
-
-  more : (a b c k : ℕ) → c ≡ k → a + b + c ≡ a + b + k
-  more a b c k e = ap (λ k. a + b + k) e
 
   total_latest : total T n.latest ≡ suc (total S n.latest)
   total_latest =

@@ -15,7 +15,6 @@ use Rattle.tss_laws.specs.Entries.{IsGoingHome, IsLeaving, IsUsed, IsLive, IsRet
 use Rattle.tss_laws.specs.Readers.{Arrivals}
 use Rattle.tss_laws.specs.Control.{HasGroundwork, IsControlled}
 use Rattle.tss_laws.proofs.EntriesFrames.{DecodesNoMore, KeepsLatest, KeepsLeaving, entries_kept}
-use Rattle.tss_laws.proofs.EntriesOfVersions.{HasEntryOf, entry_of_version}
 use Rattle.tss_laws.proofs.RetirementFrames.{cause_same}
 
 -- what a retire leaves
@@ -34,9 +33,6 @@ pub record Retires (ts : List Task) (S T : State) (v : OpName) (x : Version) : T
 module _ (m : Machine) (all ts : List Task) (g : Arrivals) (S : State) (ground : HasGroundwork m all ts S)
     (h : IsControlled ts g S) (v : OpName) (x : Version) (at : get S.versions v ≡ Some x)
     (may : get S.mail.retires v ≡ Some tt) (T : State) (d : Retires ts S T v x) where
-  f : HasEntryOf S x.object
-  f = entry_of_version m all ts g S ground h v x at
-
   here : IsVersionOf S x.object v
   here = (x, at, refl)
 

@@ -58,9 +58,6 @@ module _ (m : Machine) (all ts : List Task) (S : State) (ground : HasGroundwork 
 
     -- at home
     module _ (lies : x.storage ≡ Some Home) where
-      gone : GoneContents
-      gone = retired x.object None
-
       home_gones : U.mail.gones ≡ insert S.mail.gones v (retired x.object None)
       home_gones = ap (λ (m : Mail). m.gones) (retired_mail (Some Home) lies)
 

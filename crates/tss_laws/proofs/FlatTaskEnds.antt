@@ -34,9 +34,6 @@ Goes s t =
     ⊎ ((trap : Trap) × (t ≡ task_trapped s trap))
 
 module _ (budget : ℕ) (code : List SegmentState) (ranges : List MemoryRange) (operands : List Operand) where
-  step : TaskState Memory → TaskState Memory
-  step s = task_step byte_at memory_write budget code (TaskActor ranges operands) s
-
   write_keeps : (s : TaskState Memory) (w : Write) → (task_write memory_write s (Some w)).trap ≡ s.trap
   write_keeps s w = by (covers scratch_range w.at)
     where

@@ -97,10 +97,10 @@ module _ (S : State) (n : ℕ) (x : Flying) (flying : get S.flight n ≡ Some x)
     by_phase Left e h = absurd (not_late (ap is_late e))
 
   -- a task that runs has all its operands ready
-  -- its operands are ready
   pub running_ready : AreReady S n
   running_ready q r same kept = by_phase q r same kept (phase_of S q) refl (orderly q).fits
 
+-- so has one that finishes
 pub finishes_ready : (m : Machine) (all : List Task) (S : State) → HasStages m all S → AreOrderly S → HasRunners S
     → (w : ℕ) → FinishesReady S w
 finishes_ready m all S stages orderly runners w b e =

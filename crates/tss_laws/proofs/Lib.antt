@@ -272,7 +272,6 @@ pub mod HomeBytes
 pub mod StoredCopy
 pub mod StoredMain
 pub mod StoredFinish
-pub mod StoredFirst
 pub mod StoredWorkers
 pub mod StoredExec
 pub mod StoredStart

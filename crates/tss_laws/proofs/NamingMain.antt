@@ -15,7 +15,7 @@ use Rattle.tss_model.specs.Memory.{frozen}
 use Rattle.tss_model.specs.Spawn.{spawn_of}
 use Rattle.tss_model.specs.MainStep.{MainState, Flat, Call, ExitCall, Spawn, Barrier, Print, Unknown, spawn_call, spawn_on}
 use Rattle.tss_model.specs.InOrder.{Started, flat_stepped, started_at, started_in, end_of_started}
-use Rattle.tss_protocol.specs.State.{State, initial_state}
+use Rattle.tss_protocol.specs.State.{State}
 use Rattle.tss_protocol.specs.MainEvent.{call_next}
 use Rattle.tss_protocol.specs.Needs.{round_after_main, round_after_event}
 use Rattle.tss_protocol.specs.UnitMachine.{IsEnabled, after_event}
@@ -299,10 +299,3 @@ module _ (m : Machine) (i : ImageState) (all ts : List Task) (g : Arrivals) (S :
   HasNaming-after_event (event.Retire v) on = HasNaming-other (event.Retire v) refl
   HasNaming-after_event (event.Copy b) on = HasNaming-other (event.Copy b) refl
   HasNaming-after_event (event.Gone v) on = HasNaming-other (event.Gone v) refl
-
--- at first the round is empty
-pub HasNaming-initial_state : (m : Machine) (i : ImageState) → HasNaming m i [] [] (initial_state i)
-HasNaming-initial_state m i = record {
-  named = λ o p k j s among. absurd (none-some p among);
-  among = λ n t o p at. absurd (none-some t at);
-}

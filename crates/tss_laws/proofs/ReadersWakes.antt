@@ -79,9 +79,6 @@ waiting_told p q e f = (
   ap has_arrived f ∙ ap has_arrived (sym e),
 )
 
-told_apart : (p : Phase) → p ≡ Told → p ≡ Waiting → ⊥
-told_apart p e f = cc
-
 -- neighbours of whom the older is told stay so, where the newer waits as before
 pub neighbours_woken : (S T : State) (a b : OpName) → get T.mail.links a ≡ get S.mail.links a
     → ((r : OperandState) → operand_at T.flight a ≡ Some r

@@ -14,7 +14,7 @@ use Rattle.tss_model.specs.Access.{writes}
 use Rattle.tss_protocol.specs.State.{Entry, OperandState, Flying, Version, CopyState}
 use Rattle.tss_protocol.specs.Stations.{sent_by_ready, sent_by_link, release_of, releases_from, after_ready, after_link, flight_after_finish, woken_in, woken_by, linked_in, linked_by, finished_in}
 use Rattle.tss_protocol.specs.Renaming.{idle_by, after_idle}
-use Rattle.tss_protocol.specs.Versions.{Versioned, Settling, sending, ready_with, settle_how, settle_by, settle_at, settle_asking, unchanged, settle, settled, may_ask, may_die, opened_how, opened_by, after_open, used_alone, used_behind, used_at, after_use, head_ready, released_by, released_at, after_release, nacked_at, after_nack}
+use Rattle.tss_protocol.specs.Versions.{Settling, ready_with, settle_how, settle_by, settle_at, settle_asking, unchanged, settle, settled, may_ask, may_die, opened_how, opened_by, after_open, used_alone, used_behind, used_at, after_use, head_ready, released_by, released_at, after_release, nacked_at, after_nack}
 use Rattle.tss_protocol.specs.Buffers.{sent_by_retire, sent_by_copy}
 use Rattle.tss_protocol.specs.Names.{operand_name}
 
@@ -48,11 +48,6 @@ IsLater (Gone v going) = Unit {0}
 ready_with-later : (o v : OpName) (storage : Option StorageName) → AllSent IsLater (ready_with o v storage)
 ready_with-later o v None = tt
 ready_with-later o v (Some s) = (tt, tt)
-
--- messages before an outcome's
-sending-later : (ms : List Message) (d : Versioned) → AllSent IsLater ms → AllSent IsLater d.sent
-    → AllSent IsLater (sending ms d).sent
-sending-later ms d a b = AllSent-append IsLater ms d.sent a b
 
 module _ (vs : Named Version) (v : OpName) (x : Version) (next : Settling)
     (rest : (ws : Named Version) (w : OpName) → AllSent IsLater (next ws w).sent) where

@@ -1,11 +1,9 @@
--- Where an object has a version, it isn't on its way home: nothing of it is copied, and none of its versions is gone as
--- the last.
+-- Where an object has a version, it isn't on its way home: nothing of it is copied.
 use Rattle.std.proofs.Common.{◌≡◌, inl, inr, ℕ, Bool, true, false, List, Some, refl, sym, subst}
 use Rattle.std.specs.FinMap.{get}
 use Rattle.tss_base.specs.declared.operand.OpName.{OpName}
 use Rattle.tss_base.specs.declared.operand.Task.{Task}
 use Rattle.tss_base.specs.declared.machine.Machine.{Machine}
-use Rattle.tss_protocol.specs.Mail.{GoneContents}
 use Rattle.tss_protocol.specs.State.{State, Version, CopyState}
 use Rattle.tss_laws.specs.Entries.{IsGoingHome}
 use Rattle.tss_laws.specs.Readers.{Arrivals}
@@ -33,8 +31,3 @@ module _ (m : Machine) (all ts : List Task) (g : Arrivals) (S : State) (ground :
   -- no bank copies it
   pub not_copied_home : (bank : ℕ) (c : CopyState) → get S.copies bank ≡ Some c → c.object ≡ y.object → ⊥
   not_copied_home bank c e object = not_going_home c.version (inl (bank, c, e, refl, object))
-
-  -- no version of it is gone as the last
-  pub not_gone_home : (w : OpName) (c : GoneContents) → get S.mail.gones w ≡ Some c → c.retired ≡ true
-      → c.object ≡ y.object → ⊥
-  not_gone_home w c e last object = not_going_home w (inr (c, e, last, object))

@@ -15,7 +15,7 @@ use Rattle.tss_model.specs.Access.{Loads, touches}
 use Rattle.tss_model.specs.InOrder.{Started, started_at, started_in}
 use Rattle.tss_model.specs.MainStep.{MainState}
 use Rattle.tss_model.specs.Spawn.{same_range}
-use Rattle.tss_protocol.specs.State.{State, initial_state}
+use Rattle.tss_protocol.specs.State.{State}
 use Rattle.tss_protocol.specs.UnitMachine.{IsEnabled, after_event}
 use Rattle.tss_protocol.specs.MainEvent.{call_next}
 use Rattle.tss_locality.specs.Rounds.{IsIn}
@@ -29,11 +29,10 @@ use Rattle.tss_laws.proofs.FlatLoads.{byte_range, main_granted}
 use Rattle.tss_laws.proofs.FlatNames.{Has, same_range-refl, covers-touch}
 use Rattle.tss_laws.proofs.FlatNumbers.{one_place, numbers_rise}
 use Rattle.tss_laws.proofs.FlatOrder.{trapped_after}
-use Rattle.tss_laws.proofs.FlatPieces.{NoneAfter, NoneAfter-rises}
+use Rattle.tss_laws.proofs.FlatPieces.{NoneAfter}
 use Rattle.tss_laws.proofs.GroundworkRounds.{found_among}
 use Rattle.tss_laws.proofs.MainEvent.{main_on-enabled, follows_main, main_rises, cut_off_rises}
-use Rattle.tss_laws.proofs.MainFollows.{follows-initial_state}
-use Rattle.tss_laws.proofs.RunKeeps.{HasGround, is_main, cases_main, after_event-kept}
+use Rattle.tss_laws.proofs.RunKeeps.{HasGround, is_main, after_event-kept}
 use Rattle.tss_laws.proofs.SpawnLemmas.{SpawnsAtMostOne, SpawnsOne, spawns_main}
 use Rattle.tss_laws.proofs.Values.{Starts, HasHome, HasMain}
 
@@ -188,28 +187,3 @@ module _ (m : Machine) (i : ImageState) (all ts : List Task) (g : Arrivals) (S :
   same-after_event (event.Retire v) on = main.same
   same-after_event (event.Copy b) on = main.same
   same-after_event (event.Gone v) on = main.same
-
--- ---- what main has printed
-
--- no piece has more tasks before it after any event
-pub few-after_event : (m : Machine) (S : State) (e : Event) → NoneAfter S.main.spawned S.main.pieces
-    → NoneAfter (after_event m S e).main.spawned (after_event m S e).main.pieces
-few-after_event m S e few = elim (cases_main e) [
-  | inl is ↦
-      subst (λ e. NoneAfter (after_event m S e).main.spawned (after_event m S e).main.pieces) (sym is)
-      (NoneAfter-rises S.main (after_event m S event.Main).main (main_rises m S) few)
-  | inr other ↦
-      subst (λ (s : MainState). NoneAfter s.spawned s.pieces) (sym (after_event-kept m S e other).main) few
-]
-
--- ---- at first
-
--- main is in program order
-pub follows_at_first : (m : Machine) (i : ImageState)
-    → (initial_state i).main ≡ (flat_beside i m.limits (initial_state i).main).main
-follows_at_first m i = (follows-initial_state m i).main
-
--- and none is spawned
-pub same_at_first : (m : Machine) (i : ImageState) (n : ℕ) (t : Task) (s : Started) → task_at [] n ≡ Some t
-    → Starts m i n s → s.task ≡ t
-same_at_first m i n t s e starts = absurd (none-some t e)

@@ -76,6 +76,7 @@ module _ (m : Machine) (i : ImageState) (all ts : List Task) (g : Arrivals) (S :
 
     -- ---- main
 
+    -- main's event
     pub runs_main : SameFixed i S (after_event m S event.Main) → AllRun m i (after_event m S event.Main)
     runs_main fixed w b there =
         let left = Leaves-after_event m S event.Main in
@@ -110,6 +111,7 @@ module _ (m : Machine) (i : ImageState) (all ts : List Task) (g : Arrivals) (S :
     copy_by returns k None at fixed = λ w b there s starts. workers.runs w b s there starts
     copy_by returns k (Some c) at fixed = copied returns k c at fixed
 
+    -- a copy
     pub runs_copy : HasReturns m i ts S → (k : ℕ) → SameFixed i S (after_event m S (event.Copy k))
         → AllRun m i (after_event m S (event.Copy k))
     unfolding after_event
@@ -153,6 +155,7 @@ module _ (m : Machine) (i : ImageState) (all ts : List Task) (g : Arrivals) (S :
     gone_by v None at = λ w b there s starts. workers.runs w b s there starts
     gone_by v (Some c) at = freed v c at
 
+    -- a gone
     pub runs_gone : (v : OpName) → AllRun m i (after_event m S (event.Gone v))
     unfolding after_event
     runs_gone v = gone_by v (get S.mail.gones v) refl

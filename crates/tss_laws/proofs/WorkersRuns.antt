@@ -169,6 +169,7 @@ module _ (m : Machine) (i : ImageState) (all ts : List Task) (g : Arrivals) (S :
           owned_left (λ q a placed covered.
           left.fixed a (q, subst (λ (rs : List MemoryRange). range_of rs q ≡ Some false) image.ranges placed, covered)))
 
+    -- so each worker whose operands are left stands where it stood
     pub runs_left : (w : ℕ) (b : Busy) → get S.workers w ≡ Some b → (x : Stores) → LeavesHeld x b.task.number
         → RunsAt m i x b
     runs_left w b there x left s starts =

@@ -14,15 +14,17 @@ use Rattle.tss_base.specs.declared.event.Follow.{Follow}
 
 -- ---- how an object leaves
 
--- its last version may retire, is copied home, or is gone and was the last
+-- its last version may retire
 abbrev pub MayRetire : State → Range → OpName → Type 0
 MayRetire S x v = (get S.mail.retires v ≡ Some tt) × IsVersionOf S x v
 
+-- it is copied home, or is gone and was the last
 abbrev pub IsGoingHome : State → Range → OpName → Type 0
 IsGoingHome S x v =
     ((b : ℕ) × (c : CopyState) × (get S.copies b ≡ Some c) × (c.version ≡ v) × (c.object ≡ x))
     ⊎ ((g : GoneContents) × (get S.mail.gones v ≡ Some g) × (g.retired ≡ true) × (g.object ≡ x))
 
+-- one of these
 abbrev pub IsLeaving : State → Range → OpName → Type 0
 IsLeaving S x v = MayRetire S x v ⊎ IsGoingHome S x v
 

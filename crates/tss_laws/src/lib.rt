@@ -16,13 +16,7 @@ ghost use Rattle.tss_laws.specs.NoFalseWait.{QueuedLaw};
 ghost use Rattle.tss_laws.specs.UseCounts.{ReadersLaw};
 ghost use Rattle.tss_laws.specs.MessageCounts.{MessagesLaw};
 ghost use Rattle.tss_laws.specs.Controlled.{RoundLaw, ControlLaw, OneMessageLaw};
-ghost use Rattle.tss_laws.specs.Refinement.{
-  ResultLaw,
-  SizesLaw,
-  ProducedBytesLaw,
-  WorkerBytesLaw,
-  MainStateLaw,
-};
+ghost use Rattle.tss_laws.specs.Refinement.{ResultLaw, SizesLaw, ProducedBytesLaw, WorkerBytesLaw, MainStateLaw};
 ghost use Rattle.tss_laws.specs.MainInOrder.{MainInOrderLaw, MainCutOffLaw, MainStoresLaw};
 
 /// Spawned tasks are numbered from 1 in their order, at most as many as there may be, and each with at most as many
@@ -51,9 +45,9 @@ pub fn decode_order()
 {}
 
 /// A task in flight waits exactly where one of its operands isn't ready, one that is queued is in the ready queue, one
-/// that runs is on a worker, and one that has finished has an operand whose farewell isn't done. What is in the queue or on a worker was taken and has its operands. A busy worker is
-/// one of the machine's, has a storage for each operand of its task, and has completed no more instructions than a task
-/// may.
+/// that runs is on a worker, and one that has finished has an operand whose farewell isn't done. What is in the queue or
+/// on a worker was taken and has its operands. A busy worker is one of the machine's, has a storage for each operand of
+/// its task, and has completed no more instructions than a task may.
 pub fn stages()
     ensures { StagesLaw }
 {}
