@@ -4,7 +4,7 @@ use Rattle.tss_base.specs.declared.machine.Limits.{Limits}
 use Rattle.tss_base.specs.declared.machine.Sizes.{Sizes}
 use Rattle.tss_base.specs.declared.machine.Machine.{Machine}
 use Rattle.tss_base.specs.declared.machine.Key.{Key}
-use Rattle.tss_base.specs.declared.machine.Key.TheVariants.{MainBudget, TaskBudget, MaxTasks, MaxOperands, ObjectBytes, EpochObjects, OutputBytes, Stations, Slots, Workers, Banks, Entries, Versions, Buffers, Quantum}
+use Rattle.tss_base.specs.declared.machine.Key.TheVariants.{MainBudget, TaskBudget, MaxTasks, MaxOperands, ObjectBytes, EpochObjects, OutputBytes, Stations, Slots, Workers, Banks, Entries, Versions, Buffers, Quantum, Window}
 
 -- the keys in the order in which they are checked
 abbrev pub all_keys : List Key
@@ -24,6 +24,7 @@ all_keys =
     ∷ Versions
     ∷ Buffers
     ∷ Quantum
+    ∷ Window
     ∷ []
 
 -- the key as a description has it
@@ -43,6 +44,7 @@ key_name Entries = codes "entries"
 key_name Versions = codes "versions"
 key_name Buffers = codes "buffers"
 key_name Quantum = codes "quantum"
+key_name Window = codes "window"
 
 -- the least and the greatest value of a key
 abbrev pub key_range : Key → ℕ × ℕ
@@ -61,6 +63,7 @@ key_range Entries = (1, 256)
 key_range Versions = (1, 256)
 key_range Buffers = (1, 64)
 key_range Quantum = (1, 65536)
+key_range Window = (1, 8)
 
 abbrev pub IsInRange : Key → ℕ → Type 0
 IsInRange k n = ((key_range k).0 ≤ n) × (n ≤ (key_range k).1)
@@ -76,7 +79,7 @@ limit_of l EpochObjects = Some l.epoch_objects
 limit_of l OutputBytes = Some l.output_bytes
 limit_of l k = None
 
--- the size of a key, for the eight that are sizes
+-- the size of a key, for the nine that are sizes
 abbrev pub size_of : Sizes → Key → Option ℕ
 size_of s Stations = Some s.stations
 size_of s Slots = Some s.slots
@@ -86,6 +89,7 @@ size_of s Entries = Some s.entries
 size_of s Versions = Some s.versions
 size_of s Buffers = Some s.buffers
 size_of s Quantum = Some s.quantum
+size_of s Window = Some s.window
 size_of s k = None
 
 -- each limit lies in its range

@@ -16,7 +16,8 @@ pub struct Limits {
 }
 
 /// How large the unit machine is: reservation stations, slots per station, worker cores, banks of renaming and
-/// versioning tables, entries, version places and rename buffers per bank, and instructions per event.
+/// versioning tables, entries, version places and rename buffers per bank, instructions per event, and tasks that decode
+/// at once.
 #[derive(Clone, Copy, Debug, PartialEq, Eq)]
 pub struct Sizes {
     pub stations: u32,
@@ -27,6 +28,7 @@ pub struct Sizes {
     pub versions: u32,
     pub buffers: u32,
     pub quantum: u32,
+    pub window: u32,
 }
 
 /// Limits and sizes.
@@ -54,6 +56,7 @@ pub enum Key {
     Versions,
     Buffers,
     Quantum,
+    Window,
 }
 
 impl Key {
@@ -77,6 +80,7 @@ impl Key {
             Key::Versions => "versions",
             Key::Buffers => "buffers",
             Key::Quantum => "quantum",
+            Key::Window => "window",
         }
     }
 }

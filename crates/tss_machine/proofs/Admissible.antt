@@ -6,7 +6,7 @@ use Rattle.std.specs.Result.{result_err, result_unwrap_or}
 use Rattle.toml.specs.Data.{Data, string, integer, float, boolean, datetime, array, table, Members}
 use Rattle.tss_base.specs.Machine.{all_keys, key_range, IsInRange, AreLimits, AreSizes, IsAdmissible}
 use Rattle.tss_base.specs.declared.machine.Key.{Key}
-use Rattle.tss_base.specs.declared.machine.Key.TheVariants.{MainBudget, TaskBudget, MaxTasks, MaxOperands, ObjectBytes, EpochObjects, OutputBytes, Stations, Slots, Workers, Banks, Entries, Versions, Buffers, Quantum}
+use Rattle.tss_base.specs.declared.machine.Key.TheVariants.{MainBudget, TaskBudget, MaxTasks, MaxOperands, ObjectBytes, EpochObjects, OutputBytes, Stations, Slots, Workers, Banks, Entries, Versions, Buffers, Quantum, Window}
 use Rattle.tss_machine.specs.Table.{in_range, number_from, number_at, key_fault, number_or_zero, key_faults, unknown_fault}
 use Rattle.tss_machine.specs.Description.{machine_with, size_fault, size_faults, machine_in, checks, first_fault, answer_with, answer_of, table_of, machine_of}
 use Rattle.tss_machine.specs.declared.fault.MachineFault.{MachineFault}
@@ -29,6 +29,7 @@ place_of Entries = 11
 place_of Versions = 12
 place_of Buffers = 13
 place_of Quantum = 14
+place_of Window = 15
 
 -- what all keys have a function of the key has at its place
 at_place : {Y : Type 0} (f : Key → Y) (k : Key) → slice_get (map f all_keys) (place_of k) ≡ Some (f k)
@@ -47,6 +48,7 @@ at_place f Entries = refl
 at_place f Versions = refl
 at_place f Buffers = refl
 at_place f Quantum = refl
+at_place f Window = refl
 
 -- a number between two others
 between : (least greatest n : ℕ) → nat_le least n && nat_le n greatest ≡ true → (least ≤ n) × (n ≤ greatest)
@@ -108,6 +110,7 @@ module _ (f : Key → ℕ) (ranges : (k : Key) → IsInRange k (f k)) where
   sizes_with Versions n e = same Versions n e
   sizes_with Buffers n e = same Buffers n e
   sizes_with Quantum n e = same Quantum n e
+  sizes_with Window n e = same Window n e
   sizes_with _ n e = cc
 
 -- a table of a bank that isn't too small has room for the operands of a task

@@ -17,7 +17,7 @@ abbrev pub key_at : ℕ → Key
 key_at i = get_or all_keys i MainBudget
 
 -- its fault comes first of those from the place on
-key_faults-from : (t : Members) (i : ℕ) → i < 15
+key_faults-from : (t : Members) (i : ℕ) → i < 16
     → drop i (key_faults t) ≡ key_fault t (key_at i) ∷ drop (i + 1) (key_faults t)
 unfolding key_faults
 key_faults-from t i h =
@@ -25,7 +25,7 @@ key_faults-from t i h =
     drop_more (key_faults t) i (key_fault t MainBudget) h ∙ ap (λ o. o ∷ drop (i + 1) (key_faults t)) here
 
 -- where it has none, those after it decide
-pub passed_turn : (t : Members) (i n : ℕ) → i < 15 → number_at t (key_at i) ≡ Ok n
+pub passed_turn : (t : Members) (i n : ℕ) → i < 16 → number_at t (key_at i) ≡ Ok n
     → first_fault (drop i (key_faults t)) ≡ first_fault (key_faults t)
     → first_fault (drop (i + 1) (key_faults t)) ≡ first_fault (key_faults t)
 passed_turn t i n h e left =
@@ -34,7 +34,7 @@ passed_turn t i n h e left =
     ∙ left
 
 -- where it has one, it is the first
-pub failed_turn : (t : Members) (i : ℕ) (f : MachineFault) → i < 15 → number_at t (key_at i) ≡ Err f
+pub failed_turn : (t : Members) (i : ℕ) (f : MachineFault) → i < 16 → number_at t (key_at i) ≡ Err f
     → first_fault (drop i (key_faults t)) ≡ first_fault (key_faults t)
     → first_fault (key_faults t) ≡ Some f
 failed_turn t i f h e left =
@@ -43,7 +43,7 @@ failed_turn t i f h e left =
     ∙ first_fault-failed (key_fault t (key_at i)) _ f (ap result_err e)
 
 -- the number goes after those before it
-pub read_turn : (t : Members) (i n : ℕ) (numbers : List ℕ) → i < 15 → length numbers ≡ 15
+pub read_turn : (t : Members) (i n : ℕ) (numbers : List ℕ) → i < 16 → length numbers ≡ 16
     → number_at t (key_at i) ≡ Ok n
     → take i numbers ≡ take i (numbers_of t)
     → take (i + 1) (set numbers i n) ≡ take (i + 1) (numbers_of t)
@@ -56,13 +56,13 @@ read_turn t i n numbers h long e read =
     ∙ sym (take_more (numbers_of t) i (number_or_zero t MainBudget) h)
 
 -- and after all turns all are read
-pub all_read : (t : Members) (i : ℕ) (numbers : List ℕ) → 15 ≤ i → length numbers ≡ 15
+pub all_read : (t : Members) (i : ℕ) (numbers : List ℕ) → 16 ≤ i → length numbers ≡ 16
     → take i numbers ≡ take i (numbers_of t) → numbers ≡ numbers_of t
 unfolding numbers_of
 all_read t i numbers h long read = sym (take_all i numbers (omega arith)) ∙ read ∙ take_all i (numbers_of t) h
 
 -- and no fault is left
-pub all_passed : (t : Members) (i : ℕ) → 15 ≤ i → first_fault (drop i (key_faults t)) ≡ first_fault (key_faults t)
+pub all_passed : (t : Members) (i : ℕ) → 16 ≤ i → first_fault (drop i (key_faults t)) ≡ first_fault (key_faults t)
     → first_fault (key_faults t) ≡ None
 unfolding key_faults
 all_passed t i h left = sym left ∙ ap first_fault (drop_of_length-le (key_faults t) h)

@@ -5,7 +5,7 @@ use Rattle.toml.specs.Data.{Members}
 use Rattle.toml.specs.Parse.{parse_document}
 use Rattle.tss_base.specs.declared.machine.Machine.{Machine}
 use Rattle.tss_base.specs.declared.machine.Key.{Key}
-use Rattle.tss_base.specs.declared.machine.Key.TheVariants.{MainBudget, TaskBudget, MaxTasks, MaxOperands, ObjectBytes, EpochObjects, OutputBytes, Stations, Slots, Workers, Banks, Entries, Versions, Buffers, Quantum}
+use Rattle.tss_base.specs.declared.machine.Key.TheVariants.{MainBudget, TaskBudget, MaxTasks, MaxOperands, ObjectBytes, EpochObjects, OutputBytes, Stations, Slots, Workers, Banks, Entries, Versions, Buffers, Quantum, Window}
 use Rattle.tss_machine.specs.declared.fault.MachineFault.{MachineFault}
 use Rattle.tss_machine.specs.declared.fault.MachineFault.TheVariants as fault
 use Rattle.tss_machine.specs.Table.{key_faults, number_or_zero, unknown_fault}
@@ -31,6 +31,7 @@ machine_with number = record {
     versions = number Versions;
     buffers = number Buffers;
     quantum = number Quantum;
+    window = number Window;
   };
 }
 

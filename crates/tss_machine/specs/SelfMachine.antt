@@ -21,5 +21,6 @@ self_machine = record {
     versions = 32;
     buffers = 8;
     quantum = 64;
+    window = 1;
   };
 }

@@ -33,6 +33,7 @@ fn machine_with(numbers: [u32; KEY_COUNT]) -> Machine
         versions,
         buffers,
         quantum,
+        window,
     ] = numbers;
     Machine {
         limits: Limits {
@@ -53,6 +54,7 @@ fn machine_with(numbers: [u32; KEY_COUNT]) -> Machine
             versions,
             buffers,
             quantum,
+            window,
         },
     }
 }
@@ -91,7 +93,7 @@ fn machine_in(alloc: Global, table: &Table) -> Result<Machine, MachineFault>
 }
 
 /// The machine that the bytes describe, or the first check that they fail. A description is a TOML document whose
-/// top table has exactly the fifteen keys, each with an integer in its range, and in which `entries`, `versions` and
+/// top table has exactly the sixteen keys, each with an integer in its range, and in which `entries`, `versions` and
 /// `buffers` are at least `max_operands`. The checks come in this order: it is TOML; each key in turn is there, has
 /// an integer, and in its range; no key is unknown; the three tables of a bank are large enough.
 pub fn read_machine(alloc: Global, bytes: &[u8]) -> Result<Machine, MachineFault>

@@ -14,7 +14,7 @@ use toml::{Table, Value};
 use tss_base::Key;
 
 /// How many keys a description has.
-pub const KEY_COUNT: usize = 15;
+pub const KEY_COUNT: usize = 16;
 
 /// The keys of a description, in the order in which they are checked.
 const KEYS: [Key; KEY_COUNT] = [
@@ -33,6 +33,7 @@ const KEYS: [Key; KEY_COUNT] = [
     Key::Versions,
     Key::Buffers,
     Key::Quantum,
+    Key::Window,
 ];
 
 /// The least and the greatest number of a key.
@@ -55,6 +56,7 @@ fn range_of(key: Key) -> (u32, u32)
         Key::Versions => (1, 256),
         Key::Buffers => (1, 64),
         Key::Quantum => (1, 65_536),
+        Key::Window => (1, 8),
     }
 }
 

@@ -5,7 +5,7 @@ use std::process::Abort;
 use std::test::Fail;
 
 /// The keys, each with a number that suits the others, and with its least and its greatest number.
-const KEYS: [(Key, u32, u32, u32); 15] = [
+const KEYS: [(Key, u32, u32, u32); 16] = [
     (Key::MainBudget, 1000, 1, 1_000_000_000),
     (Key::TaskBudget, 100, 1, 100_000_000),
     (Key::MaxTasks, 16, 1, 65_536),
@@ -21,10 +21,11 @@ const KEYS: [(Key, u32, u32, u32); 15] = [
     (Key::Versions, 16, 1, 256),
     (Key::Buffers, 7, 1, 64),
     (Key::Quantum, 100, 1, 65_536),
+    (Key::Window, 1, 1, 8),
 ];
 
 /// Lines of descriptions that are refused, with the number and the key of the fault.
-const REFUSED: [(&str, u32, Option<&str>); 23] = [
+const REFUSED: [(&str, u32, Option<&str>); 25] = [
     // A table of a bank is too small. The first of two is named.
     ("max_operands = 7\nbuffers = 6", 6, Some("buffers")),
     ("max_operands = 7\nversions = 6", 6, Some("versions")),
@@ -38,7 +39,7 @@ const REFUSED: [(&str, u32, Option<&str>); 23] = [
     ("\"\\u00e9\" = 1\nzz = 2", 3, Some("zz")),
     ("\"\\u00e9\\n\" = 1", 3, Some("\u{e9}\n")),
     ("\"\" = 1\na = 2", 3, Some("")),
-    ("[window]", 3, Some("window")),
+    ("[extra]", 3, Some("extra")),
     // The checks of one key come before those of the next, then the unknown keys, then the sizes.
     (
         "main_budget = 0 # and no task_budget",
@@ -51,9 +52,11 @@ const REFUSED: [(&str, u32, Option<&str>); 23] = [
     // What stands under a key is a table.
     ("slots.deep = 8", 4, Some("slots")),
     ("[slots]\nn = 1", 4, Some("slots")),
+    ("[window]", 4, Some("window")),
     // Keys are spelled as they are.
     ("Slots = 8 # and no slots", 2, Some("slots")),
     ("# no quantum", 2, Some("quantum")),
+    ("# no window", 2, Some("window")),
     ("slots = 65", 5, Some("slots")),
     ("slots = \"8\"", 4, Some("slots")),
     // No TOML: a key twice, an integer that is too long, no value, a zero in front, no bracket.
@@ -85,6 +88,7 @@ entries = 4             # objects that a renaming bank holds
 versions = 8            # versions that a versioning bank holds
 buffers = 4             # rename buffers of a bank
 quantum = 16            # instructions that main or a worker executes in one event
+window = 1              # tasks that decode at once
 ";
 
 /// The description with these numbers, but without the keys that the last lines name, and then those lines.
@@ -101,7 +105,7 @@ fn described(alloc: Global, last: &str) -> Result<String, AllocError> {
 }
 
 /// The machine with these limits and sizes.
-fn machine_with(limits: [u32; 7], sizes: [u32; 8]) -> Machine {
+fn machine_with(limits: [u32; 7], sizes: [u32; 9]) -> Machine {
     Machine {
         limits: Limits {
             main_budget: u64::from(limits[0]),
@@ -121,6 +125,7 @@ fn machine_with(limits: [u32; 7], sizes: [u32; 8]) -> Machine {
             versions: sizes[5],
             buffers: sizes[6],
             quantum: sizes[7],
+            window: sizes[8],
         },
     }
 }
@@ -186,7 +191,7 @@ fn descriptions_are_toml(rt: HostRuntime) -> Result<(), Fail> {
     let alloc = rt.alloc();
     let usual = machine_with(
         [1000, 100, 16, 1, 128, 16, 64],
-        [1, 8, 3, 1, 16, 16, 7, 100],
+        [1, 8, 3, 1, 16, 16, 7, 100, 1],
     );
     let last =
         "slots = 0x8\r\n\r\n\tworkers = +3 # cores\n\"entries\" = 0b1_0000\n'quantum'=100 # the last";
@@ -201,7 +206,7 @@ fn descriptions_are_toml(rt: HostRuntime) -> Result<(), Fail> {
 fn examples_are_read(rt: HostRuntime) {
     let small = machine_with(
         [10_000, 1_000, 64, 3, 64, 16, 256],
-        [1, 4, 2, 2, 4, 8, 4, 16],
+        [1, 4, 2, 2, 4, 8, 4, 16, 1],
     );
     accepts(&rt, rt.alloc(), SMALL, small);
     let text = "
@@ -220,6 +225,7 @@ entries = 16
 versions = 32
 buffers = 8
 quantum = 64
+window = 1
 ";
     accepts(&rt, rt.alloc(), text, self_machine());
 }

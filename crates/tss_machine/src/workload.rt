@@ -5,7 +5,8 @@ ghost use Rattle.tss_machine.specs.SelfMachine.{self_machine as machine_of_self}
 
 use tss_base::{Limits, Machine, Sizes};
 
-/// The machine of the workload that comes with the program: two stations of eight slots, four workers and four banks.
+/// The machine of the workload that comes with the program: two stations of eight slots, four workers and four banks,
+/// and one task that decodes at a time.
 pub fn self_machine() -> Machine
     ensures exact { result ≡ machine_of_self }
     ensures admissible { IsAdmissible result }
@@ -29,6 +30,7 @@ pub fn self_machine() -> Machine
             versions: 32,
             buffers: 8,
             quantum: 64,
+            window: 1,
         },
     }
 }

@@ -59,6 +59,7 @@ small = record {
     versions = 16;
     buffers = 7;
     quantum = 100;
+    window = 1;
   };
 }
 

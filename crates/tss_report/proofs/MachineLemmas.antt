@@ -4,7 +4,7 @@ use Rattle.std.proofs.lemmas.Option.{same_Some, none-some}
 use Rattle.tss_base.specs.declared.machine.Limits.{Limits}
 use Rattle.tss_base.specs.declared.machine.Sizes.{Sizes}
 use Rattle.tss_base.specs.declared.machine.Key.{Key}
-use Rattle.tss_base.specs.declared.machine.Key.TheVariants.{MainBudget, TaskBudget, MaxTasks, MaxOperands, ObjectBytes, EpochObjects, OutputBytes, Stations, Slots, Workers, Banks, Entries, Versions, Buffers, Quantum}
+use Rattle.tss_base.specs.declared.machine.Key.TheVariants.{MainBudget, TaskBudget, MaxTasks, MaxOperands, ObjectBytes, EpochObjects, OutputBytes, Stations, Slots, Workers, Banks, Entries, Versions, Buffers, Quantum, Window}
 use Rattle.tss_base.specs.Machine.{AreLimits, AreSizes, IsInRange}
 
 abbrev pub test_limits : Limits
@@ -28,6 +28,7 @@ test_sizes = record {
   versions = 16;
   buffers = 7;
   quantum = 100;
+  window = 1;
 }
 
 -- a number that is given lies in the range of its key
@@ -50,6 +51,7 @@ limits_are Entries n e = absurd (none-some n e)
 limits_are Versions n e = absurd (none-some n e)
 limits_are Buffers n e = absurd (none-some n e)
 limits_are Quantum n e = absurd (none-some n e)
+limits_are Window n e = absurd (none-some n e)
 
 pub sizes_are : AreSizes test_sizes
 sizes_are Stations n e = given Stations 1 n (omega arith, omega arith) e
@@ -60,6 +62,7 @@ sizes_are Entries n e = given Entries 16 n (omega arith, omega arith) e
 sizes_are Versions n e = given Versions 16 n (omega arith, omega arith) e
 sizes_are Buffers n e = given Buffers 7 n (omega arith, omega arith) e
 sizes_are Quantum n e = given Quantum 100 n (omega arith, omega arith) e
+sizes_are Window n e = given Window 1 n (omega arith, omega arith) e
 sizes_are MainBudget n e = absurd (none-some n e)
 sizes_are TaskBudget n e = absurd (none-some n e)
 sizes_are MaxTasks n e = absurd (none-some n e)

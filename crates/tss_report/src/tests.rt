@@ -68,6 +68,7 @@ fn machine() -> Machine
             versions: 16,
             buffers: 7,
             quantum: 100,
+            window: 1,
         },
     }
 }

@@ -54,6 +54,7 @@ fn description(alloc: Global, changed: &str, value: &str) -> Result<String, Allo
     put_key(&mut text, changed, value, "versions", "16")?;
     put_key(&mut text, changed, value, "buffers", "7")?;
     put_key(&mut text, changed, value, "quantum", "100")?;
+    put_key(&mut text, changed, value, "window", "1")?;
     Ok(text)
 }
 

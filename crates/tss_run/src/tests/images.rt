@@ -39,6 +39,8 @@ fn machines_are_answered_by_their_first_fault(rt: HostRuntime) -> Result<(), Fai
         ("", "", 0, b"end exit 7\ntasks 0\noutput 0\n\n".as_slice()),
         ("buffers", "6", 4, b"machine 6 buffers\n"),
         ("quantum", "", 4, b"machine 2 quantum\n"),
+        ("window", "", 4, b"machine 2 window\n"),
+        ("window", "9", 4, b"machine 5 window\n"),
         ("slots", "65", 4, b"machine 5 slots\n"),
         ("slots", "8.0", 4, b"machine 4 slots\n"),
         ("slots", "8\nspeed = 9\nlight = 1", 4, b"machine 3 light\n"),
