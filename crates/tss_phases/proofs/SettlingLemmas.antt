@@ -13,7 +13,8 @@ use Rattle.tss_protocol.specs.Mail.{StorageName}
 use Rattle.tss_protocol.specs.State.{Version}
 use Rattle.tss_protocol.specs.Versions.{Settling, Versioned, ready_with, may_die, may_ask, unlinked, settle_asking, settle_how, settle_by, settle_at, settle, unchanged}
 use Rattle.tss_phases.specs.Told.{tells}
-use Rattle.tss_phases.specs.Settling.{GivesWay, TakesOver, SettleTells}
+use Rattle.tss_phases.specs.Settling.{TakesOver, SettleTells}
+use Rattle.tss_protocol.specs.Settled.{GivesWay}
 use Rattle.tss_phases.proofs.Received.{own_name, other_name}
 use Rattle.tss_phases.proofs.News.{AreNews}
 use Rattle.tss_phases.proofs.Tests.{not_both, or_false}

@@ -8,14 +8,8 @@ use Rattle.tss_base.specs.declared.event.Follow.{Follow}
 use Rattle.tss_base.specs.Names.{Named}
 use Rattle.tss_protocol.specs.Mail.{StorageName}
 use Rattle.tss_protocol.specs.State.{Version}
+use Rattle.tss_protocol.specs.Settled.{GivesWay}
 use Rattle.tss_protocol.specs.Versions.{may_die, unlinked}
-
--- a version is done, and gives way to the one that follows it in this way
-pub record GivesWay (vs : Named Version) (v : OpName) (x : Version) (f : Follow) (how : How) : Type 0 where
-  pub there : get vs v ≡ Some x
-  pub next : x.successor ≡ Some f
-  pub way : f.how ≡ how
-  pub done : may_die x f.last ≡ true
 
 -- an operand takes a version over, with its storage
 pub record TakesOver (vs : Named Version) (v s : OpName) : Type 0 where

@@ -1,7 +1,9 @@
-mod MessageNames
-mod DrainedStates
-mod EventOrder
-mod EnabledList
+pub mod MessageNames
+pub mod DrainedStates
+pub mod EventOrder
+pub mod EnabledList
+pub mod SettleCases
+pub mod UnlinkedVersions
 mod KnownEvents
 mod KnownRows
 mod RacingProgram

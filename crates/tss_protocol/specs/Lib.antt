@@ -5,6 +5,7 @@ pub mod Gateway
 pub mod Stations
 pub mod Renaming
 pub mod Versions
+pub mod Settled
 pub mod Buffers
 pub mod Workers
 pub mod MainEvent

@@ -2,7 +2,8 @@
 use Rattle.std.specs.Prelude.{◌≡◌, List, [], ◌∷◌, Option, Some, None, if◌then◌else◌}
 use Rattle.tss_base.specs.declared.machine.Machine.{Machine}
 use Rattle.tss_base.specs.declared.event.Event.{Event}
-use Rattle.tss_base.specs.Image.{ImageState}
+use Rattle.tss_base.specs.Image.{ImageState, IsAccepted}
+use Rattle.tss_base.specs.Machine.{IsAdmissible}
 use Rattle.tss_protocol.specs.State.{State, initial_state}
 use Rattle.tss_protocol.specs.UnitMachine.{is_enabled, after_event}
 
@@ -18,3 +19,16 @@ IsRun m i es S = after_events m (initial_state i) es ≡ Some S
 -- some run leaves this state
 abbrev pub IsReachable : Machine → ImageState → State → Type 0
 IsReachable m i S = (es : List Event) × IsRun m i es S
+
+-- a fact of an image on a machine, of a run's events and the state that they leave
+abbrev pub RunFact : Type 1
+RunFact = Machine → ImageState → List Event → State → Type 0
+
+-- it holds for every accepted image, every admissible machine and every run
+abbrev pub OverRuns : RunFact → Type 0
+OverRuns P =
+    (m : Machine) (i : ImageState) (es : List Event) (S : State)
+    → IsAccepted i
+    → IsAdmissible m
+    → IsRun m i es S
+    → P m i es S

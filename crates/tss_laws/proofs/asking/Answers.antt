@@ -1,4 +1,4 @@
-use Rattle.tss_laws.proofs.AskingEvents.{asking_of_runs}
+use Rattle.tss_names.proofs.AskingEvents.{asking_of_runs}
 use Rattle.tss_laws.proofs.asking.Goals as goal
 
 pub returns : goal.returns

@@ -1,4 +1,4 @@
-use Rattle.tss_laws.proofs.BoundRuns.{events_of_runs}
+use Rattle.tss_progress.proofs.bound.Runs.{events_of_runs}
 use Rattle.tss_laws.proofs.bound.Goals as goal
 
 pub returns : goal.returns

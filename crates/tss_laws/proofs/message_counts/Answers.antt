@@ -1,4 +1,4 @@
-use Rattle.tss_laws.proofs.MessageLemmas.{messages_of_runs}
+use Rattle.tss_names.proofs.MessageLemmas.{messages_of_runs}
 use Rattle.tss_laws.proofs.message_counts.Goals as goal
 
 pub returns : goal.returns

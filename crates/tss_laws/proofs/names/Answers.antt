@@ -1,4 +1,4 @@
-use Rattle.tss_laws.proofs.EnlistedNames.{names_of_runs}
+use Rattle.tss_names.proofs.EnlistedNames.{names_of_runs}
 use Rattle.tss_laws.proofs.names.Goals as goal
 
 pub returns : goal.returns

@@ -1,4 +1,4 @@
-use Rattle.tss_laws.proofs.WaitsRuns.{queued_of_runs}
+use Rattle.tss_progress.proofs.waits.Runs.{queued_of_runs}
 use Rattle.tss_laws.proofs.no_false_wait.Goals as goal
 
 pub returns : goal.returns

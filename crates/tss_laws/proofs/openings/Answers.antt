@@ -1,4 +1,4 @@
-use Rattle.tss_laws.proofs.EnlistedNames.{openings_of_runs}
+use Rattle.tss_names.proofs.EnlistedNames.{openings_of_runs}
 use Rattle.tss_laws.proofs.openings.Goals as goal
 
 pub returns : goal.returns

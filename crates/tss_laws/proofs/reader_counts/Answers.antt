@@ -1,4 +1,4 @@
-use Rattle.tss_laws.proofs.CountEvents.{readers_of_runs}
+use Rattle.tss_names.proofs.CountEvents.{readers_of_runs}
 use Rattle.tss_laws.proofs.reader_counts.Goals as goal
 
 pub returns : goal.returns

@@ -1,9 +1,9 @@
 -- Each clause is its lemma, of the values that every run has.
-use Rattle.tss_laws.proofs.GroundworkControl.{sizes_of_runs}
-use Rattle.tss_laws.proofs.ValuesEvents.{HasValues-Run, result_of_runs}
-use Rattle.tss_laws.proofs.ValuesMainLaw.{main_of_values}
-use Rattle.tss_laws.proofs.ValuesProducedLaw.{produced_of_values}
-use Rattle.tss_laws.proofs.ValuesWorkerLaw.{workers_of_values}
+use Rattle.tss_control.proofs.GroundworkControl.{sizes_of_runs}
+use Rattle.tss_values.proofs.ValuesEvents.{HasValues-Run, result_of_runs}
+use Rattle.tss_values.proofs.ValuesMainLaw.{main_of_values}
+use Rattle.tss_values.proofs.ValuesProducedLaw.{produced_of_values}
+use Rattle.tss_values.proofs.ValuesWorkerLaw.{workers_of_values}
 use Rattle.tss_laws.proofs.refines.Goals as goal
 
 pub returns-clause-result : goal.returns-clause-result

@@ -1,4 +1,4 @@
-use Rattle.tss_laws.proofs.SlotLemmas.{slots_of_runs}
+use Rattle.tss_names.proofs.SlotLemmas.{slots_of_runs}
 use Rattle.tss_laws.proofs.slots.Goals as goal
 
 pub returns : goal.returns

@@ -1,4 +1,4 @@
-use Rattle.tss_laws.proofs.StageEvents.{stages_of_runs}
+use Rattle.tss_names.proofs.StageEvents.{stages_of_runs}
 use Rattle.tss_laws.proofs.stages.Goals as goal
 
 pub returns : goal.returns

@@ -1,4 +1,4 @@
-use Rattle.tss_laws.proofs.TableLemmas.{tables_of_runs}
+use Rattle.tss_names.proofs.TableLemmas.{tables_of_runs}
 use Rattle.tss_laws.proofs.tables.Goals as goal
 
 pub returns : goal.returns

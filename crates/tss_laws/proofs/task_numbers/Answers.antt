@@ -1,4 +1,4 @@
-use Rattle.tss_laws.proofs.NumberLemmas.{numbers_of_runs}
+use Rattle.tss_names.proofs.NumberLemmas.{numbers_of_runs}
 use Rattle.tss_laws.proofs.task_numbers.Goals as goal
 
 pub returns : goal.returns

@@ -1,0 +1,15 @@
+pub mod rounds
+pub mod chains
+pub mod readers
+pub mod entries
+pub mod holders
+pub mod GroundworkRuns
+pub mod GroundworkEmpty
+pub mod GroundworkGrown
+pub mod GroundworkMain
+pub mod GroundworkJoin
+pub mod ChainsEvents
+pub mod ReadersEvents
+pub mod EntriesEvents
+pub mod HoldersEvents
+pub mod GroundworkControl

@@ -1,0 +1,21 @@
+-- The readers of a version wait for one another in the order in which they came, after each event.
+pub mod Settle
+pub mod Links
+pub mod Stations
+pub mod Quiet
+pub mod Tasks
+pub mod Leaving
+pub mod Told
+pub mod Settled
+pub mod Retire
+pub mod Wakes
+pub mod Ready
+pub mod Link
+pub mod Enlisted
+pub mod Come
+pub mod Use
+pub mod Written
+pub mod Release
+pub mod Opened
+pub mod Following
+pub mod Open

@@ -1,0 +1,21 @@
+-- The round of tasks since the last barrier, and what the parts of control cite of one another.
+pub mod Rounds
+pub mod EntriesFrames
+pub mod ReadersLists
+pub mod ReadersCounts
+pub mod EntriesQuiet
+pub mod Spawned
+pub mod ReadersKept
+pub mod ReadersStates
+pub mod HoldersNext
+pub mod RetirementFrames
+pub mod EntriesNames
+pub mod EntriesLeaving
+pub mod EntriesDecodeOpen
+pub mod EntriesDecodeUse
+pub mod EntriesDecode
+pub mod ReleaseFacts
+pub mod MessageCounts
+pub mod DecodeFacts
+pub mod RoundTasks
+pub mod FitObjects

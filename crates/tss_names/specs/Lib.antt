@@ -1,0 +1,9 @@
+pub mod Tasks
+pub mod Stages
+pub mod Names
+pub mod Openings
+pub mod Tables
+pub mod Asking
+pub mod Held
+pub mod UseCounts
+pub mod MessageCounts

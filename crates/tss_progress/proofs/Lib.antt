@@ -1,0 +1,3 @@
+pub mod bound
+pub mod progress
+pub mod waits

@@ -1,0 +1,42 @@
+-- An operand of the round that program order starts finds its object as the last writer before it left it.
+use Rattle.std.proofs.Common.{◌≡◌, ◌<◌, List, Some, sym, subst, arith}
+use Rattle.tss_base.specs.declared.operand.OpName.{OpName}
+use Rattle.tss_base.specs.declared.operand.Operand.{Operand}
+use Rattle.tss_base.specs.declared.operand.Task.{Task}
+use Rattle.tss_base.specs.declared.machine.Machine.{Machine}
+use Rattle.tss_base.specs.Image.{ImageState}
+use Rattle.tss_model.specs.InOrder.{Started}
+use Rattle.tss_protocol.specs.State.{State}
+use Rattle.tss_control.specs.Members.{operand_among, NoWriterBetween}
+use Rattle.tss_control.specs.Control.{HasGroundwork}
+use Rattle.tss_program_order.proofs.FlatNumbers.{number_there}
+use Rattle.tss_program_order.proofs.FlatStarts.{started-number}
+use Rattle.tss_names.proofs.NumberLemmas.{number_within}
+use Rattle.tss_values.proofs.Values.{Starts, HasMain, HasNaming}
+use Rattle.tss_values.proofs.stored.Settled.{FindsLeft}
+use Rattle.tss_values.proofs.NamingLemmas.{runs_on, found_between}
+
+module _ (m : Machine) (i : ImageState) (all ts : List Task) (S : State) (ground : HasGroundwork m all ts S)
+    (main : HasMain m i all S) (naming : HasNaming m i all ts S) where
+  -- where program order starts a task of the round, it has started each older one before
+  started_older : (v w : OpName) (q : Operand) (s : Started) → operand_among ts v ≡ Some q
+      → (starts : Starts m i w.task s) → v.task < w.task
+      → (t : Started) × (first : Starts m i v.task t) × (first.0 < starts.0)
+  started_older v w q s from starts less =
+      let known = ground.known.operands v q from in
+      let some = number_within all v.task known.task known.spawned in
+      let number = started-number i m.limits starts.0 s starts.1 in
+      let n =
+      number_there i m.limits v.task starts.0 (omega (arith, some.0)) (omega (arith, number, starts.2, less)) in
+      (n.started, (n.place, n.start, n.number), n.before)
+
+  -- it finds there what they left
+  pub finds_left : FindsLeft m i ts
+  finds_left v w q p s from known same less none =
+      let t = started_older v w q s from known.starts less in (
+        t.0,
+        t.1,
+        λ writer. runs_on m i all ts S ground main naming v t.0 known.starts.0 s t.1 known.starts.1 t.2,
+        sym (found_between m i all ts S ground main naming v w q p t.0 s from known.operand same less
+            (subst (λ x. NoWriterBetween ts x v w) (sym same) none) t.1 known.starts),
+      )

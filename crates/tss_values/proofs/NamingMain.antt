@@ -1,0 +1,301 @@
+-- The objects of the round stay named in program order, and the round has each spawned task from its oldest on.
+use Rattle.std.proofs.Common.{◌≡◌, ◌⊎◌, inl, inr, ℕ, suc, ◌+◌, ◌-◌, ◌<◌, ◌≤◌, false, List, [], ◌∷◌, ◌++◌, append-nil, Option, Some, None, Result, Ok, Err, refl, sym, ap, subst, ◌∙◌, arith}
+use Rattle.std.specs.Prelude.{is_some, option_to_list}
+use Rattle.std.proofs.lemmas.Bool.{cases_lt, cases_order}
+use Rattle.std.proofs.lemmas.Option.{none-some, same_Some}
+use Rattle.tss_base.specs.declared.operand.OpName.{OpName}
+use Rattle.tss_base.specs.declared.operand.Operand.{Operand}
+use Rattle.tss_base.specs.declared.operand.Task.{Task}
+use Rattle.tss_base.specs.declared.ending.Trap.{Trap}
+use Rattle.tss_base.specs.declared.machine.Machine.{Machine}
+use Rattle.tss_base.specs.declared.event.Event.{Event}
+use Rattle.tss_base.specs.declared.event.Event.TheVariants as event
+use Rattle.tss_base.specs.Image.{ImageState}
+use Rattle.tss_model.specs.Memory.{frozen}
+use Rattle.tss_model.specs.Spawn.{spawn_of}
+use Rattle.tss_model.specs.MainStep.{MainState, Flat, Call, ExitCall, Spawn, Barrier, Print, Unknown, spawn_call, spawn_on}
+use Rattle.tss_model.specs.InOrder.{Started, flat_stepped, started_at, started_in, end_of_started}
+use Rattle.tss_protocol.specs.State.{State}
+use Rattle.tss_protocol.specs.MainEvent.{call_next}
+use Rattle.tss_protocol.specs.Needs.{round_after_main, round_after_event}
+use Rattle.tss_protocol.specs.UnitMachine.{IsEnabled, after_event}
+use Rattle.tss_locality.specs.Rounds.{IsTaskOf}
+use Rattle.tss_locality.proofs.Subjects.{arrival_task}
+use Rattle.tss_locality.proofs.RoundObjects.{arrival_operand, in_longer, last_of_longer}
+use Rattle.tss_locality.proofs.RunRounds.{IsRounded-after_event}
+use Rattle.tss_control.specs.Members.{operand_among}
+use Rattle.tss_names.specs.Tasks.{task_at, with_spawned, spawned_by_main, spawned_after_event}
+use Rattle.tss_program_order.specs.MainInOrder.{FollowsInOrder, IsCutOff, steps_taken, flat_beside, started_next, inbox_with}
+use Rattle.tss_control.specs.Readers.{Arrivals}
+use Rattle.tss_control.specs.Control.{HasGroundwork}
+use Rattle.tss_program_order.proofs.FlatNames.{Has}
+use Rattle.tss_program_order.proofs.FlatNumbers.{numbers_rise, spawned_rises, step_one}
+use Rattle.tss_program_order.proofs.FlatOrder.{steps_taken-on, flat_stepped-ended, started_at-by, trapped_next, trapped_after}
+use Rattle.tss_program_order.proofs.FlatPieces.{NoneAfter}
+use Rattle.tss_program_order.proofs.FlatStarts.{task_started-by, started-number}
+use Rattle.tss_program_order.proofs.FlatUnnamed.{unnamed_back}
+use Rattle.tss_control.proofs.rounds.Rounds.{found_among}
+use Rattle.tss_control.proofs.rounds.Spawned.{IsLonger-spawn, from_operand_among}
+use Rattle.tss_program_order.proofs.MainEvent.{main_on-enabled, HasEpochBeside, epoch_beside, follows_main}
+use Rattle.tss_values.proofs.NamingLemmas.{done_taken}
+use Rattle.tss_names.proofs.NumberLemmas.{from_task_at, number_within}
+use Rattle.tss_program_order.proofs.RunKeeps.{HasGround, is_main, after_event-kept}
+use Rattle.tss_names.proofs.SpawnLemmas.{IsNext-spawn_of, spawns_main}
+use Rattle.tss_values.proofs.Values.{HasHome, HasMain, HasNaming}
+use Rattle.tss_values.proofs.ValuesMain.{in_has, follows_home}
+
+-- ---- the round
+
+module _ (m : Machine) (i : ImageState) (all ts : List Task) (S : State) (ground : HasGroundwork m all ts S)
+    (naming : HasNaming m i all ts S) where
+  -- the round has each spawned task from its oldest on
+  abbrev pub AreAmong : List Task → List Task → Type 0
+  AreAmong all ts =
+      (n : ℕ) (t : Task) (o : OpName) (p : Operand)
+      → task_at all n ≡ Some t
+      → operand_among ts o ≡ Some p
+      → o.task ≤ n
+      → IsTaskOf ts t
+
+  -- an operand of a new round that is of no new task was in the round before
+  abbrev pub WasBefore : List Task → Type 0
+  WasBefore us =
+      (o : OpName) (p : Operand)
+      → operand_among us o ≡ Some p
+      → o.task ≤ S.main.spawned
+      → operand_among ts o ≡ Some p
+
+  -- both are so of a round after main's event
+  abbrev IsRoundAfter : List Task → List Task → Type 0
+  IsRoundAfter all us = AreAmong all us × WasBefore us
+
+  still : IsRoundAfter all ts
+  still = (naming.among, λ o p among low. among)
+
+  among_more : (t : Task) → t.number ≡ suc S.main.spawned → AreAmong (t ∷ all) (ts ++ t ∷ [])
+  among_more t number n u o p at among low =
+      elim (from_task_at t all n u at) [
+        | inl new ↦ subst (IsTaskOf (ts ++ t ∷ [])) new.1 (last_of_longer ts t)
+        | inr old ↦
+            let within = number_within all n u old in
+            elim (from_operand_among ts t o p among) [
+              | inl before ↦ in_longer ts t u (naming.among n u o p old before low)
+              | inr after ↦
+                  let same = arrival_task t o p after in
+                  absurd (omega (arith, same, number, low, within.1, ground.numbers.spawned))
+            ]
+      ]
+
+  round_by_spawn : (r : Result Task ℕ)
+      → spawn_of (spawn_call S.main.registers) S.home S.main.epoch m.limits S.main.spawned ≡ r
+      → IsRoundAfter (with_spawned all (spawn_on S.main r).1) (ts ++ option_to_list (spawn_on S.main r).1)
+  round_by_spawn (Err n) e = subst (IsRoundAfter all) (sym (append-nil ts)) still
+  round_by_spawn (Ok t) e =
+      let next = IsNext-spawn_of (spawn_call S.main.registers) S.home S.main.epoch m.limits S.main.spawned t e in (
+        among_more t next.number,
+        λ o p among low. (IsLonger-spawn S ts t ground.round next.number).back o p low among,
+      )
+
+  round_by_call : (c : Option Call) → IsRoundAfter (spawned_by_main m S all c) (round_after_main m S ts c)
+  round_by_call None = still
+  round_by_call (Some ExitCall) = still
+  round_by_call (Some Spawn) =
+      round_by_spawn (spawn_of (spawn_call S.main.registers) S.home S.main.epoch m.limits S.main.spawned) refl
+  round_by_call (Some Barrier) =
+      (λ n t o p at among. absurd (none-some p among), λ o p among. absurd (none-some p among))
+  round_by_call (Some Print) = still
+  round_by_call (Some (Unknown n)) = still
+
+  -- ---- where program order is cut off
+
+  module _ (place : ℕ) (c : Started) (trap : Trap) (before : place < steps_taken S.main)
+      (start : started_at i m.limits place ≡ Some c) (trapped : (end_of_started i m.limits c).trap ≡ Some trap) where
+    none_after : (k : ℕ) (s : Started) → started_at i m.limits k ≡ Some s → k ≤ place
+    none_after k s at = elim (cases_lt place k) [
+      | inl later ↦
+          absurd (none-some s (ap (started_in (frozen i) m.limits)
+          (sym (trapped_after i m.limits place c trap k start trapped later)) ∙ at))
+      | inr low ↦ low
+    ]
+
+    number_before : (k : ℕ) (s : Started) → started_at i m.limits k ≡ Some s → s.task.number ≤ c.task.number
+    number_before k s at = elim (cases_order k place) [
+      | inl here ↦
+          let same = same_Some s c (sym at ∙ ap (started_at i m.limits) here ∙ start) in
+          let number = ap (λ (s : Started). s.task.number) same in
+          omega (arith, number)
+      | inr (inl older) ↦ let rises = numbers_rise i m.limits k place s c at start older in omega (arith, rises)
+      | inr (inr later) ↦ let low = none_after k s at in absurd (omega (arith, low, later))
+    ]
+
+    -- all that is named then stays named
+    stays_cut : (o : OpName) (p : Operand) (k j : ℕ) (s : Started) → operand_among ts o ≡ Some p
+        → started_at i m.limits k ≡ Some s → s.task.number ≡ o.task → k < j
+        → Has (flat_stepped i m.limits j).main.epoch p.object
+    stays_cut o p k j s among at number less = elim (cases_lt (suc place) j) [
+      | inl after ↦
+          let low = none_after k s at in
+          let count : j ≡ suc place + (j - suc place) = omega (arith, after) in
+          let ending = trapped_next i m.limits place c trap (started_at-by i m.limits place c start) trapped in
+          let same =
+          ap (flat_stepped i m.limits) count
+          ∙ flat_stepped-ended i m.limits (suc place) (j - suc place) (ap is_some ending) in
+          subst (λ (f : Flat). Has f.main.epoch p.object) (sym same)
+          (naming.named o p k (suc place) s among at number (omega (arith, low)) (omega (arith, before)))
+      | inr early ↦ naming.named o p k j s among at number less (omega (arith, early, before))
+    ]
+
+-- ---- main's event
+
+module _ (m : Machine) (i : ImageState) (all ts : List Task) (g : Arrivals) (S : State)
+    (ground : HasGroundwork m all ts S) (code : HasGround i S) (few : NoneAfter S.main.spawned S.main.pieces)
+    (home : HasHome m i ts S) (main : HasMain m i all S) (naming : HasNaming m i all ts S) where
+  module _ (on : IsEnabled m S event.Main) where
+    abbrev T : State
+    T = after_event m S event.Main
+
+    abbrev us : List Task
+    us = round_after_event m S ts event.Main
+
+    after : AreAmong m i all ts S ground naming (spawned_after_event m S all event.Main) us
+        × WasBefore m i all ts S ground naming us
+    after = round_by_call m i all ts S ground naming (call_next m S)
+
+    -- what is said of the objects of the new round
+    abbrev AreNamed : Type 0
+    AreNamed =
+        (o : OpName) (p : Operand) (k j : ℕ) (s : Started)
+        → operand_among us o ≡ Some p
+        → started_at i m.limits k ≡ Some s
+        → s.task.number ≡ o.task
+        → k < j
+        → j ≤ steps_taken T.main
+        → Has (flat_stepped i m.limits j).main.epoch p.object
+
+    named_cut : IsCutOff i m.limits S.main → AreNamed
+    named_cut cut o p k j s among start number less low =
+        let done = done_taken S.main in
+        let before : cut.place < steps_taken S.main = omega (arith, cut.before, done) in
+        let early =
+        number_before m i all ts S ground naming cut.place cut.started cut.trap before cut.start cut.trapped k s
+        start in
+        stays_cut m i all ts S ground naming cut.place cut.started cut.trap before cut.start cut.trapped o p k j s
+        (after.1 o p among (omega (arith, early, cut.number, number))) start number less
+
+    module _ (same : S.main ≡ (flat_beside i m.limits S.main).main) where
+      follows : FollowsInOrder m i S
+      follows = follows_home m i all ts g S ground code few home main same
+
+      still_on : is_some S.main.ending ≡ false
+      still_on = main_on-enabled m S on
+
+      abbrev K : ℕ
+      K = steps_taken S.main
+
+      abbrev J : ℕ
+      J = steps_taken T.main
+
+      abbrev spawned_by : ℕ → ℕ
+      spawned_by k = (flat_stepped i m.limits k).main.spawned
+
+      spawned_here : S.main.spawned ≡ spawned_by K
+      spawned_here = ap (λ (s : MainState). s.spawned) same
+
+      beside : HasEpochBeside m i S code still_on follows few T.main
+      beside = epoch_beside m i S code still_on follows few
+
+      -- the objects of the round are named where main stands after the event
+      named_end : (o : OpName) (p : Operand) → operand_among us o ≡ Some p
+          → Has (flat_stepped i m.limits J).main.epoch p.object
+      named_end o p among =
+          let f = found_among us o p among in
+          let rounded = IsRounded-after_event m S ts ground.round event.Main on in
+          subst (λ named. Has named p.object) (sym beside.0)
+          (in_has p.object T.main.epoch
+          (rounded.named f.place f.task f.there o.place p (arrival_operand f.task o p f.arrives)))
+
+      from_rising : (j l : ℕ) → j ≤ l → spawned_by j ≤ spawned_by l
+      from_rising j l low =
+          let count : l ≡ j + (l - j) = omega (arith, low) in
+          let rises = spawned_rises i m.limits j (l - j) in
+          omega (arith, rises, ap spawned_by count)
+
+      spawned_start : (o : Option Started) → started_next m i S ≡ o → (t : Task) → Some t ≡ inbox_with o None
+          → spawned_by (suc K) ≡ suc (spawned_by K)
+      spawned_start None e t box = absurd (none-some t (sym box))
+      spawned_start (Some z) e t box =
+          step_one i m.limits K z.task
+          (task_started-by i m.limits K z (ap (started_at i m.limits) (steps_taken-on S.main still_on) ∙ e))
+
+      -- after the first of its steps no task is started
+      settled : (j : ℕ) → K < j → j ≤ J → spawned_by J ≡ spawned_by j
+      settled j later low =
+          elim (spawns_main m all S on) [
+            | inl none ↦
+                let count = ap (λ f. f.spawned) none.front in
+                let first = from_rising K j (omega (arith, later)) in
+                let last = from_rising j J low in
+                omega (arith, count, beside.1, spawned_here, first, last)
+            | inr one ↦
+                let count = ap (λ f. f.spawned) one.front in
+                let start =
+                spawned_start (started_next m i S) refl one.task
+                (sym (ap (λ f. f.inbox) one.front) ∙ (follows_main m i S code still_on follows few).inbox
+                ∙ ap (inbox_with (started_next m i S)) one.empty) in
+                let first = from_rising (suc K) j (omega (arith, later)) in
+                let last = from_rising j J low in
+                omega (arith, count, beside.1, spawned_here, start, first, last)
+          ]
+
+      named_follow : AreNamed
+      named_follow o p k j s among start number less low = elim (cases_lt K j) [
+        | inl later ↦
+            let count : J ≡ j + (J - j) = omega (arith, low) in
+            unnamed_back i m.limits p.object j (J - j) (ap spawned_by (sym count) ∙ settled j later low)
+            (subst (λ l. Has (flat_stepped i m.limits l).main.epoch p.object) count (named_end o p among))
+        | inr early ↦
+            let first = started-number i m.limits k s start in
+            let one = step_one i m.limits k s.task (task_started-by i m.limits k s start) in
+            let rises = from_rising (suc k) K (omega (arith, less, early)) in
+            naming.named o p k j s
+            (after.1 o p among (omega (arith, first, one, rises, spawned_here, number))) start number less early
+      ]
+
+    HasNaming-main : HasNaming m i (spawned_after_event m S all event.Main) us T
+    HasNaming-main =
+        record { named = by main.follows; among = after.0 }
+      where
+        by : (S.main ≡ (flat_beside i m.limits S.main).main) ⊎ IsCutOff i m.limits S.main → AreNamed
+        by (inl same) = named_follow same
+        by (inr cut) = named_cut cut
+
+  -- an event that leaves main
+  HasNaming-other : (e : Event) → is_main e ≡ false → HasNaming m i all ts (after_event m S e)
+  HasNaming-other e other = record {
+    named = λ o p k j s among start number less low.
+        naming.named o p k j s among start number less
+        (subst (λ s. j ≤ steps_taken s) (after_event-kept m S e other).main low);
+    among = naming.among;
+  }
+
+  -- every event keeps them named
+  pub HasNaming-after_event : (e : Event) → IsEnabled m S e
+      → HasNaming m i (spawned_after_event m S all e) (round_after_event m S ts e) (after_event m S e)
+  HasNaming-after_event event.Main on = HasNaming-main on
+  HasNaming-after_event event.Take on = HasNaming-other event.Take refl
+  HasNaming-after_event (event.Decode o) on = HasNaming-other (event.Decode o) refl
+  HasNaming-after_event (event.Ack o) on = HasNaming-other (event.Ack o) refl
+  HasNaming-after_event (event.Open o) on = HasNaming-other (event.Open o) refl
+  HasNaming-after_event (event.Use o) on = HasNaming-other (event.Use o) refl
+  HasNaming-after_event (event.Ready o) on = HasNaming-other (event.Ready o) refl
+  HasNaming-after_event (event.Link o) on = HasNaming-other (event.Link o) refl
+  HasNaming-after_event (event.Start w) on = HasNaming-other (event.Start w) refl
+  HasNaming-after_event (event.Exec w) on = HasNaming-other (event.Exec w) refl
+  HasNaming-after_event (event.Finish w) on = HasNaming-other (event.Finish w) refl
+  HasNaming-after_event (event.Release o) on = HasNaming-other (event.Release o) refl
+  HasNaming-after_event (event.Bye o) on = HasNaming-other (event.Bye o) refl
+  HasNaming-after_event (event.Idle v) on = HasNaming-other (event.Idle v) refl
+  HasNaming-after_event (event.Nack v) on = HasNaming-other (event.Nack v) refl
+  HasNaming-after_event (event.Retire v) on = HasNaming-other (event.Retire v) refl
+  HasNaming-after_event (event.Copy b) on = HasNaming-other (event.Copy b) refl
+  HasNaming-after_event (event.Gone v) on = HasNaming-other (event.Gone v) refl

@@ -1,0 +1,254 @@
+-- Every event keeps the values of program order, so every run has them, and a finished run has its result.
+use Rattle.std.proofs.Common.{List, [], ◌∙◌}
+use Rattle.tss_base.specs.declared.operand.Task.{Task}
+use Rattle.tss_base.specs.declared.machine.Machine.{Machine}
+use Rattle.tss_base.specs.declared.event.Event.{Event}
+use Rattle.tss_base.specs.declared.event.Event.TheVariants as event
+use Rattle.tss_base.specs.Image.{ImageState}
+use Rattle.tss_protocol.specs.State.{State, initial_state}
+use Rattle.tss_protocol.specs.Needs.{round_of}
+use Rattle.tss_names.specs.Tasks.{spawned_tasks}
+use Rattle.tss_control.specs.Readers.{arrivals_from, no_arrivals}
+use Rattle.tss_program_order.proofs.RunKeeps.{HasGround-run}
+use Rattle.tss_program_order.proofs.MainEvent.{pieces-run}
+use Rattle.tss_control.proofs.GroundworkRuns.{HasGroundwork-Run}
+use Rattle.tss_control.proofs.GroundworkControl.{IsControlled-Run}
+use Rattle.tss_control.proofs.holders.KeepsOrder.{keeps_order}
+use Rattle.tss_values.proofs.buffers.Events.{HasBuffers-Run}
+use Rattle.tss_values.proofs.room.Events.{HasRoom-after_event}
+use Rattle.tss_values.proofs.FindsLeft.{finds_left}
+use Rattle.tss_values.proofs.NamingMain.{HasNaming-after_event}
+use Rattle.tss_values.proofs.stored.Quiet.{HasStored-decode, HasStored-ack, HasStored-ready, HasStored-link, HasStored-bye, HasStored-idle, HasStored-retire, HasStored-use}
+use Rattle.tss_values.proofs.stored.Taken.{HasStored-take, HasStored-gone}
+use Rattle.tss_values.proofs.stored.Released.{HasStored-release, HasStored-nack}
+use Rattle.tss_values.proofs.stored.Open.{HasStored-open}
+use Rattle.tss_values.proofs.stored.Copy.{HasStored-copy}
+use Rattle.tss_values.proofs.ValuesMain.{follows-after_event, same-after_event}
+use Rattle.tss_values.proofs.returns.Events.{copied_room, HasReturns-beside}
+use Rattle.tss_values.proofs.home.Events.{HasHome-ack, HasHome-open, HasHome-use, HasHome-release, HasHome-nack, HasHome-retire, HasHome-idle, HasHome-ready, HasHome-link, HasHome-bye, HasHome-finish, HasHome-take}
+use Rattle.tss_values.proofs.home.Copy.{HasHome-copy}
+use Rattle.tss_values.proofs.home.Main.{HasHome-main}
+use Rattle.tss_values.proofs.home.Decode.{HasHome-decode}
+use Rattle.tss_values.proofs.TrapsHeld.{HasTraps, HasTraps-after_event}
+use Rattle.tss_values.proofs.ValuesJoin.{IsValueKept, values_of_run, result_of_values, HaveValues}
+use Rattle.tss_values.proofs.MainEndings.{EndsItself-Run}
+use Rattle.tss_values.proofs.storages.FixedBytes.{HasFixed, HasFixed-initial_state, same_fixed}
+use Rattle.tss_values.proofs.stored.Main.{HasStored-main}
+use Rattle.tss_values.proofs.stored.Finish.{HasStored-finish}
+use Rattle.tss_values.proofs.stored.Exec.{HasStored-exec}
+use Rattle.tss_values.proofs.stored.Start.{HasStored-start}
+use Rattle.tss_values.proofs.home.Workers.{HasHome-start, HasHome-exec}
+use Rattle.tss_values.proofs.returns.Workers.{HasReturns-start, HasReturns-exec}
+use Rattle.tss_values.proofs.home.Gone.{HasHome-gone}
+use Rattle.tss_values.proofs.Values.{HasStored, HasWorkers, HasReturns, HasHome, HasMain, HasValues}
+use Rattle.tss_values.proofs.workers.Events.{HasWorkers-after_event}
+use Rattle.tss_values.proofs.ValuesFirst.{HasValues-initial_state}
+use Rattle.tss_values.proofs.ValuesFinds.{IsPartKept, fit_run, bytes_run, placed_run, operands_run, outputs_run}
+use Rattle.tss_program_order.specs.Refinement.{ResultLaw}
+
+-- the values, and what can't be written as loaded
+record HasCarried (m : Machine) (i : ImageState) (all ts : List Task) (S : State) : Type 0 where
+  values : HasValues m i all ts S
+  fixed : HasFixed i S
+
+-- ---- storages
+
+keeps_stored : (e : Event) → IsPartKept e (λ m i all ts S. HasStored m i ts S)
+keeps_stored event.Main m i all ts g S f on =
+    HasStored-main m i all ts S f.ground f.control.chains f.values.stored on
+keeps_stored event.Take m i all ts g S f on = HasStored-take m i all ts g S f.ground f.values.stored on
+keeps_stored (event.Decode o) m i all ts g S f on = HasStored-decode m i ts g S f.control f.values.stored o on
+keeps_stored (event.Ack o) m i all ts g S f on = HasStored-ack m i ts g S f.control f.values.stored o on
+keeps_stored (event.Open o) m i all ts g S f on =
+    HasStored-open m i all ts g S f.ground f.control f.values.stored f.values.home
+    (finds_left m i all ts S f.ground f.values.main f.values.naming) o on
+    (keeps_order m all ts g S f.ground f.control (event.Open o))
+keeps_stored (event.Use o) m i all ts g S f on = HasStored-use m i ts g S f.control f.values.stored o on
+keeps_stored (event.Ready o) m i all ts g S f on =
+    HasStored-ready m i ts g S f.control f.values.stored o on
+    (keeps_order m all ts g S f.ground f.control (event.Ready o))
+keeps_stored (event.Link o) m i all ts g S f on =
+    HasStored-link m i ts g S f.control f.values.stored o on
+    (keeps_order m all ts g S f.ground f.control (event.Link o))
+keeps_stored (event.Start w) m i all ts g S f on =
+    HasStored-start m i all ts g S f.ground f.control f.buffers f.values.stored w on
+keeps_stored (event.Exec w) m i all ts g S f on =
+    HasStored-exec m i all ts g S f.ground f.control f.buffers f.code f.values.workers f.values.stored w
+keeps_stored (event.Finish w) m i all ts g S f on =
+    HasStored-finish m i all ts g S f.ground f.control f.values.stored f.values.workers w on
+keeps_stored (event.Release o) m i all ts g S f on =
+    HasStored-release m i all ts g S f.ground f.control f.values.stored
+    (finds_left m i all ts S f.ground f.values.main f.values.naming) o on
+    (keeps_order m all ts g S f.ground f.control (event.Release o))
+keeps_stored (event.Bye o) m i all ts g S f on = HasStored-bye m i ts g S f.control f.values.stored o on
+keeps_stored (event.Idle v) m i all ts g S f on = HasStored-idle m i ts g S f.control f.values.stored v on
+keeps_stored (event.Nack v) m i all ts g S f on =
+    HasStored-nack m i all ts g S f.ground f.control f.values.stored
+    (finds_left m i all ts S f.ground f.values.main f.values.naming) v on
+    (keeps_order m all ts g S f.ground f.control (event.Nack v))
+keeps_stored (event.Retire v) m i all ts g S f on = HasStored-retire m i ts g S f.control f.values.stored v on
+keeps_stored (event.Copy b) m i all ts g S f on =
+    HasStored-copy m i all ts g S f.ground f.control f.values.stored f.values.returns b
+    (λ c at. copied_room m i all ts g S f.ground f.control f.fit f.values.room b c at) on
+keeps_stored (event.Gone v) m i all ts g S f on =
+    HasStored-gone m i all ts g S f.ground f.values.stored f.buffers v
+
+-- ---- what comes home
+
+keeps_returns : (e : Event) → IsPartKept e (λ m i all ts S. HasReturns m i ts S)
+keeps_returns (event.Start w) m i all ts g S f on =
+    HasReturns-start m i all ts g S f.ground f.control f.buffers f.code f.values.workers f.values.returns w
+keeps_returns (event.Exec w) m i all ts g S f on =
+    HasReturns-exec m i all ts g S f.ground f.control f.buffers f.code f.values.workers f.values.returns w
+keeps_returns event.Main m i all ts g S f on =
+    HasReturns-beside m i all ts g S f.ground f.control f.fit f.values.stored f.buffers f.values.room f.values.returns
+    event.Main tt on
+keeps_returns event.Take m i all ts g S f on =
+    HasReturns-beside m i all ts g S f.ground f.control f.fit f.values.stored f.buffers f.values.room f.values.returns
+    event.Take tt on
+keeps_returns (event.Decode o) m i all ts g S f on =
+    HasReturns-beside m i all ts g S f.ground f.control f.fit f.values.stored f.buffers f.values.room f.values.returns
+    (event.Decode o) tt on
+keeps_returns (event.Ack o) m i all ts g S f on =
+    HasReturns-beside m i all ts g S f.ground f.control f.fit f.values.stored f.buffers f.values.room f.values.returns
+    (event.Ack o) tt on
+keeps_returns (event.Open o) m i all ts g S f on =
+    HasReturns-beside m i all ts g S f.ground f.control f.fit f.values.stored f.buffers f.values.room f.values.returns
+    (event.Open o) tt on
+keeps_returns (event.Use o) m i all ts g S f on =
+    HasReturns-beside m i all ts g S f.ground f.control f.fit f.values.stored f.buffers f.values.room f.values.returns
+    (event.Use o) tt on
+keeps_returns (event.Ready o) m i all ts g S f on =
+    HasReturns-beside m i all ts g S f.ground f.control f.fit f.values.stored f.buffers f.values.room f.values.returns
+    (event.Ready o) tt on
+keeps_returns (event.Link o) m i all ts g S f on =
+    HasReturns-beside m i all ts g S f.ground f.control f.fit f.values.stored f.buffers f.values.room f.values.returns
+    (event.Link o) tt on
+keeps_returns (event.Finish w) m i all ts g S f on =
+    HasReturns-beside m i all ts g S f.ground f.control f.fit f.values.stored f.buffers f.values.room f.values.returns
+    (event.Finish w) tt on
+keeps_returns (event.Release o) m i all ts g S f on =
+    HasReturns-beside m i all ts g S f.ground f.control f.fit f.values.stored f.buffers f.values.room f.values.returns
+    (event.Release o) tt on
+keeps_returns (event.Bye o) m i all ts g S f on =
+    HasReturns-beside m i all ts g S f.ground f.control f.fit f.values.stored f.buffers f.values.room f.values.returns
+    (event.Bye o) tt on
+keeps_returns (event.Idle v) m i all ts g S f on =
+    HasReturns-beside m i all ts g S f.ground f.control f.fit f.values.stored f.buffers f.values.room f.values.returns
+    (event.Idle v) tt on
+keeps_returns (event.Nack v) m i all ts g S f on =
+    HasReturns-beside m i all ts g S f.ground f.control f.fit f.values.stored f.buffers f.values.room f.values.returns
+    (event.Nack v) tt on
+keeps_returns (event.Retire v) m i all ts g S f on =
+    HasReturns-beside m i all ts g S f.ground f.control f.fit f.values.stored f.buffers f.values.room f.values.returns
+    (event.Retire v) tt on
+keeps_returns (event.Copy b) m i all ts g S f on =
+    HasReturns-beside m i all ts g S f.ground f.control f.fit f.values.stored f.buffers f.values.room f.values.returns
+    (event.Copy b) tt on
+keeps_returns (event.Gone v) m i all ts g S f on =
+    HasReturns-beside m i all ts g S f.ground f.control f.fit f.values.stored f.buffers f.values.room f.values.returns
+    (event.Gone v) tt on
+
+-- ---- home
+
+keeps_home : (e : Event) → IsPartKept e (λ m i all ts S. HasHome m i ts S)
+keeps_home event.Main m i all ts g S f on =
+    HasHome-main m i all ts g S f.ground f.control f.code f.pieces f.values.home f.values.main on f.own
+keeps_home event.Take m i all ts g S f on = HasHome-take m i all ts g S f.ground f.control f.values.home on
+keeps_home (event.Decode o) m i all ts g S f on = HasHome-decode m i all ts g S f.ground f.control f.values.home o on
+keeps_home (event.Ack o) m i all ts g S f on = HasHome-ack m i all ts g S f.ground f.control f.values.home o
+keeps_home (event.Open o) m i all ts g S f on = HasHome-open m i all ts g S f.ground f.control f.values.home o on
+keeps_home (event.Use o) m i all ts g S f on = HasHome-use m i all ts g S f.ground f.control f.values.home o on
+keeps_home (event.Ready o) m i all ts g S f on = HasHome-ready m i all ts g S f.ground f.control f.values.home o on
+keeps_home (event.Link o) m i all ts g S f on = HasHome-link m i all ts g S f.ground f.control f.values.home o on
+keeps_home (event.Start w) m i all ts g S f on =
+    HasHome-start m i all ts g S f.ground f.control f.values.home f.buffers f.code f.values.workers w on
+keeps_home (event.Exec w) m i all ts g S f on =
+    HasHome-exec m i all ts g S f.ground f.control f.values.home f.buffers f.code f.values.workers w on
+keeps_home (event.Finish w) m i all ts g S f on = HasHome-finish m i all ts g S f.ground f.control f.values.home w on
+keeps_home (event.Release o) m i all ts g S f on = HasHome-release m i all ts g S f.ground f.control f.values.home o on
+keeps_home (event.Bye o) m i all ts g S f on = HasHome-bye m i all ts g S f.ground f.control f.values.home o on
+keeps_home (event.Idle v) m i all ts g S f on = HasHome-idle m i all ts g S f.ground f.control f.values.home v on
+keeps_home (event.Nack v) m i all ts g S f on = HasHome-nack m i all ts g S f.ground f.control f.values.home v on
+keeps_home (event.Retire v) m i all ts g S f on = HasHome-retire m i all ts g S f.ground f.control f.values.home v on
+keeps_home (event.Copy b) m i all ts g S f on =
+    HasHome-copy m i all ts g S f.ground f.control f.values.returns f.values.home b on
+keeps_home (event.Gone v) m i all ts g S f on =
+    HasHome-gone m i all ts g S f.ground f.control f.values.main f.values.naming f.values.returns f.values.home f.bytes
+    f.placed f.own v on
+
+-- ---- main and the whole
+
+traps_of : (m : Machine) (i : ImageState) (all : List Task) (S : State) → HasMain m i all S → HasTraps m i S
+traps_of m i all S h = record { held = h.held; trap = h.trap; judged = h.judged }
+
+keeps_main : (e : Event) → IsPartKept e (λ m i all ts S. HasMain m i all S)
+keeps_main e m i all ts g S f on =
+    let v = f.values in
+    let traps = HasTraps-after_event m i all ts S f.ground (traps_of m i all S v.main) v.workers e on in
+    record {
+      follows = follows-after_event m i all ts g S f.ground f.code f.pieces v.home v.main e on;
+      same = same-after_event m i all ts g S f.ground f.code f.pieces v.home v.main e on;
+      held = traps.held;
+      trap = traps.trap;
+      judged = traps.judged;
+    }
+
+keeps_workers : (e : Event) → IsPartKept e (λ m i all ts S. HasWorkers m i S)
+keeps_workers e m i all ts g S f on =
+    HasWorkers-after_event m i all ts g S f.ground f.control f.buffers f.code f.accepted f.fixed
+    (λ e a fixed. same_fixed m i f.accepted all ts g S f.ground f.control f.buffers f.code f.values.workers
+    f.values.returns f.operands f.outputs a fixed e)
+    (finds_left m i all ts S f.ground f.values.main f.values.naming) f.values e on
+
+carried_after : (e : Event) → IsPartKept e HasCarried
+carried_after e m i all ts g S f on = record {
+  values = record {
+    stored = keeps_stored e m i all ts g S f on;
+    workers = keeps_workers e m i all ts g S f on;
+    returns = keeps_returns e m i all ts g S f on;
+    home = keeps_home e m i all ts g S f on;
+    room = HasRoom-after_event m all ts g S f.ground f.control f.values.room f.buffers e on;
+    main = keeps_main e m i all ts g S f on;
+    naming =
+        HasNaming-after_event m i all ts g S f.ground f.code f.pieces f.values.home f.values.main f.values.naming e on;
+  };
+  fixed =
+      λ a fixed. same_fixed m i f.accepted all ts g S f.ground f.control f.buffers f.code f.values.workers
+      f.values.returns f.operands f.outputs a fixed e ∙ f.fixed a fixed;
+}
+
+-- every event keeps the values
+keeps_carried : IsValueKept HasCarried
+keeps_carried m i es S e accepted admissible run h on =
+    let all = spawned_tasks m i es in
+    let ts = round_of m (initial_state i) es in
+    let g = arrivals_from m (initial_state i) no_arrivals es in
+    carried_after e m i all ts g S (record {
+      accepted = accepted;
+      admissible = admissible;
+      ground = HasGroundwork-Run m i es S run;
+      control = IsControlled-Run m i es S run;
+      buffers = HasBuffers-Run m i es S run;
+      code = HasGround-run m i es S run;
+      pieces = pieces-run m i es S run;
+      fit = fit_run m i es S run;
+      own = EndsItself-Run m i es S run;
+      bytes = bytes_run m i es S run;
+      placed = placed_run m i accepted admissible es S run;
+      operands = operands_run m i accepted admissible es S run;
+      outputs = outputs_run m i accepted admissible es S run;
+      fixed = h.fixed;
+      values = h.values;
+    }) on
+
+-- every run has them
+pub HasValues-Run : HaveValues
+HasValues-Run m i es S accepted admissible run =
+    let first : HasCarried m i [] [] (initial_state i) =
+    record { values = HasValues-initial_state m i; fixed = HasFixed-initial_state i } in
+    (values_of_run HasCarried keeps_carried m i accepted admissible first es S run).values
+
+-- so a finished run has the result of program order
+pub result_of_runs : ResultLaw
+result_of_runs = result_of_values HasValues-Run

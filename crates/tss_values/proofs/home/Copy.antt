@@ -1,0 +1,122 @@
+-- What stands at home after a copy: it writes in the object that is copied alone, which has an entry that retires.
+use Rattle.std.proofs.Common.{◌≡◌, ℕ, ◌+◌, ◌≤◌, Bool, true, false, List, Option, Some, None, refl, sym, ap, ◌∙◌, subst, inl, inr, arith}
+use Rattle.std.specs.Prelude.{is_some}
+use Rattle.std.specs.FinMap.{get}
+use Rattle.tss_base.specs.declared.range.Range.{Range}
+use Rattle.tss_base.specs.declared.operand.OpName.{OpName}
+use Rattle.tss_base.specs.declared.operand.Operand.{Operand}
+use Rattle.tss_base.specs.declared.operand.Task.{Task}
+use Rattle.tss_base.specs.declared.machine.Machine.{Machine}
+use Rattle.tss_base.specs.declared.event.Event.TheVariants as event
+use Rattle.tss_base.specs.Image.{ImageState}
+use Rattle.tss_model.specs.Memory.{Memory}
+use Rattle.tss_protocol.specs.Mail.{OpenContents, posted_all}
+use Rattle.tss_protocol.specs.State.{State, Entry, CopyState}
+use Rattle.tss_protocol.specs.Buffers.{buffer_bytes, piece_of, home_after_copy, is_last_piece, sent_by_copy}
+use Rattle.tss_protocol.specs.UnitMachine.{IsEnabled, is_enabled, after_event, after_copy}
+use Rattle.tss_phases.specs.Orderly.{AreOrderly}
+use Rattle.tss_phases.proofs.Tests.{something}
+use Rattle.tss_locality.proofs.LeftFields.{Leaves-after_event}
+use Rattle.tss_control.specs.Members.{operand_among}
+use Rattle.tss_control.specs.Readers.{Arrivals}
+use Rattle.tss_control.specs.Entries.{IsGoingHome}
+use Rattle.tss_control.specs.Control.{HasGroundwork, IsControlled}
+use Rattle.tss_program_order.proofs.FlatWrites.{map_put-beside}
+use Rattle.tss_program_order.proofs.StoreFrames.{length-piece}
+use Rattle.tss_control.proofs.rounds.EntriesNames.{operand_of_object, one_object}
+use Rattle.tss_control.proofs.holders.KeepsOrder.{AreOrderly-controlled}
+use Rattle.tss_values.proofs.Values.{HasReturns, HasHome}
+use Rattle.tss_values.proofs.returns.Copy.{copy_object}
+use Rattle.tss_values.proofs.home.Kept.{decoded_kept}
+use Rattle.tss_values.proofs.home.Beside.{IsInside, SameByte, LeavesHome, one_inside, home_left}
+
+module _ (m : Machine) (i : ImageState) (all ts : List Task) (g : Arrivals) (S : State)
+    (ground : HasGroundwork m all ts S) (k : IsControlled ts g S) (h : HasHome m i ts S) (b : ℕ) (c : CopyState)
+    (there : get S.copies b ≡ Some c) (moved : c.moved ≤ c.object.len)
+    (after : AreOrderly (after_event m S (event.Copy b))) where
+  abbrev T : State
+  T = after_event m S (event.Copy b)
+
+  home : T.home ≡ home_after_copy S.home c (buffer_bytes S.contents c.buffer)
+  unfolding after_event
+  home = ap (λ x. (after_copy S b x).home) there
+
+  opens_by : (last : Bool) → (posted_all S.mail (sent_by_copy c last)).opens ≡ S.mail.opens
+  opens_by true = refl
+  opens_by false = refl
+
+  opens : T.mail.opens ≡ S.mail.opens
+  unfolding after_event
+  opens = ap (λ x. (after_copy S b x).mail.opens) there ∙ opens_by (is_last_piece c)
+
+  -- beside the object that is copied home is left
+  beside : (a : ℕ) → (IsInside c.object a → ⊥) → SameByte S T a
+  beside a out =
+      let bytes = buffer_bytes S.contents c.buffer in
+      let count = length-piece c bytes in
+      ap (λ (h : Memory). get h.bytes a) home
+      ∙ map_put-beside S.home.bytes (c.object.base + c.moved) (piece_of c bytes) a
+      (λ low high. out (omega (arith, low), omega (arith, high, count, moved)))
+
+  operand : (p : Operand) × (operand_among ts c.version ≡ Some p) × (p.object ≡ c.object)
+  operand = operand_of_object ts c.version c.object (copy_object m all ts S ground b c there)
+
+  goes_home : (x : Range) → c.object ≡ x → IsGoingHome S x c.version
+  goes_home x same = inl (b, c, there, refl, same)
+
+  -- the object that is copied has an entry
+  has_entry : get S.entries operand.0.object.base ≡ None → ⊥
+  has_entry none =
+      (k.entries.absent c.version operand.0 operand.1 none).stays c.version
+      (inr (goes_home operand.0.object (sym operand.2)))
+
+  -- and no version of it is being opened
+  none_opens : (o : OpName) (d : OpenContents) → get S.mail.opens o ≡ Some d → d.operand.object ≡ c.object → ⊥
+  none_opens o d at same = by_entry (get S.entries operand.0.object.base) refl
+    where
+      by_retiring : (e : Entry) → get S.entries operand.0.object.base ≡ Some e → e.object ≡ c.object → (b : Bool)
+          → e.retiring ≡ b → ⊥
+      by_retiring e found object true on =
+          (k.entries.retiring operand.0.object.base e found on).no_open o (d, at, same ∙ sym object)
+      by_retiring e found object false off =
+          (k.entries.live operand.0.object.base e found off).stays c.version
+          (inr (goes_home e.object (sym object)))
+
+      by_entry : (x : Option Entry) → get S.entries operand.0.object.base ≡ x → ⊥
+      by_entry None none = has_entry none
+      by_entry (Some e) found =
+          let q = k.entries.operand operand.0.object.base e found in
+          by_retiring e found
+          (sym q.1.2
+          ∙ one_object m all ts S ground k.orderly e.latest c.version q.1.0 operand.0 q.1.1 operand.1
+          (ap (λ (x : Range). x.base) q.1.2 ∙ q.0)
+          ∙ operand.2)
+          e.retiring refl
+
+  leaves : LeavesHome ts S T
+  leaves = record {
+    main = λ j. (Leaves-after_event m S (event.Copy b) j).main;
+    entries = λ n none. ap (λ es. get es n) (sym (λ j. (Leaves-after_event m S (event.Copy b) j).entries)) ∙ none;
+    opens = λ o d at. ap (λ os. get os o) (sym opens) ∙ at;
+    decoded = λ o p at. decoded_kept m S (event.Copy b) refl k.orderly after o;
+    loose = λ a each. beside a (λ inside.
+        has_entry (each c.version operand.0 operand.1 (subst (λ x. IsInside x a) (sym operand.2) inside)));
+    opening = λ o d at first a inside. beside a (λ also.
+        none_opens o d at
+        (one_inside S ts ground.round o c.version d.operand operand.0 (k.chains.opens o d at).operand operand.1 a inside
+        (subst (λ x. IsInside x a) (sym operand.2) also) ∙ operand.2));
+  }
+
+  home_copied : HasHome m i ts T
+  home_copied = home_left m i ts S T ground.round leaves h
+
+module _ (m : Machine) (i : ImageState) (all ts : List Task) (g : Arrivals) (S : State)
+    (ground : HasGroundwork m all ts S) (k : IsControlled ts g S) where
+  -- what stands at home after a copy
+  pub HasHome-copy : HasReturns m i ts S → HasHome m i ts S → (b : ℕ) → IsEnabled m S (event.Copy b)
+      → HasHome m i ts (after_event m S (event.Copy b))
+  unfolding is_enabled
+  HasHome-copy returns h b on =
+      let c = something is_some (get S.copies b) refl on in
+      home_copied m i all ts g S ground k h b c.0 c.1 (returns.within b c.0 c.1)
+      (AreOrderly-controlled m all ts g S ground k (event.Copy b) on)

@@ -1,0 +1,91 @@
+-- Every event but a worker's start and its stretches leaves what is brought home.
+use Rattle.std.proofs.Common.{◌≡◌, ℕ, ◌≤◌, List, length, Some, sym, ap, ◌∙◌, arith}
+use Rattle.std.specs.FinMap.{get, get-empty}
+use Rattle.std.specs.Ordering.{nat_cmp}
+use Rattle.std.proofs.lemmas.Option.{none-some}
+use Rattle.tss_base.specs.declared.range.Range.{Range}
+use Rattle.tss_base.specs.declared.operand.Task.{Task}
+use Rattle.tss_base.specs.declared.machine.Machine.{Machine}
+use Rattle.tss_base.specs.declared.event.Event.{Event}
+use Rattle.tss_base.specs.declared.event.Event.TheVariants as event
+use Rattle.tss_base.specs.Names.{name_cmp}
+use Rattle.tss_base.specs.Image.{ImageState}
+use Rattle.tss_protocol.specs.State.{State, CopyState, initial_state}
+use Rattle.tss_protocol.specs.Buffers.{buffer_bytes}
+use Rattle.tss_protocol.specs.Needs.{round_after_event}
+use Rattle.tss_protocol.specs.UnitMachine.{IsEnabled, after_event}
+use Rattle.tss_values.specs.Buffers.{HasBuffers}
+use Rattle.tss_control.specs.Readers.{Arrivals}
+use Rattle.tss_control.specs.Control.{HasGroundwork, IsControlled}
+use Rattle.tss_control.proofs.rounds.FitObjects.{HaveFitObjects}
+use Rattle.tss_control.proofs.rounds.EntriesNames.{operand_of_object}
+use Rattle.tss_values.proofs.Values.{HasStored, HasReturns, HasRoom}
+use Rattle.tss_values.proofs.returns.Returns.{returns_kept, returns_left}
+use Rattle.tss_values.proofs.ValuesRetire.{HasReturns-retire}
+use Rattle.tss_values.proofs.ValuesGone.{HasReturns-gone}
+use Rattle.tss_values.proofs.returns.Copy.{HasReturns-copy, copy_object}
+use Rattle.tss_values.proofs.returns.Main.{HasReturns-main}
+
+module _ (m : Machine) (i : ImageState) (all ts : List Task) (g : Arrivals) (S : State)
+    (ground : HasGroundwork m all ts S) (k : IsControlled ts g S) where
+  -- a buffer that is copied has room for its object
+  pub copied_room : HaveFitObjects m.limits all → HasRoom m ts S → (bank : ℕ) (c : CopyState)
+      → get S.copies bank ≡ Some c → c.object.len ≤ length (buffer_bytes S.contents c.buffer)
+  copied_room fit room bank c at =
+      let p = operand_of_object ts c.version c.object (copy_object m all ts S ground bank c at) in
+      let o = ground.known.operands c.version p.0 p.1 in
+      let small = (fit c.version.task o.task o.spawned c.version.place p.0 o.place).1 in
+      let roomy = room.copies bank c at in
+      let same = ap (λ (x : Range). x.len) p.2 in
+      omega (arith, small, roomy, same)
+
+  -- not a worker's start, and not one of its stretches
+  abbrev pub IsBesideWorkers : Event → Type 0
+  IsBesideWorkers (event.Start w) = ⊥
+  IsBesideWorkers (event.Exec w) = ⊥
+  IsBesideWorkers e = Unit {0}
+
+  module _ (fit : HaveFitObjects m.limits all) (stored : HasStored m i ts S) (buffers : HasBuffers ts S)
+      (room : HasRoom m ts S) (h : HasReturns m i ts S) where
+    -- what is brought home after such an event
+    pub HasReturns-beside : (e : Event) → IsBesideWorkers e → IsEnabled m S e
+        → HasReturns m i (round_after_event m S ts e) (after_event m S e)
+    HasReturns-beside event.Main q on = HasReturns-main m i all ts S ground h
+    HasReturns-beside event.Take q on =
+        returns_kept m i ts S (after_event m S event.Take) (returns_left m S event.Take tt) h
+    HasReturns-beside (event.Decode o) q on =
+        returns_kept m i ts S (after_event m S (event.Decode o)) (returns_left m S (event.Decode o) tt) h
+    HasReturns-beside (event.Ack o) q on =
+        returns_kept m i ts S (after_event m S (event.Ack o)) (returns_left m S (event.Ack o) tt) h
+    HasReturns-beside (event.Open o) q on =
+        returns_kept m i ts S (after_event m S (event.Open o)) (returns_left m S (event.Open o) tt) h
+    HasReturns-beside (event.Use o) q on =
+        returns_kept m i ts S (after_event m S (event.Use o)) (returns_left m S (event.Use o) tt) h
+    HasReturns-beside (event.Ready o) q on =
+        returns_kept m i ts S (after_event m S (event.Ready o)) (returns_left m S (event.Ready o) tt) h
+    HasReturns-beside (event.Link o) q on =
+        returns_kept m i ts S (after_event m S (event.Link o)) (returns_left m S (event.Link o) tt) h
+    HasReturns-beside (event.Start w) q on = absurd q
+    HasReturns-beside (event.Exec w) q on = absurd q
+    HasReturns-beside (event.Finish w) q on =
+        returns_kept m i ts S (after_event m S (event.Finish w)) (returns_left m S (event.Finish w) tt) h
+    HasReturns-beside (event.Release o) q on =
+        returns_kept m i ts S (after_event m S (event.Release o)) (returns_left m S (event.Release o) tt) h
+    HasReturns-beside (event.Bye o) q on =
+        returns_kept m i ts S (after_event m S (event.Bye o)) (returns_left m S (event.Bye o) tt) h
+    HasReturns-beside (event.Idle v) q on =
+        returns_kept m i ts S (after_event m S (event.Idle v)) (returns_left m S (event.Idle v) tt) h
+    HasReturns-beside (event.Nack v) q on =
+        returns_kept m i ts S (after_event m S (event.Nack v)) (returns_left m S (event.Nack v) tt) h
+    HasReturns-beside (event.Retire v) q on = HasReturns-retire m i all ts g S ground k stored h v on
+    HasReturns-beside (event.Copy b) q on = HasReturns-copy m i all ts g S ground k (copied_room fit room) h b on
+    HasReturns-beside (event.Gone v) q on = HasReturns-gone m i all ts S ground buffers h v on
+
+-- in the first state nothing comes home
+pub HasReturns-initial_state : (m : Machine) (i : ImageState) (ts : List Task) → HasReturns m i ts (initial_state i)
+HasReturns-initial_state m i ts = record {
+  copied = λ bank c p s at known good. absurd (none-some c (sym (get-empty nat_cmp bank) ∙ at));
+  within = λ bank c at. absurd (none-some c (sym (get-empty nat_cmp bank) ∙ at));
+  moved = λ bank c k at small. absurd (none-some c (sym (get-empty nat_cmp bank) ∙ at));
+  gone = λ v g p s at last known good. absurd (none-some g (sym (get-empty name_cmp v) ∙ at));
+}
