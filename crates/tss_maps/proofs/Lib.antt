@@ -4,3 +4,4 @@ pub mod Entries
 pub mod Sums
 pub mod Places
 pub mod OrderedLemmas
+pub mod MappedLemmas

@@ -1,3 +1,4 @@
 pub mod Sums
 pub mod Ordered
 pub mod Below
+pub mod Mapped
