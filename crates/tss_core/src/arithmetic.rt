@@ -1,6 +1,7 @@
 // What operations and branches make of numbers of 32 bits.
-ghost use Rattle.std.specs.Prelude.{◌≡◌, ◌^◌, ◌*◌, ◌<◌};
-ghost use Rattle.tss_model.specs.Core.{one_where, signed_lt, op_result, op_of, passes, load_width, store_width, extended};
+ghost use Rattle.std.specs.Prelude.{◌≡◌, ◌^◌, ◌*◌, ◌*ℤ◌, ◌<◌, pos};
+ghost use Rattle.std.specs.Int.{cast_signed, w32};
+ghost use Rattle.tss_model.specs.Core.{one_where, signed_lt, upper_half, signed_quotient, quotient, signed_remainder, remainder, op_result, op_of, passes, load_width, store_width, extended};
 
 use tss_isa::{ImmOp, LoadKind, RegOp, StoreKind, Test};
 
@@ -20,7 +21,83 @@ pub(crate) fn op_result(op: RegOp, x: u32, y: u32) -> u32
         RegOp::Sra => (x.cast_signed() >> (y & 31)).cast_unsigned(),
         RegOp::Or => x | y,
         RegOp::And => x & y,
+        RegOp::Mul => x.wrapping_mul(y),
+        RegOp::Mulh => signed_product(x, y),
+        RegOp::Mulhsu => mixed_product(x, y),
+        RegOp::Mulhu => ((u64::from(x) * u64::from(y)) >> 32) as u32,
+        RegOp::Div => signed_quotient(x, y),
+        RegOp::Divu => quotient(x, y),
+        RegOp::Rem => signed_remainder(x, y),
+        RegOp::Remu => remainder(x, y),
     }
+}
+
+/// The upper half of the product of two numbers in two's complement.
+#[inline(always)]
+fn signed_product(x: u32, y: u32) -> u32
+    ensures { result ≡ upper_half (cast_signed w32 x *ℤ cast_signed w32 y) }
+{
+    upper_half(i64::from(x.cast_signed()) * i64::from(y.cast_signed()))
+}
+
+/// The upper half of the product of a number in two's complement and one without sign.
+#[inline(always)]
+fn mixed_product(x: u32, y: u32) -> u32
+    ensures { result ≡ upper_half (cast_signed w32 x *ℤ pos y) }
+{
+    upper_half(i64::from(x.cast_signed()) * i64::from(y))
+}
+
+/// The upper 32 bits of a product.
+#[inline(always)]
+fn upper_half(product: i64) -> u32
+    ensures { result ≡ upper_half product }
+{
+    ((product >> 32) as i32).cast_unsigned()
+}
+
+/// A quotient with sign, rounded towards zero: all ones where the divisor is zero. The least number by -1 is itself.
+#[inline(always)]
+fn signed_quotient(x: u32, y: u32) -> u32
+    ensures { result ≡ signed_quotient x y }
+{
+    if y == 0 {
+        u32::MAX
+    } else {
+        x.cast_signed()
+            .wrapping_div(y.cast_signed())
+            .cast_unsigned()
+    }
+}
+
+/// A quotient without sign: all ones where the divisor is zero.
+#[inline(always)]
+fn quotient(x: u32, y: u32) -> u32
+    ensures { result ≡ quotient x y }
+{
+    if y == 0 { u32::MAX } else { x / y }
+}
+
+/// What a quotient with sign leaves, with the sign of the dividend: the dividend where the divisor is zero.
+#[inline(always)]
+fn signed_remainder(x: u32, y: u32) -> u32
+    ensures { result ≡ signed_remainder x y }
+{
+    if y == 0 {
+        x
+    } else {
+        x.cast_signed()
+            .wrapping_rem(y.cast_signed())
+            .cast_unsigned()
+    }
+}
+
+/// What a quotient without sign leaves: the dividend where the divisor is zero.
+#[inline(always)]
+fn remainder(x: u32, y: u32) -> u32
+    ensures { result ≡ remainder x y }
+{
+    if y == 0 { x } else { x % y }
 }
 
 /// The operation that one with an immediate is.

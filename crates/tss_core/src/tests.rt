@@ -135,6 +135,49 @@ fn results_of_executed_words(rt: HostRuntime) -> Result<(), Fail> {
     Ok(())
 }
 
+/// A product or a quotient of x5 and x7 into x6: its word, x5, x7, and x6 after it.
+fn multiplied() -> [(u32, u32, u32, u32); 20] {
+    [
+        // mul, mulh, mulhsu, mulhu, div, divu, rem, remu of the least number and -1
+        (0x0272_8333, 0x8000_0000, 0xFFFF_FFFF, 0x8000_0000),
+        (0x0272_9333, 0x8000_0000, 0xFFFF_FFFF, 0x0000_0000),
+        (0x0272_A333, 0x8000_0000, 0xFFFF_FFFF, 0x8000_0000),
+        (0x0272_B333, 0x8000_0000, 0xFFFF_FFFF, 0x7FFF_FFFF),
+        (0x0272_C333, 0x8000_0000, 0xFFFF_FFFF, 0x8000_0000),
+        (0x0272_D333, 0x8000_0000, 0xFFFF_FFFF, 0x0000_0000),
+        (0x0272_E333, 0x8000_0000, 0xFFFF_FFFF, 0x0000_0000),
+        (0x0272_F333, 0x8000_0000, 0xFFFF_FFFF, 0x8000_0000),
+        // the same of -1 and -1, where the products differ
+        (0x0272_8333, 0xFFFF_FFFF, 0xFFFF_FFFF, 0x0000_0001),
+        (0x0272_9333, 0xFFFF_FFFF, 0xFFFF_FFFF, 0x0000_0000),
+        (0x0272_A333, 0xFFFF_FFFF, 0xFFFF_FFFF, 0xFFFF_FFFF),
+        (0x0272_B333, 0xFFFF_FFFF, 0xFFFF_FFFF, 0xFFFF_FFFE),
+        // div and rem of -7 by 2 round towards zero; rem of 7 by -2
+        (0x0272_C333, 0xFFFF_FFF9, 2, 0xFFFF_FFFD),
+        (0x0272_E333, 0xFFFF_FFF9, 2, 0xFFFF_FFFF),
+        (0x0272_E333, 7, 0xFFFF_FFFE, 0x0000_0001),
+        // div, divu, rem, remu by zero
+        (0x0272_C333, 0xFFFF_FFF9, 0, 0xFFFF_FFFF),
+        (0x0272_D333, 0xFFFF_FFF9, 0, 0xFFFF_FFFF),
+        (0x0272_E333, 0xFFFF_FFF9, 0, 0xFFFF_FFF9),
+        (0x0272_F333, 0xFFFF_FFF9, 0, 0xFFFF_FFF9),
+        // divu of 7 by 2
+        (0x0272_D333, 7, 2, 0x0000_0003),
+    ]
+}
+
+#[test]
+fn products_and_quotients_are_those_of_the_manual(rt: HostRuntime) -> Result<(), Fail> {
+    for (word, x5, x7, value) in multiplied() {
+        let mut view = view(rt.alloc(), true, word)?;
+        let mut regs = registers(x5, x7);
+        assert_eq!(rt; step(&mut regs, &mut view), Outcome::Next, "at {word}");
+        assert_eq!(rt; regs.get(6), value, "at {word} of {x5} and {x7}");
+        assert_eq!(rt; regs.pc(), PC + 4);
+    }
+    Ok(())
+}
+
 #[test]
 fn words_that_are_not_executed_change_nothing(rt: HostRuntime) -> Result<(), Fail> {
     for (word, x5, want) in unexecuted() {

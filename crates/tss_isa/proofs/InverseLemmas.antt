@@ -10,11 +10,11 @@ use Rattle.tss_isa.specs.declared.instr.StoreKind.TheVariants.{Sb, Sh, Sw}
 use Rattle.tss_isa.specs.declared.instr.ImmOp.{ImmOp}
 use Rattle.tss_isa.specs.declared.instr.ImmOp.TheVariants.{Addi, Slli, Slti, Sltiu, Xori, Srli, Srai, Ori, Andi}
 use Rattle.tss_isa.specs.declared.instr.RegOp.{RegOp}
-use Rattle.tss_isa.specs.declared.instr.RegOp.TheVariants.{Add, Sub, Sll, Slt, Sltu, Xor, Srl, Sra, Or, And}
+use Rattle.tss_isa.specs.declared.instr.RegOp.TheVariants.{Add, Sub, Sll, Slt, Sltu, Xor, Srl, Sra, Or, And, Mul, Mulh, Mulhsu, Mulhu, Div, Divu, Rem, Remu}
 use Rattle.tss_isa.specs.declared.instr.Instr.{Instr}
 use Rattle.tss_isa.specs.declared.instr.Instr.TheVariants.{Lui, Auipc, Jal, Jalr, Branch, Load, Store, OpImm, Op, Fence}
 use Rattle.tss_isa.specs.Fields.{field, opcode, rd, funct3, rs1, rs2, funct7, signed, imm_i, imm_s, imm_b, imm_u, imm_j}
-use Rattle.tss_isa.specs.InstrTable.{instr_of, row_of, branch_of, test_of, load_of, load_kind_of, store_of, store_kind_of, op_imm_of, imm_op_of, op_of, reg_op_of, plain_op_of, other_op_of, system_of, word_of, test_code, load_code, store_code, imm_op_code, imm_op_high, reg_op_code, reg_op_high, twos, low_b, high_b, upper_j, joined, joined_upper, fits, is_register, is_upper, is_within, is_operand, is_distance}
+use Rattle.tss_isa.specs.InstrTable.{instr_of, row_of, branch_of, test_of, load_of, load_kind_of, store_of, store_kind_of, op_imm_of, imm_op_of, op_of, reg_op_of, plain_op_of, product_op_of, other_op_of, system_of, word_of, test_code, load_code, store_code, imm_op_code, imm_op_high, reg_op_code, reg_op_high, twos, low_b, high_b, upper_j, joined, joined_upper, fits, is_register, is_upper, is_within, is_operand, is_distance}
 use Rattle.tss_isa.proofs.SignLemmas.{twos-signed, is_within-signed, is_even-signed}
 
 -- the instruction has the word
@@ -218,6 +218,19 @@ module _ (w : ℕ) (word : w < 2 ^ 32) where
       (by_number P f 6 (λ k. op Or e (sym (is_f ∙ k)) (sym g))
       (by_number P f 7 (λ k. op And e (sym (is_f ∙ k)) (sym g)) tt)))))))
 
+  product_ops : (f : ℕ) → funct3 w ≡ f → funct7 w ≡ 1 → opcode w ≡ 0x33
+      → IfSome (op_of (product_op_of f) w) (IsOfWord w)
+  product_ops f is_f g e =
+      let P : Option RegOp → Type 0 = λ o. IfSome (op_of o w) (IsOfWord w) in
+      by_number P f 0 (λ k. op Mul e (sym (is_f ∙ k)) (sym g))
+      (by_number P f 1 (λ k. op Mulh e (sym (is_f ∙ k)) (sym g))
+      (by_number P f 2 (λ k. op Mulhsu e (sym (is_f ∙ k)) (sym g))
+      (by_number P f 3 (λ k. op Mulhu e (sym (is_f ∙ k)) (sym g))
+      (by_number P f 4 (λ k. op Div e (sym (is_f ∙ k)) (sym g))
+      (by_number P f 5 (λ k. op Divu e (sym (is_f ∙ k)) (sym g))
+      (by_number P f 6 (λ k. op Rem e (sym (is_f ∙ k)) (sym g))
+      (by_number P f 7 (λ k. op Remu e (sym (is_f ∙ k)) (sym g)) tt)))))))
+
   other_ops : (f : ℕ) → funct3 w ≡ f → funct7 w ≡ 32 → opcode w ≡ 0x33 → IfSome (op_of (other_op_of f) w) (IsOfWord w)
   other_ops f is_f g e =
       let P : Option RegOp → Type 0 = λ o. IfSome (op_of o w) (IsOfWord w) in
@@ -227,7 +240,9 @@ module _ (w : ℕ) (word : w < 2 ^ 32) where
   operations : (f g : ℕ) → funct3 w ≡ f → funct7 w ≡ g → opcode w ≡ 0x33 → IfSome (op_of (reg_op_of f g) w) (IsOfWord w)
   operations f g is_f is_g e =
       let P : Option RegOp → Type 0 = λ o. IfSome (op_of o w) (IsOfWord w) in
-      by_number P g 0 (λ k. plain_ops f is_f (is_g ∙ k) e) (by_number P g 32 (λ k. other_ops f is_f (is_g ∙ k) e) tt)
+      by_number P g 0 (λ k. plain_ops f is_f (is_g ∙ k) e)
+      (by_number P g 1 (λ k. product_ops f is_f (is_g ∙ k) e)
+      (by_number P g 32 (λ k. other_ops f is_f (is_g ∙ k) e) tt))
 
   system : IfSome (system_of w) (IsOfWord w)
   unfolding word_of

@@ -10,7 +10,7 @@ use Rattle.tss_isa.specs.declared.instr.StoreKind.TheVariants.{Sb, Sh, Sw}
 use Rattle.tss_isa.specs.declared.instr.ImmOp.{ImmOp}
 use Rattle.tss_isa.specs.declared.instr.ImmOp.TheVariants.{Addi, Slli, Slti, Sltiu, Xori, Srli, Srai, Ori, Andi}
 use Rattle.tss_isa.specs.declared.instr.RegOp.{RegOp}
-use Rattle.tss_isa.specs.declared.instr.RegOp.TheVariants.{Add, Sub, Sll, Slt, Sltu, Xor, Srl, Sra, Or, And}
+use Rattle.tss_isa.specs.declared.instr.RegOp.TheVariants.{Add, Sub, Sll, Slt, Sltu, Xor, Srl, Sra, Or, And, Mul, Mulh, Mulhsu, Mulhu, Div, Divu, Rem, Remu}
 use Rattle.tss_isa.specs.declared.instr.Instr.{Instr}
 use Rattle.tss_isa.specs.declared.instr.Instr.TheVariants.{Lui, Auipc, Jal, Jalr, Branch, Load, Store, OpImm, Op, Fence, Ecall, Ebreak}
 use Rattle.tss_isa.specs.Fields.{field, opcode, rd, rs2, funct7, signed, imm_i, imm_s, imm_b, imm_u, imm_j}
@@ -303,6 +303,14 @@ op_code_is Srl = (omega arith, omega arith, refl)
 op_code_is Sra = (omega arith, omega arith, refl)
 op_code_is Or = (omega arith, omega arith, refl)
 op_code_is And = (omega arith, omega arith, refl)
+op_code_is Mul = (omega arith, omega arith, refl)
+op_code_is Mulh = (omega arith, omega arith, refl)
+op_code_is Mulhsu = (omega arith, omega arith, refl)
+op_code_is Mulhu = (omega arith, omega arith, refl)
+op_code_is Div = (omega arith, omega arith, refl)
+op_code_is Divu = (omega arith, omega arith, refl)
+op_code_is Rem = (omega arith, omega arith, refl)
+op_code_is Remu = (omega arith, omega arith, refl)
 
 op : (o : RegOp) (d s r : ℕ) → fits (Op o d s r) ≡ true → instr_of (word_of (Op o d s r)) ≡ Some (Op o d s r)
 unfolding word_of

@@ -10,7 +10,7 @@ use Rattle.tss_isa.specs.declared.instr.StoreKind.TheVariants.{Sb, Sh, Sw}
 use Rattle.tss_isa.specs.declared.instr.ImmOp.{ImmOp}
 use Rattle.tss_isa.specs.declared.instr.ImmOp.TheVariants.{Addi, Slli, Slti, Sltiu, Xori, Srli, Srai, Ori, Andi}
 use Rattle.tss_isa.specs.declared.instr.RegOp.{RegOp}
-use Rattle.tss_isa.specs.declared.instr.RegOp.TheVariants.{Add, Sub, Sll, Slt, Sltu, Xor, Srl, Sra, Or, And}
+use Rattle.tss_isa.specs.declared.instr.RegOp.TheVariants.{Add, Sub, Sll, Slt, Sltu, Xor, Srl, Sra, Or, And, Mul, Mulh, Mulhsu, Mulhu, Div, Divu, Rem, Remu}
 use Rattle.tss_isa.specs.declared.instr.Instr.{Instr}
 use Rattle.tss_isa.specs.declared.instr.Instr.TheVariants.{Lui, Auipc, Jal, Jalr, Branch, Load, Store, OpImm, Op, Fence, Ecall, Ebreak}
 use Rattle.tss_isa.specs.Fields.{field, opcode, rd, funct3, rs1, rs2, funct7, imm_i, imm_s, imm_b, imm_u, imm_j}
@@ -72,6 +72,19 @@ plain_op_of f =
     else if f == 7 then Some And
     else None
 
+-- OP by funct3 where funct7 is 1: the products and quotients
+abbrev pub product_op_of : ℕ → Option RegOp
+product_op_of f =
+    if f == 0 then Some Mul
+    else if f == 1 then Some Mulh
+    else if f == 2 then Some Mulhsu
+    else if f == 3 then Some Mulhu
+    else if f == 4 then Some Div
+    else if f == 5 then Some Divu
+    else if f == 6 then Some Rem
+    else if f == 7 then Some Remu
+    else None
+
 -- OP by funct3 where funct7 is 32
 abbrev pub other_op_of : ℕ → Option RegOp
 other_op_of f =
@@ -83,6 +96,7 @@ other_op_of f =
 abbrev pub reg_op_of : ℕ → ℕ → Option RegOp
 reg_op_of f g =
     if g == 0 then plain_op_of f
+    else if g == 1 then product_op_of f
     else if g == 32 then other_op_of f
     else None
 
@@ -192,11 +206,27 @@ reg_op_code Srl = 5
 reg_op_code Sra = 5
 reg_op_code Or = 6
 reg_op_code And = 7
+reg_op_code Mul = 0
+reg_op_code Mulh = 1
+reg_op_code Mulhsu = 2
+reg_op_code Mulhu = 3
+reg_op_code Div = 4
+reg_op_code Divu = 5
+reg_op_code Rem = 6
+reg_op_code Remu = 7
 
 -- funct7 of an operation of two registers
 abbrev pub reg_op_high : RegOp → ℕ
 reg_op_high Sub = 32
 reg_op_high Sra = 32
+reg_op_high Mul = 1
+reg_op_high Mulh = 1
+reg_op_high Mulhsu = 1
+reg_op_high Mulhu = 1
+reg_op_high Div = 1
+reg_op_high Divu = 1
+reg_op_high Rem = 1
+reg_op_high Remu = 1
 reg_op_high op = 0
 
 -- a number in two's complement of 32 bits

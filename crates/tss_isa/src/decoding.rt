@@ -237,6 +237,14 @@ fn reg_op(funct3: u32, funct7: u32) -> Option<RegOp>
         (32, 5) => Some(RegOp::Sra),
         (0, 6) => Some(RegOp::Or),
         (0, 7) => Some(RegOp::And),
+        (1, 0) => Some(RegOp::Mul),
+        (1, 1) => Some(RegOp::Mulh),
+        (1, 2) => Some(RegOp::Mulhsu),
+        (1, 3) => Some(RegOp::Mulhu),
+        (1, 4) => Some(RegOp::Div),
+        (1, 5) => Some(RegOp::Divu),
+        (1, 6) => Some(RegOp::Rem),
+        (1, 7) => Some(RegOp::Remu),
         _ => None,
     }
 }

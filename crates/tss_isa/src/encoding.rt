@@ -229,14 +229,14 @@ fn reg_op_code(op: RegOp) -> u32
     ensures { result ≡ reg_op_code op }
 {
     match op {
-        RegOp::Add | RegOp::Sub => 0,
-        RegOp::Sll => 1,
-        RegOp::Slt => 2,
-        RegOp::Sltu => 3,
-        RegOp::Xor => 4,
-        RegOp::Srl | RegOp::Sra => 5,
-        RegOp::Or => 6,
-        RegOp::And => 7,
+        RegOp::Add | RegOp::Sub | RegOp::Mul => 0,
+        RegOp::Sll | RegOp::Mulh => 1,
+        RegOp::Slt | RegOp::Mulhsu => 2,
+        RegOp::Sltu | RegOp::Mulhu => 3,
+        RegOp::Xor | RegOp::Div => 4,
+        RegOp::Srl | RegOp::Sra | RegOp::Divu => 5,
+        RegOp::Or | RegOp::Rem => 6,
+        RegOp::And | RegOp::Remu => 7,
     }
 }
 
@@ -246,6 +246,14 @@ fn reg_op_high(op: RegOp) -> u32
 {
     match op {
         RegOp::Sub | RegOp::Sra => 32,
+        RegOp::Mul
+        | RegOp::Mulh
+        | RegOp::Mulhsu
+        | RegOp::Mulhu
+        | RegOp::Div
+        | RegOp::Divu
+        | RegOp::Rem
+        | RegOp::Remu => 1,
         _ => 0,
     }
 }

@@ -1,4 +1,4 @@
-// The instructions of RV32I with their fields.
+// The instructions of RV32I and of its extension M with their fields.
 /// The word of a call.
 pub(crate) const ECALL: u32 = 0x0000_0073;
 
@@ -48,7 +48,9 @@ pub enum ImmOp {
     Andi,
 }
 
-/// An operation of two registers.
+/// An operation of two registers. From `Mul` on they are the products and quotients of M: the low half of the product;
+/// its high half with sign, with sign by without, and without sign; the quotient and the remainder, each with and
+/// without sign.
 #[derive(Clone, Copy, Debug, PartialEq, Eq)]
 pub enum RegOp {
     Add,
@@ -61,6 +63,14 @@ pub enum RegOp {
     Sra,
     Or,
     And,
+    Mul,
+    Mulh,
+    Mulhsu,
+    Mulhu,
+    Div,
+    Divu,
+    Rem,
+    Remu,
 }
 
 /// An instruction. Registers are 0 to 31. An offset, and the immediate of `OpImm`, is the number that is added or

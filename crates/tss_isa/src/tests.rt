@@ -56,10 +56,10 @@ fn fence(rd: u8, rs1: u8, bits: u32) -> Instr {
     Instr::Fence { rd, rs1, bits }
 }
 
-/// Each of the 40 instructions with numbers at the edges of its fields. The line of assembler over each word, with the
+/// Each of the 48 instructions with numbers at the edges of its fields. The line of assembler over each word, with the
 /// others in words.s, gave it by
-/// `riscv64-unknown-elf-as -march=rv32i -mno-relax -o words.o words.s` and `riscv64-unknown-elf-objdump -d words.o`.
-fn assembled() -> [(u32, Instr); 45] {
+/// `riscv64-unknown-elf-as -march=rv32im -mno-relax -o words.o words.s` and `riscv64-unknown-elf-objdump -d words.o`.
+fn assembled() -> [(u32, Instr); 53] {
     [
         // lui x31, 0xfffff
         (0xFFFFFFB7, lui(31, 0xFFFFF000)),
@@ -145,6 +145,22 @@ fn assembled() -> [(u32, Instr); 45] {
         (0x00E6E633, op(RegOp::Or, 12, 13, 14)),
         // and x21, x22, x23
         (0x017B7AB3, op(RegOp::And, 21, 22, 23)),
+        // mul x31, x0, x1
+        (0x02100FB3, op(RegOp::Mul, 31, 0, 1)),
+        // mulh x1, x31, x0
+        (0x020F90B3, op(RegOp::Mulh, 1, 31, 0)),
+        // mulhsu x2, x3, x4
+        (0x0241A133, op(RegOp::Mulhsu, 2, 3, 4)),
+        // mulhu x16, x8, x24
+        (0x03843833, op(RegOp::Mulhu, 16, 8, 24)),
+        // div x5, x5, x5
+        (0x0252C2B3, op(RegOp::Div, 5, 5, 5)),
+        // divu x30, x15, x7
+        (0x0277DF33, op(RegOp::Divu, 30, 15, 7)),
+        // rem x0, x31, x31
+        (0x03FFE033, op(RegOp::Rem, 0, 31, 31)),
+        // remu x21, x22, x23
+        (0x037B7AB3, op(RegOp::Remu, 21, 22, 23)),
         // fence rw, w
         (0x0310000F, fence(0, 0, 0x031)),
         // ecall
@@ -179,10 +195,11 @@ fn other_words_are_illegal(rt: HostRuntime) {
         0x0000_7003,
         0x0000_3023,
         0x0000_100F,
-        // A funct7 without a meaning: SLLI 32, SRLI 1, ADD 1 (a product), SLL 32.
+        // A funct7 without a meaning: SLLI 32, SRLI 1, ADD 2, DIV 33, SLL 32.
         0x4000_1013,
         0x0200_5013,
-        0x0200_0033,
+        0x0400_0033,
+        0x4200_4033,
         0x4000_1033,
         // Other words of SYSTEM: a register in ECALL, CSRRW, and a privileged return.
         0x0000_00F3,

@@ -1,6 +1,6 @@
 -- One step of an actor. It reads by two functions, the byte at each address and the word at each pc, and answers with
 -- the registers and the write that it leaves, or why it leaves nothing.
-use Rattle.std.specs.Prelude.{ℕ, ◌+◌, ◌-◌, ◌*◌, ◌/◌, ◌%◌, ◌^◌, ◌==◌, nat_lt, nat_le, not, Bool, if◌then◌else◌, List, Option, Some, None, ℤ, pos, negsuc, int_lt, bit_and, bit_or, bit_xor}
+use Rattle.std.specs.Prelude.{ℕ, ◌+◌, ◌-◌, ◌*◌, ◌/◌, ◌%◌, ◌^◌, ◌==◌, nat_lt, nat_le, not, Bool, if◌then◌else◌, List, Option, Some, None, ℤ, pos, negsuc, ◌*ℤ◌, int_lt, int_div, int_rem, bit_and, bit_or, bit_xor}
 use Rattle.std.specs.Int.{cast_signed, w32, bytes_low_first}
 use Rattle.tss_base.specs.declared.range.Range.{Range}
 use Rattle.tss_base.specs.declared.ending.Trap.{Trap}
@@ -13,7 +13,7 @@ use Rattle.tss_isa.specs.declared.instr.StoreKind.TheVariants.{Sb, Sh, Sw}
 use Rattle.tss_isa.specs.declared.instr.ImmOp.{ImmOp}
 use Rattle.tss_isa.specs.declared.instr.ImmOp.TheVariants.{Addi, Slli, Slti, Sltiu, Xori, Srli, Srai, Ori, Andi}
 use Rattle.tss_isa.specs.declared.instr.RegOp.{RegOp}
-use Rattle.tss_isa.specs.declared.instr.RegOp.TheVariants.{Add, Sub, Sll, Slt, Sltu, Xor, Srl, Sra, Or, And}
+use Rattle.tss_isa.specs.declared.instr.RegOp.TheVariants.{Add, Sub, Sll, Slt, Sltu, Xor, Srl, Sra, Or, And, Mul, Mulh, Mulhsu, Mulhu, Div, Divu, Rem, Remu}
 use Rattle.tss_isa.specs.declared.instr.Instr.{Instr}
 use Rattle.tss_isa.specs.declared.instr.Instr.TheVariants.{Lui, Auipc, Jal, Jalr, Branch, Load, Store, OpImm, Op, Fence, Ecall, Ebreak}
 use Rattle.tss_isa.specs.Fields.{signed}
@@ -61,6 +61,24 @@ floor_div (negsuc n) d = negsuc (n / d)
 abbrev pub distance : ℕ → ℕ
 distance y = y % 32
 
+-- the upper half of a product of 64 bits: it is divided by 2 ^ 32 and rounded down
+abbrev pub upper_half : ℤ → ℕ
+upper_half product = twos (floor_div product (2 ^ 32))
+
+-- a quotient, rounded towards zero: that by zero has all bits set. The least number by -1 is the least number again
+abbrev pub signed_quotient : ℕ → ℕ → ℕ
+signed_quotient x y = if y == 0 then 2 ^ 32 - 1 else twos (int_div (cast_signed w32 x) (cast_signed w32 y))
+
+abbrev pub quotient : ℕ → ℕ → ℕ
+quotient x y = if y == 0 then 2 ^ 32 - 1 else x / y
+
+-- what a quotient leaves, with the dividend's sign: by zero it leaves the dividend
+abbrev pub signed_remainder : ℕ → ℕ → ℕ
+signed_remainder x y = if y == 0 then x else twos (int_rem (cast_signed w32 x) (cast_signed w32 y))
+
+abbrev pub remainder : ℕ → ℕ → ℕ
+remainder x y = if y == 0 then x else x % y
+
 -- an operation on two registers' values
 abbrev pub op_result : RegOp → ℕ → ℕ → ℕ
 op_result Add x y = (x + y) % 2 ^ 32
@@ -73,6 +91,14 @@ op_result Srl x y = x / 2 ^ distance y
 op_result Sra x y = twos (floor_div (cast_signed w32 x) (2 ^ distance y))
 op_result Or x y = bit_or x y
 op_result And x y = bit_and x y
+op_result Mul x y = x * y % 2 ^ 32
+op_result Mulh x y = upper_half (cast_signed w32 x *ℤ cast_signed w32 y)
+op_result Mulhsu x y = upper_half (cast_signed w32 x *ℤ pos y)
+op_result Mulhu x y = x * y / 2 ^ 32
+op_result Div x y = signed_quotient x y
+op_result Divu x y = quotient x y
+op_result Rem x y = signed_remainder x y
+op_result Remu x y = remainder x y
 
 -- the operation that one with an immediate is: its second value is the immediate in two's complement
 abbrev pub op_of : ImmOp → RegOp
