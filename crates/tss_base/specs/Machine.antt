@@ -1,5 +1,6 @@
 -- The keys of a machine description with their names and ranges, and what an admissible machine is.
 use Rattle.std.specs.Prelude.{◌≡◌, ℕ, ◌≤◌, List, [], ◌∷◌, Option, Some, None, codes}
+use Rattle.tss_base.specs.declared.bounds.TheConstants.{MAX_MAIN_BUDGET, MAX_TASK_BUDGET, MAX_TASKS, MAX_OPERANDS, MAX_OBJECT_BYTES, MAX_EPOCH_OBJECTS, MAX_OUTPUT_BYTES, MAX_STATIONS, MAX_SLOTS, MAX_WORKERS, MAX_BANKS, MAX_ENTRIES, MAX_VERSIONS, MAX_BUFFERS, MAX_QUANTUM, MAX_WINDOW}
 use Rattle.tss_base.specs.declared.machine.Limits.{Limits}
 use Rattle.tss_base.specs.declared.machine.Sizes.{Sizes}
 use Rattle.tss_base.specs.declared.machine.Machine.{Machine}
@@ -48,22 +49,22 @@ key_name Window = codes "window"
 
 -- the least and the greatest value of a key
 abbrev pub key_range : Key → ℕ × ℕ
-key_range MainBudget = (1, 1000000000)
-key_range TaskBudget = (1, 100000000)
-key_range MaxTasks = (1, 65536)
-key_range MaxOperands = (1, 7)
-key_range ObjectBytes = (1, 65536)
-key_range EpochObjects = (1, 65536)
-key_range OutputBytes = (0, 1048576)
-key_range Stations = (1, 16)
-key_range Slots = (1, 64)
-key_range Workers = (1, 64)
-key_range Banks = (1, 64)
-key_range Entries = (1, 256)
-key_range Versions = (1, 256)
-key_range Buffers = (1, 64)
-key_range Quantum = (1, 65536)
-key_range Window = (1, 8)
+key_range MainBudget = (1, MAX_MAIN_BUDGET)
+key_range TaskBudget = (1, MAX_TASK_BUDGET)
+key_range MaxTasks = (1, MAX_TASKS)
+key_range MaxOperands = (1, MAX_OPERANDS)
+key_range ObjectBytes = (1, MAX_OBJECT_BYTES)
+key_range EpochObjects = (1, MAX_EPOCH_OBJECTS)
+key_range OutputBytes = (0, MAX_OUTPUT_BYTES)
+key_range Stations = (1, MAX_STATIONS)
+key_range Slots = (1, MAX_SLOTS)
+key_range Workers = (1, MAX_WORKERS)
+key_range Banks = (1, MAX_BANKS)
+key_range Entries = (1, MAX_ENTRIES)
+key_range Versions = (1, MAX_VERSIONS)
+key_range Buffers = (1, MAX_BUFFERS)
+key_range Quantum = (1, MAX_QUANTUM)
+key_range Window = (1, MAX_WINDOW)
 
 abbrev pub IsInRange : Key → ℕ → Type 0
 IsInRange k n = ((key_range k).0 ≤ n) × (n ≤ (key_range k).1)

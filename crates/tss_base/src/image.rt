@@ -1,17 +1,9 @@
 // Images of programs: segments of bytes in address order, and the entry.
 ghost use Rattle.std.specs.Prelude.{◌≡◌, ◌<◌, ◌≤◌, ◌+◌, Some, length, vec_len, slice_get, slice_index};
-ghost use Rattle.tss_base.specs.Image.{IsAccepted, IsSegment, segments_end};
+ghost use Rattle.tss_base.specs.Image.{IsAccepted, IsSegment};
+ghost use Rattle.tss_base.specs.declared.addresses.TheConstants.{SEGMENTS_END};
 
 use std::marker::Model;
-
-/// The address after the last that a segment may have.
-pub const SEGMENTS_END: u32 = 0xFFFD0000;
-
-/// The most segments of an image.
-pub const MAX_SEGMENTS: u32 = 256;
-
-/// The most bytes of an image's segments together.
-pub const MAX_IMAGE_BYTES: u32 = 0x4000000;
 
 /// A segment of an image: its bytes as loaded, the address of the first, and whether it can be written and executed.
 /// Every segment can be read.
@@ -37,7 +29,7 @@ impl Segment {
     /// A segment with these bytes from `base` on.
     pub fn new(base: u32, bytes: Vec<u8>, writable: bool, code: bool) -> Segment
         requires some { 0 < vec_len bytes }
-        requires end { base + vec_len bytes ≤ segments_end }
+        requires end { base + vec_len bytes ≤ SEGMENTS_END }
         ensures { result ≡ record { base = base; bytes = bytes.items; writable = writable; code = code } }
     {
         Segment {

@@ -2,18 +2,29 @@
 //! the machine with its limits and sizes, and the events of the unit machine. A contract sees these types as they
 //! stand, but a segment and an image, whose fields are private: a segment as its base, bytes and flags, an image as
 //! its entry and its segments in address order. What an accepted image and an admissible machine are stands here too.
+//! Each fixed number stands here once: causes of traps, main's refusals and calls, addresses, and bounds. Code takes
+//! it from its module, and a definition cites the same constant.
 #![tactic(auto)]
 
+pub mod addresses;
+pub mod bounds;
+pub mod calls;
+pub mod causes;
+mod counts;
 mod ending;
 mod event;
 mod image;
 mod machine;
+mod marks;
 mod operand;
 mod range;
+pub mod refusals;
 
+pub use counts::{Counts, Peaks};
 pub use ending::{Blocked, Ending, NoMemory, Trap};
-pub use event::{Counts, Event, Farewell, Follow, How, LinkState, Peaks, Stage};
-pub use image::{Image, MAX_IMAGE_BYTES, MAX_SEGMENTS, SEGMENTS_END, Segment};
+pub use event::Event;
+pub use image::{Image, Segment};
 pub use machine::{Key, Limits, Machine, Sizes};
-pub use operand::{MAX_OPERANDS, Mode, OpName, Operand, Storage, Task};
+pub use marks::{Farewell, Follow, How, LinkState, Stage};
+pub use operand::{Mode, OpName, Operand, Storage, Task};
 pub use range::Range;

@@ -1,8 +1,6 @@
 // Operands, their names, where their values lie, and tasks.
+use crate::bounds::MAX_OPERANDS;
 use crate::range::Range;
-
-/// The most operands of a task.
-pub const MAX_OPERANDS: u32 = 7;
 
 /// How a task uses an object: it reads it, it writes it from zeros on, or it reads and writes it.
 #[derive(Clone, Copy, Debug, PartialEq, Eq)]
@@ -43,7 +41,7 @@ pub struct Task {
     pub entry: u32,
     pub argument: u32,
     pub listed: u32,
-    pub bases: [u32; 7],
+    pub bases: [u32; MAX_OPERANDS as usize],
     pub count: u32,
-    pub operands: [Operand; 7],
+    pub operands: [Operand; MAX_OPERANDS as usize],
 }

@@ -9,8 +9,8 @@ use Rattle.tss_base.specs.declared.operand.Task.{Task}
 use Rattle.tss_base.specs.declared.machine.Machine.{Machine}
 use Rattle.tss_base.specs.declared.event.Event.{Event}
 use Rattle.tss_base.specs.declared.event.Event.TheVariants as event
-use Rattle.tss_base.specs.declared.event.Follow.{Follow}
-use Rattle.tss_base.specs.declared.event.LinkState.TheVariants as link
+use Rattle.tss_base.specs.declared.marks.Follow.{Follow}
+use Rattle.tss_base.specs.declared.marks.LinkState.TheVariants as link
 use Rattle.tss_protocol.specs.Names.{same_name}
 use Rattle.tss_protocol.specs.Mail.{OpenContents}
 use Rattle.tss_protocol.specs.State.{State, OperandState, Version}

@@ -5,13 +5,8 @@ ghost use Rattle.tss_base.specs.Range.{contains};
 ghost use Rattle.tss_model.specs.Access.{writes, main_may, main_answer, task_may_within, task_answer};
 ghost use Rattle.tss_core.specs.Rule.{purpose_of, allowed, is_owned, is_fixed_for};
 
+use tss_base::addresses::SCRATCH;
 use tss_base::{Mode, Operand, Range};
-
-/// The scratch of a task.
-pub const SCRATCH: Range = Range {
-    base: 0xFFFD_0000,
-    len: 0x1_0000,
-};
 
 /// What an access does.
 #[derive(Clone, Copy, Debug, PartialEq, Eq)]

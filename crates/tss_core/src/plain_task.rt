@@ -1,4 +1,5 @@
 // A plain view of a task over a small memory.
+ghost use Rattle.tss_base.specs.declared.addresses.TheConstants.{SEGMENTS_END};
 ghost use Rattle.std.specs.Prelude.{◌≡◌, ◌+◌, ◌^◌, ◌<◌, ◌≤◌, ◌||◌, true, length, vec_len, IsTrue, Some};
 ghost use Rattle.tss_base.specs.Range.{contains};
 ghost use Rattle.tss_model.specs.Memory.{scratch_range, number_at};
@@ -6,9 +7,10 @@ ghost use Rattle.tss_model.specs.Core.{low_bytes};
 ghost use Rattle.tss_core.specs.Views.{is_width, write_at};
 ghost use Rattle.tss_core.specs.Plain.{are_inside, lies_in, task_byte, task_bytes_after, scratch_after};
 
-use crate::access::{Deny, Purpose, SCRATCH, task_access};
+use crate::access::{Deny, Purpose, task_access};
 use crate::blocks::{number, put, within, word_at};
 use crate::view::View;
+use tss_base::addresses::SCRATCH;
 use tss_base::{Operand, Range};
 
 /// What a task sees of a small memory: its one range, the bytes from address 0 on, which main can write or not; its
@@ -21,7 +23,7 @@ pub struct PlainTask {
     pub operands: Vec<Operand>,
     pub text: u32,
     pub code: Vec<u32>,
-    ghost placed: { vec_len bytes ≤ 0xFFFD0000 },
+    ghost placed: { vec_len bytes ≤ SEGMENTS_END },
     ghost whole: { vec_len scratch ≡ 0x10000 },
     ghost inside: { are_inside (length bytes.items) operands.items ≡ true },
 }
@@ -78,7 +80,7 @@ impl View for PlainTask {
 #[inline(always)]
 fn read(bytes: &[u8], scratch: &[u8], at: u32, width: u32) -> u32
     requires width { IsTrue (is_width width) }
-    requires placed { length bytes.now ≤ 0xFFFD0000 }
+    requires placed { length bytes.now ≤ SEGMENTS_END }
     requires whole { length scratch.now ≡ 0x10000 }
     requires there { IsTrue (lies_in (length bytes.now) (record { base = at; len = width })) }
     ensures exact { result ≡ number_at (task_byte bytes.now scratch.now) at width }
@@ -95,7 +97,7 @@ fn read(bytes: &[u8], scratch: &[u8], at: u32, width: u32) -> u32
 #[inline(always)]
 fn write(bytes: &mut [u8], scratch: &mut [u8], at: u32, width: u32, value: u32)
     requires width { IsTrue (is_width width) }
-    requires placed { length bytes.old ≤ 0xFFFD0000 }
+    requires placed { length bytes.old ≤ SEGMENTS_END }
     requires whole { length scratch.old ≡ 0x10000 }
     requires there { IsTrue (lies_in (length bytes.old) (record { base = at; len = width })) }
     ensures bytes { bytes.new ≡ task_bytes_after bytes.old (Some (write_at at width value)) }

@@ -1,18 +1,11 @@
 // The registers of an actor.
 ghost use Rattle.std.specs.Prelude.{◌≡◌, ◌+◌, ◌-◌, ◌^◌, ◌<◌, ◌≤◌};
+ghost use Rattle.tss_base.specs.declared.bounds.TheConstants.{MAX_OPERANDS};
 ghost use Rattle.tss_model.specs.Registers.{register_at, with_register, completed, onward, next_pc, main_registers, task_registers};
 
 use std::marker::Model;
 use tss_base::Task;
-
-/// The address at which a task has ended.
-pub(crate) const END_PC: u32 = 0xFFFF_FFF0;
-
-/// The address after main's stack, where its stack pointer begins.
-const STACK_END: u32 = 0xFFFF_0000;
-
-/// The address after a task's scratch, where its stack pointer begins.
-const SCRATCH_END: u32 = 0xFFFE_0000;
+use tss_base::addresses::{END_PC, SCRATCH_END, STACK_END};
 
 /// The first register of a task's arguments.
 const FIRST_ARGUMENT: usize = 10;
@@ -55,7 +48,7 @@ impl Regs {
     /// A task's at first: it begins at its entry, with the address at which it ends in x1, the end of its scratch in
     /// x2, and from x10 on the bases of its operands as listed, then its argument.
     pub fn task(task: &Task) -> Regs
-        requires { task.now.listed ≤ 7 }
+        requires { task.now.listed ≤ MAX_OPERANDS }
         ensures { result ≡ task_registers task.now }
     {
         let mut values = [0; 32];

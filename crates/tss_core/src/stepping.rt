@@ -8,28 +8,15 @@ ghost use Rattle.tss_core.specs.Steps.{IsStep, StepsTo, step_of, outcome_of, reg
 
 use crate::access::Deny;
 use crate::arithmetic::{extended, load_width, op_of, op_result, passes, store_width};
-use crate::regs::{END_PC, Regs};
+use crate::regs::Regs;
 use crate::view::View;
 use tss_base::Trap;
+use tss_base::addresses::END_PC;
+use tss_base::causes::{
+    BREAKPOINT, FETCH_OUTSIDE, ILLEGAL, JUMP_MISALIGNED, LOAD_DENIED, LOAD_MISALIGNED,
+    STORE_DENIED, STORE_MISALIGNED,
+};
 use tss_isa::{Instr, LoadKind, StoreKind, decode};
-
-/// Causes of traps: a jump to an address that isn't a multiple of 4, no word at the pc, an illegal word, EBREAK, and
-/// loads and stores at addresses that aren't multiples of their widths or that the actor may not use.
-const JUMP_MISALIGNED: u32 = 0;
-
-const FETCH_OUTSIDE: u32 = 1;
-
-const ILLEGAL: u32 = 2;
-
-const BREAKPOINT: u32 = 3;
-
-const LOAD_MISALIGNED: u32 = 4;
-
-const LOAD_DENIED: u32 = 5;
-
-const STORE_MISALIGNED: u32 = 6;
-
-const STORE_DENIED: u32 = 7;
 
 /// What a step does: it executes an instruction; it meets ECALL, which is left to the actor; the actor stands where a
 /// task has ended; it traps; or main touches an object that it has named. But for the first of these nothing changes.

@@ -13,8 +13,9 @@ use Rattle.std.proofs.lemmas.List.Kept.{AllPairs-cons}
 use Rattle.std.proofs.lemmas.List.Sorted.{All-permutation, length_permutation, list_any-IsPermutation}
 use Rattle.std.proofs.lemmas.List.Sorted.{sum_by-IsPermutation}
 use Rattle.std.proofs.lemmas.List.Sums.{sum_by-cons, length-filter, count_by-le-length}
-use Rattle.tss_base.specs.Image.{IsAccepted, IsSegment, HasCodeAt, segment_end, segments_end, max_segments}
-use Rattle.tss_base.specs.Image.{max_image_bytes}
+use Rattle.tss_base.specs.Image.{IsAccepted, IsSegment, HasCodeAt, segment_end}
+use Rattle.tss_base.specs.declared.addresses.TheConstants.{SEGMENTS_END}
+use Rattle.tss_base.specs.declared.bounds.TheConstants.{MAX_SEGMENTS, MAX_IMAGE_BYTES}
 use Rattle.tss_base.specs.Range.{end_of}
 use Rattle.tss_elf.specs.declared.header.ProgramHeader.{ProgramHeader}
 use Rattle.tss_elf.specs.declared.refusal.Refusal.{Refusal}
@@ -51,7 +52,7 @@ can_load file_len h passed kept =
     let misplaced : is_misplaced file_len h ≡ false = each 1 (check.Dynamic, false) (omega arith) in
     let oversized : is_oversized h ≡ false = each 2 (check.Dynamic, false) (omega arith) in
     let past_file = nat_lt file_len (h.offset + h.file_size) in
-    let past_end = nat_lt segments_end (end_of (range_of h)) in
+    let past_end = nat_lt SEGMENTS_END (end_of (range_of h)) in
     let inside : (past_file ≡ false) × (past_end ≡ false) =
     or_parts past_file past_end (second_false (is_loaded h) (past_file || past_end) parts.0 misplaced) in
     let smaller : nat_lt h.memory_size h.file_size ≡ false =
@@ -60,7 +61,7 @@ can_load file_len h passed kept =
       some = some;
       stored = ltb-false file_len (h.offset + h.file_size) inside.0;
       within = ltb-false h.memory_size h.file_size smaller;
-      placed = ltb-false segments_end (h.address + h.memory_size) inside.1;
+      placed = ltb-false SEGMENTS_END (h.address + h.memory_size) inside.1;
     }
 
 -- so can each kept one, where all headers pass
@@ -148,12 +149,12 @@ module _ (bytes : List ℕ) where
       → All (CanLoad (length bytes)) (kept_headers bytes)
   kept_can_load each = all_can_load (length bytes) (headers bytes) each
 
-  pub kept_few : first_failing (file_checks bytes) ≡ None → length (kept_headers bytes) ≤ max_segments
+  pub kept_few : first_failing (file_checks bytes) ≡ None → length (kept_headers bytes) ≤ MAX_SEGMENTS
   kept_few file =
       let test : has_bad_header_size bytes ≡ false =
       all_passed (file_checks bytes) file 8 (check.Short, false) (omega arith) in
       let count =
-      ltb-false max_segments (header_count bytes) (or_parts (nat_lt max_segments (header_count bytes)) _ test).0
+      ltb-false MAX_SEGMENTS (header_count bytes) (or_parts (nat_lt MAX_SEGMENTS (header_count bytes)) _ test).0
       in
       omega (
         arith,
@@ -209,9 +210,9 @@ module _ (bytes : List ℕ) where
         let parts = or_parts (not aligned) (not placed) test in
         (not-false aligned parts.0, not-false placed parts.1)
 
-    size_passes : sum_by (λ h. h.memory_size) (kept_headers bytes) ≤ max_image_bytes
+    size_passes : sum_by (λ h. h.memory_size) (kept_headers bytes) ≤ MAX_IMAGE_BYTES
     size_passes =
-        ltb-false max_image_bytes (sum_by (λ h. h.memory_size) (kept_headers bytes))
+        ltb-false MAX_IMAGE_BYTES (sum_by (λ h. h.memory_size) (kept_headers bytes))
         (all_passed (kept_checks (entry_of bytes) (kept_headers bytes)) together 3 (check.Short, false) (omega arith))
 
     -- it can be run

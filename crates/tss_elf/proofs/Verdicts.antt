@@ -7,7 +7,7 @@ use Rattle.std.proofs.lemmas.Bool.Decides.{nat_tests}
 use Rattle.std.proofs.lemmas.List.{append-nil, take_all, drop_all}
 use Rattle.std.proofs.lemmas.List.Sorted.{All-permutation, length_permutation, list_any-IsPermutation}
 use Rattle.std.proofs.lemmas.List.Sorted.{sum_by-IsPermutation}
-use Rattle.tss_base.specs.Image.{SegmentState, ImageState, IsAccepted, max_segments, max_image_bytes}
+use Rattle.tss_base.specs.Image.{SegmentState, ImageState, IsAccepted}
 use Rattle.tss_elf.specs.declared.header.ProgramHeader.{ProgramHeader}
 use Rattle.tss_elf.specs.declared.refusal.ImageFault.{ImageFault}
 use Rattle.tss_elf.specs.declared.refusal.ImageFault.TheVariants as fault
@@ -22,6 +22,7 @@ use Rattle.tss_elf.proofs.Failing.{failing_before, failing_after, passed_before,
 use Rattle.tss_elf.proofs.Pairs.{AreApart, apart_from_test, has_overlap-IsPermutation}
 use Rattle.tss_elf.proofs.Orders.{IsBelow, by_address_is}
 use Rattle.tss_elf.proofs.Acceptance.{IsAccepted-loaded_image, all_passed, kept_can_load, kept_few}
+use Rattle.tss_base.specs.declared.bounds.TheConstants.{MAX_SEGMENTS, MAX_IMAGE_BYTES}
 
 -- the checks of the kept segments have one answer in any order of them
 pub failing-IsPermutation : (entry : ℕ) (hs gs : List ProgramHeader) → IsPermutation hs gs
@@ -35,7 +36,7 @@ failing-IsPermutation entry hs gs moved =
     (check.Overlap, overlap i)
     ∷ (check.NoCode, not (code i))
     ∷ (check.EntryPlace, not (nat_eq (entry % 4) 0) || not (at_entry i))
-    ∷ (check.TooLarge, nat_lt max_image_bytes (size i))
+    ∷ (check.TooLarge, nat_lt MAX_IMAGE_BYTES (size i))
     ∷ [])
 
 module _ (bytes : List ℕ) where
@@ -125,7 +126,7 @@ module _ (bytes : List ℕ) (hs : List ProgramHeader) (moved : IsPermutation (ke
       → All (CanLoad (length bytes)) hs
   any_can_load each = All-permutation (CanLoad (length bytes)) (kept_headers bytes) hs moved (kept_can_load bytes each)
 
-  pub any_few : first_failing (file_checks bytes) ≡ None → length hs ≤ max_segments
+  pub any_few : first_failing (file_checks bytes) ≡ None → length hs ≤ MAX_SEGMENTS
   any_few file = omega (arith, kept_few bytes file, length_permutation (kept_headers bytes) hs moved)
 
   pub any_checks : (entry : ℕ) (first : Option Refusal) → entry ≡ entry_of bytes

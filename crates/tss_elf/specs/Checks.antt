@@ -3,7 +3,8 @@ use Rattle.std.specs.Prelude.{ℕ, ◌+◌, ◌*◌, ◌%◌, ◌==◌, nat_lt, 
 use Rattle.std.specs.Prelude.{[], ◌∷◌, ◌++◌, length, slice_index, flat_map, sum_by, Option, None, Some}
 use Rattle.std.specs.Int.{bit_at}
 use Rattle.std.specs.List.{list_any, starts_with}
-use Rattle.tss_base.specs.Image.{segments_end, max_segments, max_image_bytes}
+use Rattle.tss_base.specs.declared.addresses.TheConstants.{SEGMENTS_END}
+use Rattle.tss_base.specs.declared.bounds.TheConstants.{MAX_SEGMENTS, MAX_IMAGE_BYTES}
 use Rattle.tss_base.specs.Range.{end_of, meets, contains}
 use Rattle.tss_elf.specs.declared.header.ProgramHeader.{ProgramHeader}
 use Rattle.tss_elf.specs.declared.refusal.Refusal.{Refusal}
@@ -51,7 +52,7 @@ has_float_abi bytes = names_float_abi (word_at bytes 36)
 -- it has too many program headers, or some of another length
 abbrev pub has_bad_header_size : List ℕ → Bool
 has_bad_header_size bytes =
-    nat_lt max_segments (header_count bytes)
+    nat_lt MAX_SEGMENTS (header_count bytes)
     || nat_lt 0 (header_count bytes) && not (header_size bytes == program_header_len)
 
 -- it has program headers that pass the end of the file
@@ -68,7 +69,7 @@ is_dynamic h = h.kind == 2 || h.kind == 3
 abbrev pub is_misplaced : ℕ → ProgramHeader → Bool
 is_misplaced file_len h =
     is_loaded h
-    && (nat_lt file_len (h.offset + h.file_size) || nat_lt segments_end (end_of (range_of h)))
+    && (nat_lt file_len (h.offset + h.file_size) || nat_lt SEGMENTS_END (end_of (range_of h)))
 
 -- more bytes of the file than of memory belong to it
 abbrev pub is_oversized : ProgramHeader → Bool
@@ -95,7 +96,7 @@ has_misplaced_entry entry hs = not (entry % 4 == 0) || not (list_any (has_code_a
 
 -- they have too many bytes together
 abbrev pub is_too_large : List ProgramHeader → Bool
-is_too_large hs = nat_lt max_image_bytes (sum_by (λ h. h.memory_size) hs)
+is_too_large hs = nat_lt MAX_IMAGE_BYTES (sum_by (λ h. h.memory_size) hs)
 
 -- the checks of each part in their order, each with whether it fails
 abbrev pub file_checks : List ℕ → List (Refusal × Bool)

@@ -1,7 +1,7 @@
 -- The image that a list of bytes is, or the number of the first check that it fails.
 use Rattle.std.specs.Prelude.{◌≡◌, ℕ, ◌+◌, ◌-◌, ◌<◌, ◌≤◌, nat_le, if◌then◌else◌, List, [], ◌∷◌, ◌++◌, map, take, drop}
 use Rattle.std.specs.Prelude.{replicate, Option, None, Some, option_map, Result, Ok, Err}
-use Rattle.tss_base.specs.Image.{SegmentState, ImageState, segments_end}
+use Rattle.tss_base.specs.Image.{SegmentState, ImageState}
 use Rattle.tss_elf.specs.declared.header.ProgramHeader.{ProgramHeader}
 use Rattle.tss_elf.specs.declared.refusal.ImageFault.{ImageFault}
 use Rattle.tss_elf.specs.declared.refusal.ImageFault.TheVariants as fault
@@ -9,6 +9,7 @@ use Rattle.tss_elf.specs.declared.refusal.Refusal.{Refusal}
 use Rattle.tss_elf.specs.declared.refusal.Refusal.TheVariants as check
 use Rattle.tss_elf.specs.Fields.{entry_of, kept_headers, is_code, is_writable}
 use Rattle.tss_elf.specs.Checks.{checks, first_failing}
+use Rattle.tss_base.specs.declared.addresses.TheConstants.{SEGMENTS_END}
 
 -- what a list of bytes is: refused, with a check's number, or accepted
 pub data Verdict : Type 0 where
@@ -77,7 +78,7 @@ pub record CanLoad (file_len : ℕ) (h : ProgramHeader) : Type 0 where
   pub some : 0 < h.memory_size
   pub stored : h.offset + h.file_size ≤ file_len
   pub within : h.file_size ≤ h.memory_size
-  pub placed : h.address + h.memory_size ≤ segments_end
+  pub placed : h.address + h.memory_size ≤ SEGMENTS_END
 
 -- an answer is right where the first check that fails is this one, if any, unless memory ran out
 abbrev pub Passes : {X : Type 0} → Result X ImageFault → Option Refusal → (X → Type 0) → Type 0

@@ -3,14 +3,14 @@ ghost use Rattle.std.specs.Prelude.{◌≡◌, ◌*◌, ◌+◌, ◌<◌, ◌≤
 ghost use Rattle.std.specs.List.{list_any};
 ghost use Rattle.std.specs.List.Sorted.{IsNonDecreasingBy};
 ghost use Rattle.std.specs.Result.{result_err};
-ghost use Rattle.tss_base.specs.Image.{max_segments};
+ghost use Rattle.tss_base.specs.declared.bounds.TheConstants.{MAX_SEGMENTS};
 ghost use Rattle.tss_elf.specs.Fields.{header_count, headers_place, is_code};
 ghost use Rattle.tss_elf.specs.Checks.{first_failing, file_checks, names_float_abi, kept_checks, has_overlap, has_code_at};
 
 use crate::header::{HEADER_LEN, ProgramHeader};
 use crate::number::{u16_at, u32_at};
 use crate::refusal::Refusal;
-use tss_base::{MAX_IMAGE_BYTES, MAX_SEGMENTS};
+use tss_base::bounds::{MAX_IMAGE_BYTES, MAX_SEGMENTS};
 
 /// How many bytes a file header has.
 const FILE_HEADER_LEN: usize = 52;
@@ -32,7 +32,7 @@ fn has_float_abi(flags: u32) -> bool
 pub fn check_file(bytes: &[u8]) -> Result<(), Refusal>
     ensures first { result_err result ≡ first_failing (file_checks bytes.now) }
     ensures whole { OnOk result (52 ≤ length bytes.now) }
-    ensures few { OnOk result (header_count bytes.now ≤ max_segments) }
+    ensures few { OnOk result (header_count bytes.now ≤ MAX_SEGMENTS) }
     ensures placed { OnOk result (0 < header_count bytes.now
         → headers_place bytes.now + 32 * header_count bytes.now ≤ length bytes.now) }
 {
@@ -100,7 +100,7 @@ fn some_code_at(kept: &[ProgramHeader], entry: u32) -> bool
 
 /// How many bytes the segments have together.
 fn total_len(kept: &[ProgramHeader]) -> u64
-    requires { length kept.now ≤ max_segments }
+    requires { length kept.now ≤ MAX_SEGMENTS }
     ensures { result ≡ sum_by (λ h. h.memory_size) kept.now }
 {
     kept.iter()
@@ -112,7 +112,7 @@ fn total_len(kept: &[ProgramHeader]) -> u64
 pub fn check_kept(kept: &[ProgramHeader], entry: u32) -> Result<(), Refusal>
     requires sorted { IsNonDecreasingBy (λ h. h.address) kept.now }
     requires some { All (λ h. 0 < h.memory_size) kept.now }
-    requires few { length kept.now ≤ max_segments }
+    requires few { length kept.now ≤ MAX_SEGMENTS }
     ensures { result_err result ≡ first_failing (kept_checks entry kept.now) }
 {
     if overlaps(kept) {

@@ -6,7 +6,8 @@ ghost use Rattle.tss_elf.specs.Checks.{first_failing, header_checks, has_code_at
 
 use crate::number::u32_at;
 use crate::refusal::Refusal;
-use tss_base::{Range, SEGMENTS_END};
+use tss_base::Range;
+use tss_base::addresses::SEGMENTS_END;
 
 /// How many bytes a program header has.
 pub const HEADER_LEN: usize = 32;

@@ -8,7 +8,7 @@ use Rattle.tss_base.specs.declared.machine.Limits.{Limits}
 use Rattle.tss_base.specs.Image.{SegmentState, ImageState}
 use Rattle.tss_model.specs.Memory.{Memory, byte_at, code_word, frozen}
 use Rattle.tss_model.specs.Registers.{Registers, register_at}
-use Rattle.tss_model.specs.Causes.{main_budget_spent}
+use Rattle.tss_base.specs.declared.refusals.TheConstants.{MAIN_BUDGET_SPENT}
 use Rattle.tss_model.specs.Access.{MainActor}
 use Rattle.tss_model.specs.Core.{Stepped, Executed, Called, Ended, Trapped, Touched}
 use Rattle.tss_model.specs.TaskRun.{repeated}
@@ -40,7 +40,7 @@ module _ (code : List SegmentState) (limits : Limits) (r : Registers) (spawned :
   -- main that has spent its budget is refused
   pub flat_step-spent : nat_le limits.main_budget r.done ≡ true
       → flat_step code limits (flat_now r spawned objects pieces memory)
-      ≡ record { main = main_refused (main_now r spawned objects pieces) main_budget_spent; memory = memory }
+      ≡ record { main = main_refused (main_now r spawned objects pieces) MAIN_BUDGET_SPENT; memory = memory }
   unfolding flat_step main_step
   flat_step-spent spent =
       ap (λ (b : Bool). flat_by code limits (flat_now r spawned objects pieces memory)

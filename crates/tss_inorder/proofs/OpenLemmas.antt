@@ -5,9 +5,10 @@ use Rattle.std.specs.List.{list_all}
 use Rattle.std.proofs.lemmas.Bool.{and_from, le-ltb, not_from_false}
 use Rattle.std.proofs.lemmas.List.Folds.{list_all-append, list_all-map}
 use Rattle.tss_base.specs.Range.{end_of, meets}
-use Rattle.tss_base.specs.Image.{SegmentState, ImageState, IsAccepted, segment_end, segments_end}
+use Rattle.tss_base.specs.Image.{SegmentState, ImageState, IsAccepted, segment_end}
 use Rattle.tss_model.specs.Memory.{loaded, memory_range, segment_range, scratch_range, stack_range}
 use Rattle.tss_inorder.specs.Sound.{beside_scratch}
+use Rattle.tss_base.specs.declared.addresses.TheConstants.{SEGMENTS_END}
 
 -- what passes at each place passes as a whole
 all_from : {A : Type 0} (p : A → Bool) (xs : List A) → ((i : ℕ) (d : A) → i < length xs → p (get_or xs i d) ≡ true) → list_all p xs ≡ true
@@ -15,7 +16,7 @@ all_from p [] each = refl
 all_from p (x ∷ xs) each = and_from (p x) (list_all p xs) (each 0 x (omega arith)) (all_from p xs (λ i d h. each (suc i) d (omega arith)))
 
 -- a segment ends before the scratch
-segment_beside : (s : SegmentState) → segment_end s ≤ segments_end → not (meets (segment_range s) scratch_range) ≡ true
+segment_beside : (s : SegmentState) → segment_end s ≤ SEGMENTS_END → not (meets (segment_range s) scratch_range) ≡ true
 segment_beside s h =
     not_from_false (meets (segment_range s) scratch_range)
     (le-ltb (max s.base scratch_range.base) (min (segment_end s) (end_of scratch_range)) (omega arith))

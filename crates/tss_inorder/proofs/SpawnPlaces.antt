@@ -12,7 +12,7 @@ use Rattle.tss_base.specs.declared.operand.Task.{Task}
 use Rattle.tss_base.specs.declared.machine.Limits.{Limits}
 use Rattle.tss_model.specs.Memory.{MemoryRange, Memory, range_of}
 use Rattle.tss_model.specs.Access.{writes, operands_of, touches}
-use Rattle.tss_model.specs.Causes.{too_many_operands, list_place, main_touch, bad_length, bad_base, object_outside, overlap, epoch_full, too_many_tasks}
+use Rattle.tss_base.specs.declared.refusals.TheConstants.{TOO_MANY_OPERANDS, LIST_PLACE, MAIN_TOUCH, BAD_LENGTH, BAD_BASE, OBJECT_OUTSIDE, OVERLAP, EPOCH_FULL, TOO_MANY_TASKS}
 use Rattle.tss_model.specs.Spawn.{SpawnCall, Entry, same_range, name_object, name_objects, objects_of, is_bad_length, is_outside, overlaps, operand_checked, mode_checked, mode_of, entry_checked, after_first, with_rest, entries_checked, entries_at, is_input, is_output, merged_mode, merged_on, merged_operands, no_operand, task_of, task_checked, is_misplaced, list_range, spawn_of}
 use Rattle.tss_inorder.specs.Sound.{is_placed, are_placed}
 use Rattle.tss_inorder.proofs.PlaceLemmas.{placed_in}
@@ -119,10 +119,10 @@ same_ok x y e = cc
 module _ (limits : Limits) (m : Memory) where
   operand_placed : (named : List Range) (object : Range) (mode : Mode) (o : Operand) → operand_checked limits m named object mode ≡ Ok o → is_placed m.ranges o ≡ true
   operand_placed named object mode o h =
-      let long = passed (is_bad_length limits object) bad_length _ o h in
-      let based = passed _ bad_base _ o long.1 in
-      let inside = passed (is_outside mode (range_of m.ranges object)) object_outside _ o based.1 in
-      let apart = passed (overlaps named object) overlap _ o inside.1 in
+      let long = passed (is_bad_length limits object) BAD_LENGTH _ o h in
+      let based = passed _ BAD_BASE _ o long.1 in
+      let inside = passed (is_outside mode (range_of m.ranges object)) OBJECT_OUTSIDE _ o based.1 in
+      let apart = passed (overlaps named object) OVERLAP _ o inside.1 in
       let same = same_ok (record { object = object; mode = mode }) o apart.1 in
       ap (is_placed m.ranges) (sym same) ∙ not_from_false (is_outside mode (range_of m.ranges object)) inside.0
 
@@ -160,8 +160,8 @@ module _ (limits : Limits) (call : SpawnCall) (m : Memory) (named : List Range) 
   task_placed : (listed : Result (List Operand) ℕ) → listed ≡ entries_checked limits m named (entries_at m call.list call.count)
       → task_checked limits call named spawned listed ≡ Ok t → are_placed m.ranges (operands_of t) ≡ true
   task_placed (Ok listed) e h =
-      let full = passed (nat_lt limits.epoch_objects (length (name_objects named (objects_of listed)))) epoch_full _ t h in
-      let many = passed (nat_le limits.max_tasks spawned) too_many_tasks _ t full.1 in
+      let full = passed (nat_lt limits.epoch_objects (length (name_objects named (objects_of listed)))) EPOCH_FULL _ t h in
+      let many = passed (nat_le limits.max_tasks spawned) TOO_MANY_TASKS _ t full.1 in
       let same = same_ok (task_of call (suc spawned) listed (merged_operands listed)) t many.1 in
       subst (λ (x : Task). are_placed m.ranges (operands_of x) ≡ true) same
       (ap (are_placed m.ranges) (take_whole (merged_operands listed) (replicate (7 - length (merged_operands listed)) no_operand))
@@ -170,8 +170,8 @@ module _ (limits : Limits) (call : SpawnCall) (m : Memory) (named : List Range) 
 
   task_number : (listed : Result (List Operand) ℕ) → task_checked limits call named spawned listed ≡ Ok t → t.number ≡ suc spawned
   task_number (Ok listed) h =
-      let full = passed (nat_lt limits.epoch_objects (length (name_objects named (objects_of listed)))) epoch_full _ t h in
-      let many = passed (nat_le limits.max_tasks spawned) too_many_tasks _ t full.1 in
+      let full = passed (nat_lt limits.epoch_objects (length (name_objects named (objects_of listed)))) EPOCH_FULL _ t h in
+      let many = passed (nat_le limits.max_tasks spawned) TOO_MANY_TASKS _ t full.1 in
       sym (ap (λ (x : Task). x.number) (same_ok (task_of call (suc spawned) listed (merged_operands listed)) t many.1))
   task_number (Err n) h = absurd (cc)
 
@@ -179,16 +179,16 @@ module _ (limits : Limits) (call : SpawnCall) (m : Memory) (named : List Range) 
   pub number-spawn_of : spawn_of call m named limits spawned ≡ Ok t → t.number ≡ suc spawned
   unfolding spawn_of
   number-spawn_of h =
-      let few = passed (nat_lt limits.max_operands call.count) too_many_operands _ t h in
-      let placed = passed (nat_lt 0 call.count && is_misplaced m call) list_place _ t few.1 in
-      let untouched = passed (nat_lt 0 call.count && touches named (list_range call)) main_touch _ t placed.1 in
+      let few = passed (nat_lt limits.max_operands call.count) TOO_MANY_OPERANDS _ t h in
+      let placed = passed (nat_lt 0 call.count && is_misplaced m call) LIST_PLACE _ t few.1 in
+      let untouched = passed (nat_lt 0 call.count && touches named (list_range call)) MAIN_TOUCH _ t placed.1 in
       task_number (entries_checked limits m named (entries_at m call.list call.count)) untouched.1
 
   -- the operands of a spawned task are placed
   pub are_placed-spawn_of : spawn_of call m named limits spawned ≡ Ok t → are_placed m.ranges (operands_of t) ≡ true
   unfolding spawn_of
   are_placed-spawn_of h =
-      let few = passed (nat_lt limits.max_operands call.count) too_many_operands _ t h in
-      let placed = passed (nat_lt 0 call.count && is_misplaced m call) list_place _ t few.1 in
-      let untouched = passed (nat_lt 0 call.count && touches named (list_range call)) main_touch _ t placed.1 in
+      let few = passed (nat_lt limits.max_operands call.count) TOO_MANY_OPERANDS _ t h in
+      let placed = passed (nat_lt 0 call.count && is_misplaced m call) LIST_PLACE _ t few.1 in
+      let untouched = passed (nat_lt 0 call.count && touches named (list_range call)) MAIN_TOUCH _ t placed.1 in
       task_placed (entries_checked limits m named (entries_at m call.list call.count)) refl untouched.1

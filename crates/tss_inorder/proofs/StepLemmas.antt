@@ -6,11 +6,12 @@ use Rattle.tss_isa.specs.declared.instr.Instr.TheVariants.{Lui, Auipc, Jal, Jalr
 use Rattle.tss_isa.specs.declared.instr.LoadKind.{LoadKind}
 use Rattle.tss_isa.specs.declared.instr.StoreKind.{StoreKind}
 use Rattle.tss_isa.specs.InstrTable.{instr_of}
-use Rattle.tss_model.specs.Causes.{jump_misaligned, load_misaligned, store_misaligned}
-use Rattle.tss_model.specs.Registers.{Registers, register_at, with_register, next_pc, completed, end_pc, trap_of}
+use Rattle.tss_base.specs.declared.causes.TheConstants.{JUMP_MISALIGNED, LOAD_MISALIGNED, STORE_MISALIGNED}
+use Rattle.tss_model.specs.Registers.{Registers, register_at, with_register, next_pc, completed, trap_of}
 use Rattle.tss_model.specs.Access.{Actor, Loads, Stores, Access, Granted, Denied, Touch, access_of}
 use Rattle.tss_model.specs.Core.{Write, Stepped, Executed, Called, Ended, Trapped, Touched, result_in, jump_to, branch_if, load_on, load_from, load_range, load_width, loaded_value, store_on, store_to, store_range, store_width, stored_value, execute, execute_word, execute_fetched, core_step, passes}
 use Rattle.tss_model.specs.TaskRun.{repeated}
+use Rattle.tss_base.specs.declared.addresses.TheConstants.{END_PC}
 
 -- a step that leaves things as they are leaves them so however often it is done
 pub repeated-still : {A : Type 0} (f : A → A) (n : ℕ) (a : A) → f a ≡ a → repeated f n a ≡ a
@@ -45,7 +46,7 @@ result_in-completes r rd v = ap (λ n. n + 1) (with_register-done r rd v)
 
 jump_to-completes : (r : Registers) (rd target : ℕ) → Completes r (jump_to r rd target)
 jump_to-completes r rd target =
-    elim (target % 4 == 0) as (λ b. Completes r (cond b (Executed (completed (with_register r rd (next_pc r)) target) None) (Trapped (trap_of r jump_misaligned target)))) [
+    elim (target % 4 == 0) as (λ b. Completes r (cond b (Executed (completed (with_register r rd (next_pc r)) target) None) (Trapped (trap_of r JUMP_MISALIGNED target)))) [
       | true ↦ ap (λ n. n + 1) (with_register-done r rd (next_pc r))
       | false ↦ tt
     ]
@@ -67,14 +68,14 @@ store_on-completes Touch r w = tt
 module _ (actor : Actor) (byte : ℕ → ℕ) (r : Registers) where
   load_from-completes : (kind : LoadKind) (rd at : ℕ) → Completes r (load_from actor byte r kind rd at)
   load_from-completes kind rd at =
-      elim (at % load_width kind == 0) as (λ b. Completes r (cond b (load_on (access_of actor Loads (load_range kind at)) r rd at (loaded_value byte kind at)) (Trapped (trap_of r load_misaligned at)))) [
+      elim (at % load_width kind == 0) as (λ b. Completes r (cond b (load_on (access_of actor Loads (load_range kind at)) r rd at (loaded_value byte kind at)) (Trapped (trap_of r LOAD_MISALIGNED at)))) [
         | true ↦ load_on-completes (access_of actor Loads (load_range kind at)) r rd at (loaded_value byte kind at)
         | false ↦ tt
       ]
 
   store_to-completes : (kind : StoreKind) (at v : ℕ) → Completes r (store_to actor r kind at v)
   store_to-completes kind at v =
-      elim (at % store_width kind == 0) as (λ b. Completes r (cond b (store_on (access_of actor Stores (store_range kind at)) r (stored_value kind at v)) (Trapped (trap_of r store_misaligned at)))) [
+      elim (at % store_width kind == 0) as (λ b. Completes r (cond b (store_on (access_of actor Stores (store_range kind at)) r (stored_value kind at v)) (Trapped (trap_of r STORE_MISALIGNED at)))) [
         | true ↦ store_on-completes (access_of actor Stores (store_range kind at)) r (stored_value kind at v)
         | false ↦ tt
       ]
@@ -105,7 +106,7 @@ module _ (actor : Actor) (byte : ℕ → ℕ) (r : Registers) where
   pub core_step-completes : (word : ℕ → Option ℕ) → Completes r (core_step actor byte word r)
   unfolding core_step
   core_step-completes word =
-      elim (r.pc == end_pc) as (λ b. Completes r (cond b Ended (execute_fetched actor byte r (word r.pc)))) [
+      elim (r.pc == END_PC) as (λ b. Completes r (cond b Ended (execute_fetched actor byte r (word r.pc)))) [
         | true ↦ tt
         | false ↦ fetched-completes (word r.pc)
       ]

@@ -8,7 +8,7 @@ use Rattle.tss_base.specs.declared.machine.Limits.{Limits}
 use Rattle.tss_base.specs.Image.{SegmentState}
 use Rattle.tss_model.specs.Memory.{MemoryRange, Memory, scratch_range, covers, zeros, byte_at, list_put, code_word}
 use Rattle.tss_model.specs.Registers.{Registers, register_at, task_registers, trap_of}
-use Rattle.tss_model.specs.Causes.{call_in_task, budget_spent}
+use Rattle.tss_base.specs.declared.causes.TheConstants.{CALL_IN_TASK, BUDGET_SPENT}
 use Rattle.tss_model.specs.Access.{TaskActor, operands_of}
 use Rattle.tss_model.specs.Core.{Write, Stepped, Executed, Called, Ended, Trapped, Touched, core_step}
 use Rattle.tss_model.specs.TaskRun.{TaskState, TaskEnd, repeated, is_over, task_step, task_byte, task_on, task_trapped, memory_write, zeroed_outputs, end_of_task, task_end}
@@ -26,7 +26,7 @@ module _ (budget : ℕ) (code : List SegmentState) (ranges : List MemoryRange) (
   step-over s over = cond-true _ _ _ over
 
   step-spent : (s : TaskState Memory) → is_over s ≡ false → nat_le budget s.registers.done ≡ true
-      → flat_task_step budget code ranges operands s ≡ task_trapped s (trap_of s.registers budget_spent 0)
+      → flat_task_step budget code ranges operands s ≡ task_trapped s (trap_of s.registers BUDGET_SPENT 0)
   unfolding task_step
   step-spent s on spent = cond-false _ _ _ on ∙ cond-true _ _ _ spent
 
@@ -52,9 +52,9 @@ module _ (budget : ℕ) (code : List SegmentState) (ranges : List MemoryRange) (
 
     -- one that has spent its budget
     pub turns-spent : (r.pc == 4294967280) ≡ false → nat_le budget r.done ≡ true
-        → EndsWith (flat_task_step budget code ranges operands) (task_now r scratch m) m (Some (trap_of r budget_spent 0))
+        → EndsWith (flat_task_step budget code ranges operands) (task_now r scratch m) m (Some (trap_of r BUDGET_SPENT 0))
     turns-spent on spent =
-        ends-at (task_now r scratch m) (task_trapped (task_now r scratch m) (trap_of r budget_spent 0))
+        ends-at (task_now r scratch m) (task_trapped (task_now r scratch m) (trap_of r BUDGET_SPENT 0))
         (step-spent (task_now r scratch m) on spent) refl
 
     -- an executed instruction with its write
@@ -90,9 +90,9 @@ module _ (budget : ℕ) (code : List SegmentState) (ranges : List MemoryRange) (
           subst (λ (u : Turn). Turns budget (flat_task_step budget code ranges operands) (task_now r scratch m) (task_now q after n) u)
           (sym (ap (turn_after q) out))
           (λ k.
-          ends-at (task_now r scratch m) (task_trapped (task_now r scratch m) (trap_of r call_in_task (register_at r 17)))
+          ends-at (task_now r scratch m) (task_trapped (task_now r scratch m) (trap_of r CALL_IN_TASK (register_at r 17)))
           (step-core (task_now r scratch m) on left Called core) refl k
-          ∙ (λ i. record { memory = sym memory i; trap = Some (trap_of (sym regs i) call_in_task (register_at (sym regs i) 17)) }))
+          ∙ (λ i. record { memory = sym memory i; trap = Some (trap_of (sym regs i) CALL_IN_TASK (register_at (sym regs i) 17)) }))
       turns-stepped Ended core out regs bytes memory =
           subst (λ (u : Turn). Turns budget (flat_task_step budget code ranges operands) (task_now r scratch m) (task_now q after n) u)
           (sym (ap (turn_after q) out))

@@ -5,7 +5,7 @@ use Rattle.tss_base.specs.declared.ending.Trap.{Trap}
 use Rattle.tss_base.specs.Image.{SegmentState}
 use Rattle.tss_model.specs.Memory.{MemoryRange, Memory, byte_at}
 use Rattle.tss_model.specs.Registers.{Registers, register_at, trap_of}
-use Rattle.tss_model.specs.Causes.{call_in_task}
+use Rattle.tss_base.specs.declared.causes.TheConstants.{CALL_IN_TASK}
 use Rattle.tss_model.specs.Access.{TaskActor}
 use Rattle.tss_model.specs.TaskRun.{TaskState, repeated, task_step, memory_write, end_of_task}
 use Rattle.tss_core.specs.declared.stepping.Outcome.{Outcome}
@@ -41,7 +41,7 @@ step_of_view budget v = flat_task_step budget v.code.now v.space.now.ranges v.op
 -- what a core's step comes to, by the registers that it leaves
 abbrev pub turn_after : Registers → Outcome → Turn
 turn_after r Next = Further
-turn_after r Call = Over (Some (trap_of r call_in_task (register_at r 17)))
+turn_after r Call = Over (Some (trap_of r CALL_IN_TASK (register_at r 17)))
 turn_after r Ended = Over None
 turn_after r (Trapped t) = Over (Some t)
 turn_after r Touched = Over None

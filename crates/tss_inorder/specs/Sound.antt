@@ -1,6 +1,7 @@
 -- What a machine keeps of its memory, and of the task that it runs.
 use Rattle.std.specs.Prelude.{◌≡◌, ℕ, ◌≤◌, Bool, true, not, IsTrue, List, Some}
 use Rattle.std.specs.List.{list_all}
+use Rattle.tss_base.specs.declared.bounds.TheConstants.{MAX_OPERANDS}
 use Rattle.tss_base.specs.declared.operand.Operand.{Operand}
 use Rattle.tss_base.specs.declared.range.Range.{Range}
 use Rattle.tss_base.specs.declared.machine.Limits.{Limits}
@@ -37,7 +38,7 @@ pub record IsFoundFor (purpose : Purpose) (ranges : List MemoryRange) (f : Found
 -- what a flat machine keeps: of its limits, the ranges of its memory, how many objects its epoch may name, and how many
 -- bytes its output has room for
 pub record IsSound (limits : Limits) (ranges : List MemoryRange) (objects room : ℕ) : Type 0 where
-  pub few : limits.max_operands ≤ 7
+  pub few : limits.max_operands ≤ MAX_OPERANDS
   pub are : AreRanges ranges
   pub beside : beside_scratch ranges ≡ true
   pub named : objects ≡ limits.epoch_objects

@@ -1,5 +1,6 @@
 // Main's calls.
 ghost use Rattle.std.specs.Prelude.{◌≡◌, ◌-◌, ◌^◌, ◌<◌, ◌≤◌, Ok};
+ghost use Rattle.tss_base.specs.declared.bounds.TheConstants.{MAX_OPERANDS};
 ghost use Rattle.tss_model.specs.Registers.{register_at};
 ghost use Rattle.tss_model.specs.Access.{operands_of};
 ghost use Rattle.tss_model.specs.Spawn.{objects_of, spawn_of};
@@ -9,27 +10,11 @@ ghost use Rattle.tss_inorder.specs.Flat.{Calls};
 
 use crate::flat::FlatMachine;
 use crate::running::{run_task, trap_of};
+use tss_base::calls::{BARRIER, EXIT, PRINT, SPAWN};
+use tss_base::causes::{LOAD_DENIED, UNKNOWN_CALL};
+use tss_base::refusals::{MAIN_TOUCH, OUTPUT_FULL};
 use tss_base::{Ending, Range, Task};
 use tss_operands::{SpawnWords, read_spawn};
-
-/// The numbers of the calls, in x17.
-const EXIT: u32 = 1;
-
-const SPAWN: u32 = 2;
-
-const BARRIER: u32 = 3;
-
-const PRINT: u32 = 4;
-
-/// Causes of traps: main may not load there, and no call has this number.
-const LOAD_DENIED: u32 = 5;
-
-const UNKNOWN_CALL: u32 = 10;
-
-/// Refusals of a step: main touches an object that it has named, and a print passes the bytes that may be printed.
-const MAIN_TOUCH: u32 = 3;
-
-const OUTPUT_FULL: u32 = 12;
 
 impl FlatMachine {
     /// A call, by the number in x17, with all of the task that it spawns. The ending, where it ends the run.
@@ -118,8 +103,8 @@ impl FlatMachine {
         requires done { self.old.regs.done < 2 ^ 64 - 1 }
         requires spawned { spawn_of (spawn_call self.old.regs) self.old.space self.old.epoch.objects self.old.limits self.old.spawned ≡ Ok task.now }
         requires nameable { CanNameAll self.old.limits.epoch_objects self.old.epoch.objects (objects_of (operands_of task.now)) }
-        requires count { task.now.count ≤ 7 }
-        requires listed { task.now.listed ≤ 7 }
+        requires count { task.now.count ≤ MAX_OPERANDS }
+        requires listed { task.now.listed ≤ MAX_OPERANDS }
         ensures { Calls Spawn self.old self.new result }
     {
         self.regs.called();

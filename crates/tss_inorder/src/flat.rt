@@ -1,5 +1,6 @@
 // The flat machine: main on one memory, where each spawned task runs at once.
 ghost use Rattle.std.specs.Prelude.{◌≡◌, ◌-◌, ◌^◌, ◌<◌, ◌≤◌, [], None, IfOk};
+ghost use Rattle.tss_base.specs.declared.bounds.TheConstants.{MAX_OPERANDS};
 ghost use Rattle.tss_model.specs.Memory.{frozen};
 ghost use Rattle.tss_model.specs.Registers.{register_at};
 ghost use Rattle.tss_model.specs.MainStep.{flat_written, call_of};
@@ -13,18 +14,12 @@ use crate::running::trap_of;
 use crate::scratch::Scratch;
 use crate::views::MainView;
 use std::alloc::Global;
+use tss_base::causes::FETCH_OUTSIDE;
+use tss_base::refusals::{MAIN_BUDGET_SPENT, MAIN_TOUCH};
 use tss_base::{Ending, Image, Limits, NoMemory};
 use tss_core::{Outcome, Regs, step};
 use tss_memory::{Code, Space};
 use tss_operands::Epoch;
-
-/// Cause of a trap: there is no word at the pc.
-const FETCH_OUTSIDE: u32 = 1;
-
-/// Refusals of a step: main touches an object that it has named, and its budget is spent.
-const MAIN_TOUCH: u32 = 3;
-
-const MAIN_BUDGET_SPENT: u32 = 11;
 
 /// Main with its memory, and what a run of its tasks takes. Memory of the process is taken as it is opened, and not
 /// after.
@@ -51,7 +46,7 @@ impl FlatMachine {
         image: &Image,
         limits: &Limits,
     ) -> Result<FlatMachine, NoMemory>
-        requires { limits.now.max_operands ≤ 7 }
+        requires { limits.now.max_operands ≤ MAX_OPERANDS }
         ensures start { IfOk result (λ m. flat_of m [] None ≡ flat_start image.now) }
         ensures code { IfOk result (λ m. m.code ≡ frozen image.now) }
         ensures limits { IfOk result (λ m. m.limits ≡ limits.now) }

@@ -1,5 +1,6 @@
 // The execution in program order.
 ghost use Rattle.std.specs.Prelude.{◌≡◌, ◌≤◌, IfOk};
+ghost use Rattle.tss_base.specs.declared.bounds.TheConstants.{MAX_OPERANDS};
 ghost use Rattle.tss_model.specs.Memory.{loaded};
 ghost use Rattle.tss_model.specs.InOrder.{in_order};
 
@@ -63,7 +64,7 @@ impl Reference {
 /// its trap. Memory of the process is taken at the beginning alone: for the image's memory and code, the objects that
 /// an epoch may name, the bytes that may be printed, and the scratch of one task.
 pub fn run_in_order(alloc: Global, image: &Image, limits: &Limits) -> Result<Reference, NoMemory>
-    requires { limits.now.max_operands ≤ 7 }
+    requires { limits.now.max_operands ≤ MAX_OPERANDS }
     ensures exact { IfOk result (λ r. r ≡ in_order image.now limits.now) }
     // Its memory has the ranges of the image's.
     ensures ranges { IfOk result (λ r. r.memory.ranges ≡ (loaded image.now).ranges) }

@@ -1,5 +1,6 @@
 // A task, from its first instruction to its end.
 ghost use Rattle.std.specs.Prelude.{◌≡◌, ◌-◌, ◌≤◌, IsTrue, suc};
+ghost use Rattle.tss_base.specs.declared.bounds.TheConstants.{MAX_OPERANDS};
 ghost use Rattle.tss_model.specs.Memory.{byte_at};
 ghost use Rattle.tss_model.specs.Registers.{trap_of};
 ghost use Rattle.tss_model.specs.Access.{reads, operands_of};
@@ -9,17 +10,11 @@ ghost use Rattle.tss_inorder.specs.Running.{IsSameTask, TaskTurns, TaskRuns, tur
 
 use crate::scratch::Scratch;
 use crate::views::TaskView;
+use tss_base::addresses::END_PC;
+use tss_base::causes::{BUDGET_SPENT, CALL_IN_TASK};
 use tss_base::{Limits, Mode, Operand, Task, Trap};
 use tss_core::{Outcome, Regs, step};
 use tss_memory::{Code, Space};
-
-/// The address at which a task has ended.
-const END_PC: u32 = 0xFFFF_FFF0;
-
-/// Causes of traps: ECALL in a task, and a task's budget that is spent.
-const CALL_IN_TASK: u32 = 8;
-
-const BUDGET_SPENT: u32 = 9;
 
 /// What a step of a task comes to: the task goes on, or is over, with its trap where it has trapped.
 #[derive(Clone, Copy, Debug, PartialEq, Eq)]
@@ -37,8 +32,8 @@ pub(crate) fn run_task(
     limits: &Limits,
 ) -> Option<Trap>
     requires ground { IsGround space.old.ranges (operands_of task.now) }
-    requires listed { task.now.listed ≤ 7 }
-    requires count { task.now.count ≤ 7 }
+    requires listed { task.now.listed ≤ MAX_OPERANDS }
+    requires count { task.now.count ≤ MAX_OPERANDS }
     ensures memory { space.new ≡ (task_end code.now limits.now space.old task.now).memory }
     ensures trap { result ≡ (task_end code.now limits.now space.old task.now).trap }
     ensures ranges { space.new.ranges ≡ space.old.ranges }

@@ -7,13 +7,8 @@ ghost use Rattle.tss_core.specs.Views.{is_width};
 
 use std::alloc::{AllocError, Global};
 use std::marker::Model;
+use tss_base::addresses::SCRATCH;
 use tss_base::{NoMemory, Range};
-
-/// The addresses of a task's scratch.
-pub(crate) const SCRATCH: Range = Range {
-    base: 0xFFFD_0000,
-    len: 0x1_0000,
-};
 
 /// The bytes of the scratch of the task that runs. The next task finds zeros in it.
 #[derive(Drop)]

@@ -2,7 +2,8 @@
 ghost use Rattle.tss_inorder.specs.Sound.{IsGround};
 
 use crate::placing::{main_place, task_place};
-use crate::scratch::{SCRATCH, Scratch};
+use crate::scratch::Scratch;
+use tss_base::addresses::SCRATCH;
 use tss_base::{Operand, Range};
 use tss_core::{Deny, Purpose, View};
 use tss_memory::{Code, Space};

@@ -9,7 +9,8 @@ use Rattle.tss_model.specs.Registers.{trap_of}
 use Rattle.tss_model.specs.Access.{touches}
 use Rattle.tss_model.specs.Core.{Stepped, Executed, Called, Ended, Trapped, Touched}
 use Rattle.tss_model.specs.TaskRun.{repeated}
-use Rattle.tss_model.specs.Causes.{main_budget_spent, main_touch, load_denied, output_full}
+use Rattle.tss_base.specs.declared.causes.TheConstants.{LOAD_DENIED}
+use Rattle.tss_base.specs.declared.refusals.TheConstants.{MAIN_BUDGET_SPENT, MAIN_TOUCH, OUTPUT_FULL}
 use Rattle.tss_model.specs.MainStep.{MainState, Flat, main_refused, main_trapped, call_done, output_of, print_done, print_some, has_spent, main_on, main_core, main_step, main_stretch, print_call}
 
 -- main that has spawned as many tasks and named the same objects
@@ -33,7 +34,7 @@ calls_step : (code : List SegmentState) (limits : Limits) (x : MainState) (f : F
     SameCalls x (main_step code limits f).main
 unfolding main_step
 calls_step code limits x f k =
-    let spent : Flat = record f { main = main_refused f.main main_budget_spent } in
+    let spent : Flat = record f { main = main_refused f.main MAIN_BUDGET_SPENT } in
     let on = main_on f (main_core code f) in
     calls_if x (is_some f.main.ending) f (cond (has_spent limits f.main) spent on) k
     (calls_if x (has_spent limits f.main) spent on (record { spawned = k.spawned; epoch = k.epoch })
@@ -58,13 +59,13 @@ pub calls_print : (limits : Limits) (memory : Memory) (x : MainState) (r : Range
 calls_print limits memory x r =
     let same : (y : MainState) → y.spawned ≡ x.spawned → y.epoch ≡ x.epoch → SameCalls x y =
     λ y p q. record { spawned = p; epoch = q } in
-    let full = main_refused x output_full in
+    let full = main_refused x OUTPUT_FULL in
     let done = print_done x (bytes_of memory r) in
     let fits = cond (nat_lt limits.output_bytes (length (output_of x.pieces) + r.len)) full done in
-    let touching = cond (touches x.epoch r) (main_refused x main_touch) fits in
-    let placed = main_trapped x (trap_of x.registers load_denied r.base) in
+    let touching = cond (touches x.epoch r) (main_refused x MAIN_TOUCH) fits in
+    let placed = main_trapped x (trap_of x.registers LOAD_DENIED r.base) in
     calls_cond x (r.len == 0) (call_done x) (print_some limits memory x r) (same (call_done x) refl refl)
     (calls_cond x (is_none (range_of memory.ranges r)) placed touching (same placed refl refl)
-    (calls_cond x (touches x.epoch r) (main_refused x main_touch) fits (same (main_refused x main_touch) refl refl)
+    (calls_cond x (touches x.epoch r) (main_refused x MAIN_TOUCH) fits (same (main_refused x MAIN_TOUCH) refl refl)
     (calls_cond x (nat_lt limits.output_bytes (length (output_of x.pieces) + r.len)) full done (same full refl refl)
     (same done refl refl))))

@@ -11,7 +11,7 @@ use Rattle.tss_model.specs.Memory.{Memory, MemoryRange, range_of, byte_at, code_
 use Rattle.tss_model.specs.Access.{access_of, MainActor, Stores, Granted, Denied, Touch, main_may, touches}
 use Rattle.tss_model.specs.Core.{Write, Stepped, Executed, Called, Ended, Trapped, Touched}
 use Rattle.tss_model.specs.TaskRun.{repeated}
-use Rattle.tss_model.specs.Causes.{main_budget_spent}
+use Rattle.tss_base.specs.declared.refusals.TheConstants.{MAIN_BUDGET_SPENT}
 use Rattle.tss_model.specs.MainStep.{Flat, main_refused, has_spent, main_on, main_core, main_step, main_stretch}
 use Rattle.tss_locality.specs.Scopes.{Scope, IsInside, beyond}
 use Rattle.tss_locality.proofs.States.{HomeOn}
@@ -86,7 +86,7 @@ module _ (c : Scope) (before : Memory) (named : List Range) (free : (a : â„•) â†
   main_step_only code limits f o =
       let within = core_step_within (MainActor f.memory.ranges f.main.epoch) (byte_at f.memory) (code_word code)
       f.main.registers in
-      let spent : Flat = record f { main = main_refused f.main main_budget_spent } in
+      let spent : Flat = record f { main = main_refused f.main MAIN_BUDGET_SPENT } in
       let on = main_on f (main_core code f) in
       flat_if (is_some f.main.ending) f (cond (has_spent limits f.main) spent on) o
       (flat_if (has_spent limits f.main) spent on (record { epoch = o.epoch; home = o.home })

@@ -11,7 +11,7 @@ use Rattle.tss_base.specs.declared.operand.Operand.{Operand}
 use Rattle.tss_base.specs.declared.machine.Limits.{Limits}
 use Rattle.tss_base.specs.Range.{end_of, meets}
 use Rattle.tss_model.specs.Memory.{Memory, range_of}
-use Rattle.tss_model.specs.Causes.{bad_mode, bad_length, bad_base, object_outside, overlap}
+use Rattle.tss_base.specs.declared.refusals.TheConstants.{BAD_MODE, BAD_LENGTH, BAD_BASE, OBJECT_OUTSIDE, OVERLAP}
 use Rattle.tss_model.specs.Spawn.{Entry, same_range, name_object, name_objects, objects_of, is_bad_length, is_outside, overlaps, mode_of, mode_checked, entry_checked, after_first, with_rest, entries_checked}
 use Rattle.tss_locality.specs.Rounds.{IsIn, AreSeparate}
 
@@ -116,12 +116,12 @@ same_ok x y e = cc
 
 passed_by : (limits : Limits) (named : List Range) (x : Range) (mode : Mode) (o : Operand) (a b c d : Bool) →
     is_bad_length limits x ≡ a → overlaps named x ≡ d →
-    cond a (Err bad_length) (cond b (Err bad_base) (cond c (Err object_outside) (cond d (Err overlap)
+    cond a (Err BAD_LENGTH) (cond b (Err BAD_BASE) (cond c (Err OBJECT_OUTSIDE) (cond d (Err OVERLAP)
     (Ok (record { object = x; mode = mode }))))) ≡ Ok o → PassesChecks named x o
-passed_by limits named x mode o true b c d ea ed e = absurd (error_ok bad_length o e)
-passed_by limits named x mode o false true c d ea ed e = absurd (error_ok bad_base o e)
-passed_by limits named x mode o false false true d ea ed e = absurd (error_ok object_outside o e)
-passed_by limits named x mode o false false false true ea ed e = absurd (error_ok overlap o e)
+passed_by limits named x mode o true b c d ea ed e = absurd (error_ok BAD_LENGTH o e)
+passed_by limits named x mode o false true c d ea ed e = absurd (error_ok BAD_BASE o e)
+passed_by limits named x mode o false false true d ea ed e = absurd (error_ok OBJECT_OUTSIDE o e)
+passed_by limits named x mode o false false false true ea ed e = absurd (error_ok OVERLAP o e)
 passed_by limits named x mode o false false false false ea ed e = record {
   object = ap (λ (o : Operand). o.object) (sym (same_ok (record { object = x; mode = mode }) o e));
   long = (or_parts (x.len == 0) (nat_lt limits.object_bytes x.len) ea).0;
@@ -130,7 +130,7 @@ passed_by limits named x mode o false false false false ea ed e = record {
 
 passed : (limits : Limits) (m : Memory) (named : List Range) (x : Range) (mode : Option Mode) (o : Operand) →
     mode_checked limits m named x mode ≡ Ok o → PassesChecks named x o
-passed limits m named x None o e = absurd (error_ok bad_mode o e)
+passed limits m named x None o e = absurd (error_ok BAD_MODE o e)
 passed limits m named x (Some mode) o e =
     passed_by limits named x mode o (is_bad_length limits x) (not (x.base % 4 == 0))
     (is_outside mode (range_of m.ranges x)) (overlaps named x) refl refl e

@@ -10,7 +10,7 @@ use Rattle.tss_base.specs.declared.operand.Task.{Task}
 use Rattle.tss_base.specs.declared.machine.Limits.{Limits}
 use Rattle.tss_model.specs.Memory.{Memory}
 use Rattle.tss_model.specs.Access.{operands_of, touches}
-use Rattle.tss_model.specs.Causes.{too_many_operands, list_place, main_touch, epoch_full, too_many_tasks}
+use Rattle.tss_base.specs.declared.refusals.TheConstants.{TOO_MANY_OPERANDS, LIST_PLACE, MAIN_TOUCH, EPOCH_FULL, TOO_MANY_TASKS}
 use Rattle.tss_model.specs.Spawn.{SpawnCall, list_range, entries_at, entries_checked, merged_on, merged_operands, name_objects, objects_of, task_of, task_checked, is_misplaced, spawn_of}
 use Rattle.tss_locality.specs.Rounds.{IsIn, AreSeparate}
 use Rattle.tss_locality.proofs.SeparateObjects.{in_front, in_back, separate_listed, from_named, separate_fewer}
@@ -40,13 +40,13 @@ module _ (call : SpawnCall) (m : Memory) (named : List Range) (limits : Limits) 
   checked_task (Err n) there e = absurd (refused_ok n t e)
   checked_task (Ok listed) there e =
       let made = task_of call (suc spawned) listed (merged_operands listed) in
-      let last = cond (nat_le limits.max_tasks spawned) (Err too_many_tasks) (Ok made) in
-      let inner = ok_if epoch_full t (nat_lt limits.epoch_objects (length (name_objects named (objects_of listed))))
+      let last = cond (nat_le limits.max_tasks spawned) (Err TOO_MANY_TASKS) (Ok made) in
+      let inner = ok_if EPOCH_FULL t (nat_lt limits.epoch_objects (length (name_objects named (objects_of listed))))
       last e in
       record {
         listed = listed;
         checked = there;
-        task = sym (same_task made t (ok_if too_many_tasks t (nat_le limits.max_tasks spawned) (Ok made) inner));
+        task = sym (same_task made t (ok_if TOO_MANY_TASKS t (nat_le limits.max_tasks spawned) (Ok made) inner));
       }
 
   is_spawned : spawn_of call m named limits spawned ≡ Ok t → IsSpawned call m named limits spawned t
@@ -54,11 +54,11 @@ module _ (call : SpawnCall) (m : Memory) (named : List Range) (limits : Limits) 
   is_spawned e =
       let r = entries_checked limits m named (entries_at m call.list call.count) in
       let last = task_checked limits call named spawned r in
-      let touching = cond (nat_lt 0 call.count && touches named (list_range call)) (Err main_touch) last in
-      let misplaced = cond (nat_lt 0 call.count && is_misplaced m call) (Err list_place) touching in
-      let a = ok_if too_many_operands t (nat_lt limits.max_operands call.count) misplaced e in
-      let b = ok_if list_place t (nat_lt 0 call.count && is_misplaced m call) touching a in
-      let c = ok_if main_touch t (nat_lt 0 call.count && touches named (list_range call)) last b in
+      let touching = cond (nat_lt 0 call.count && touches named (list_range call)) (Err MAIN_TOUCH) last in
+      let misplaced = cond (nat_lt 0 call.count && is_misplaced m call) (Err LIST_PLACE) touching in
+      let a = ok_if TOO_MANY_OPERANDS t (nat_lt limits.max_operands call.count) misplaced e in
+      let b = ok_if LIST_PLACE t (nat_lt 0 call.count && is_misplaced m call) touching a in
+      let c = ok_if MAIN_TOUCH t (nat_lt 0 call.count && touches named (list_range call)) last b in
       checked_task r refl c
 
 -- ---- its operands and objects

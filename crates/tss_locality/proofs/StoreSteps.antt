@@ -8,9 +8,10 @@ use Rattle.tss_isa.specs.declared.instr.Instr.{Instr}
 use Rattle.tss_isa.specs.declared.instr.Instr.TheVariants.{Lui, Auipc, Jal, Jalr, Branch, Load, Store, OpImm, Op, Fence, Ecall, Ebreak}
 use Rattle.tss_isa.specs.InstrTable.{instr_of}
 use Rattle.tss_model.specs.Access.{Actor, Loads, Stores, Access, Granted, Denied, Touch, access_of}
-use Rattle.tss_model.specs.Registers.{Registers, register_at, with_register, next_pc, completed, onward, end_pc, trap_of}
-use Rattle.tss_model.specs.Causes.{jump_misaligned, load_misaligned, store_misaligned}
+use Rattle.tss_model.specs.Registers.{Registers, register_at, with_register, next_pc, completed, onward, trap_of}
+use Rattle.tss_base.specs.declared.causes.TheConstants.{JUMP_MISALIGNED, LOAD_MISALIGNED, STORE_MISALIGNED}
 use Rattle.tss_model.specs.Core.{Write, Stepped, Executed, Called, Ended, Trapped, Touched, load_width, store_width, jump_to, branch_if, load_on, loaded_value, load_range, load_from, store_on, stored_value, store_range, store_to, passes, moved, execute, execute_word, execute_fetched, core_step}
+use Rattle.tss_base.specs.declared.addresses.TheConstants.{END_PC}
 
 -- an actor may store these bytes
 abbrev pub MayWrite : Actor → Write → Type 0
@@ -34,7 +35,7 @@ module _ (actor : Actor) where
   jump_within : (r : Registers) (rd target : ℕ) → StoresWithin actor (jump_to r rd target)
   jump_within r rd target =
       within_if (target % 4 == 0) (Executed (completed (with_register r rd (next_pc r)) target) None)
-      (Trapped (trap_of r jump_misaligned target)) tt tt
+      (Trapped (trap_of r JUMP_MISALIGNED target)) tt tt
 
   branch_within : (taken : Bool) (r : Registers) (target : ℕ) → StoresWithin actor (branch_if taken r target)
   branch_within taken r target = within_if taken (jump_to r 0 target) (Executed (onward r) None)
@@ -50,7 +51,7 @@ module _ (actor : Actor) where
   load_within byte r kind rd at =
       let answer = access_of actor Loads (load_range kind at) in
       within_if (at % load_width kind == 0) (load_on answer r rd at (loaded_value byte kind at))
-      (Trapped (trap_of r load_misaligned at)) (load_on_within answer r rd at (loaded_value byte kind at)) tt
+      (Trapped (trap_of r LOAD_MISALIGNED at)) (load_on_within answer r rd at (loaded_value byte kind at)) tt
 
   -- the range of a store is that of its bytes
   may_write : (kind : StoreKind) (at v : ℕ) → access_of actor Stores (store_range kind at) ≡ Granted →
@@ -70,7 +71,7 @@ module _ (actor : Actor) where
   store_within r kind at v =
       let answer = access_of actor Stores (store_range kind at) in
       within_if (at % store_width kind == 0) (store_on answer r (stored_value kind at v))
-      (Trapped (trap_of r store_misaligned at)) (store_on_within r kind at v answer refl) tt
+      (Trapped (trap_of r STORE_MISALIGNED at)) (store_on_within r kind at v answer refl) tt
 
   execute_within : (byte : ℕ → ℕ) (r : Registers) (i : Instr) → StoresWithin actor (execute actor byte r i)
   execute_within byte r (Lui rd imm) = tt
@@ -103,5 +104,5 @@ module _ (actor : Actor) where
       StoresWithin actor (core_step actor byte word r)
   unfolding core_step
   core_step_within byte word r =
-      within_if (r.pc == end_pc) Ended (execute_fetched actor byte r (word r.pc)) tt
+      within_if (r.pc == END_PC) Ended (execute_fetched actor byte r (word r.pc)) tt
       (fetched_within byte r (word r.pc))

@@ -12,7 +12,7 @@ use Rattle.tss_base.specs.Image.{SegmentState}
 use Rattle.tss_model.specs.Memory.{MemoryRange, scratch_range, covers, list_put, code_word}
 use Rattle.tss_model.specs.Access.{Granted, Denied, TaskActor, writes, task_may_store}
 use Rattle.tss_model.specs.Registers.{trap_of}
-use Rattle.tss_model.specs.Causes.{budget_spent}
+use Rattle.tss_base.specs.declared.causes.TheConstants.{BUDGET_SPENT}
 use Rattle.tss_model.specs.Core.{Write, Stepped, Executed, Called, Ended, Trapped, Touched, core_step}
 use Rattle.tss_model.specs.TaskRun.{repeated, TaskState, is_over, task_byte, task_write, task_trapped, task_on, task_step}
 use Rattle.tss_protocol.specs.Mail.{StorageName, Home, Buffer}
@@ -152,7 +152,7 @@ module _ (c : Scope) where
       unfolding task_step
       step_only x f =
           let stepped = core_step (TaskActor ranges os) (task_byte byte x) (code_word code) x.registers in
-          let trapped = task_trapped x (trap_of x.registers budget_spent 0) in
+          let trapped = task_trapped x (trap_of x.registers BUDGET_SPENT 0) in
           let on = task_on (worker_write (placed_in os ts)) x stepped in
           task_if (is_over x) x (cond (nat_le budget x.registers.done) trapped on) f
           (task_if (nat_le budget x.registers.done) trapped on f

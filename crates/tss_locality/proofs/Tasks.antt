@@ -5,9 +5,9 @@ use Rattle.std.proofs.lemmas.Bool.Decides.{nat_tests}
 use Rattle.std.specs.FinMap.{get, insert}
 use Rattle.tss_base.specs.declared.operand.OpName.{OpName}
 use Rattle.tss_base.specs.declared.operand.Operand.{Operand}
-use Rattle.tss_base.specs.declared.event.Stage.TheVariants as stage
-use Rattle.tss_base.specs.declared.event.LinkState.{LinkState}
-use Rattle.tss_base.specs.declared.event.LinkState.TheVariants as link
+use Rattle.tss_base.specs.declared.marks.Stage.TheVariants as stage
+use Rattle.tss_base.specs.declared.marks.LinkState.{LinkState}
+use Rattle.tss_base.specs.declared.marks.LinkState.TheVariants as link
 use Rattle.tss_base.specs.Names.{Named, Numbered}
 use Rattle.tss_maps.proofs.Keys.{nat_order, name_order, decide_key}
 use Rattle.tss_maps.proofs.Changes.{at_inserted, beside_inserted}

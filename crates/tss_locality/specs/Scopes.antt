@@ -4,9 +4,9 @@ use Rattle.std.specs.FinMap.{get}
 use Rattle.tss_base.specs.declared.range.Range.{Range}
 use Rattle.tss_base.specs.declared.operand.OpName.{OpName}
 use Rattle.tss_base.specs.declared.operand.Operand.{Operand}
-use Rattle.tss_base.specs.declared.event.LinkState.{LinkState}
-use Rattle.tss_base.specs.declared.event.LinkState.TheVariants as link
-use Rattle.tss_base.specs.declared.event.Follow.{Follow}
+use Rattle.tss_base.specs.declared.marks.LinkState.{LinkState}
+use Rattle.tss_base.specs.declared.marks.LinkState.TheVariants as link
+use Rattle.tss_base.specs.declared.marks.Follow.{Follow}
 use Rattle.tss_base.specs.Range.{Covers}
 use Rattle.tss_base.specs.Names.{Named, Numbered}
 use Rattle.tss_protocol.specs.Names.{operand_name}

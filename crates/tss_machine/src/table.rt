@@ -12,6 +12,11 @@ ghost use Rattle.tss_machine.specs.Description.{first_fault};
 use crate::fault::MachineFault;
 use toml::{Table, Value};
 use tss_base::Key;
+use tss_base::bounds::{
+    MAX_BANKS, MAX_BUFFERS, MAX_ENTRIES, MAX_EPOCH_OBJECTS, MAX_MAIN_BUDGET, MAX_OBJECT_BYTES,
+    MAX_OPERANDS, MAX_OUTPUT_BYTES, MAX_QUANTUM, MAX_SLOTS, MAX_STATIONS, MAX_TASK_BUDGET,
+    MAX_TASKS, MAX_VERSIONS, MAX_WINDOW, MAX_WORKERS,
+};
 
 /// How many keys a description has.
 pub const KEY_COUNT: usize = 16;
@@ -41,22 +46,22 @@ fn range_of(key: Key) -> (u32, u32)
     ensures { result ≡ key_range key }
 {
     match key {
-        Key::MainBudget => (1, 1_000_000_000),
-        Key::TaskBudget => (1, 100_000_000),
-        Key::MaxTasks => (1, 65_536),
-        Key::MaxOperands => (1, 7),
-        Key::ObjectBytes => (1, 65_536),
-        Key::EpochObjects => (1, 65_536),
-        Key::OutputBytes => (0, 1_048_576),
-        Key::Stations => (1, 16),
-        Key::Slots => (1, 64),
-        Key::Workers => (1, 64),
-        Key::Banks => (1, 64),
-        Key::Entries => (1, 256),
-        Key::Versions => (1, 256),
-        Key::Buffers => (1, 64),
-        Key::Quantum => (1, 65_536),
-        Key::Window => (1, 8),
+        Key::MainBudget => (1, MAX_MAIN_BUDGET),
+        Key::TaskBudget => (1, MAX_TASK_BUDGET),
+        Key::MaxTasks => (1, MAX_TASKS),
+        Key::MaxOperands => (1, MAX_OPERANDS),
+        Key::ObjectBytes => (1, MAX_OBJECT_BYTES),
+        Key::EpochObjects => (1, MAX_EPOCH_OBJECTS),
+        Key::OutputBytes => (0, MAX_OUTPUT_BYTES),
+        Key::Stations => (1, MAX_STATIONS),
+        Key::Slots => (1, MAX_SLOTS),
+        Key::Workers => (1, MAX_WORKERS),
+        Key::Banks => (1, MAX_BANKS),
+        Key::Entries => (1, MAX_ENTRIES),
+        Key::Versions => (1, MAX_VERSIONS),
+        Key::Buffers => (1, MAX_BUFFERS),
+        Key::Quantum => (1, MAX_QUANTUM),
+        Key::Window => (1, MAX_WINDOW),
     }
 }
 

@@ -1,5 +1,7 @@
 -- The ranges of memory: what holds of all of them, where bytes may be read and written, and a range that was found.
-use Rattle.std.specs.Prelude.{◌≡◌, ℕ, ◌<◌, ◌≤◌, true, IsTrue, List, length, slice_get, All, AllPairs, Option, Some, IsSome, IsSomeAnd, find}
+use Rattle.std.specs.Prelude.{◌≡◌, ℕ, ◌+◌, ◌<◌, ◌≤◌, true, IsTrue, List, length, slice_get, All, AllPairs, Option, Some, IsSome, IsSomeAnd, find}
+use Rattle.tss_base.specs.declared.addresses.TheConstants.{STACK_END}
+use Rattle.tss_base.specs.declared.bounds.TheConstants.{MAX_SEGMENTS}
 use Rattle.tss_base.specs.declared.range.Range.{Range}
 use Rattle.tss_base.specs.Range.{end_of, contains}
 use Rattle.tss_memory.specs.declared.found.Found.{Found}
@@ -7,11 +9,11 @@ use Rattle.tss_model.specs.Memory.{MemoryRange, range_of}
 
 -- the address after the last of memory, which is that of main's stack
 abbrev pub memory_end : ℕ
-memory_end = 0xFFFF0000
+memory_end = STACK_END
 
--- the most ranges: those of 256 segments and main's stack
+-- the most ranges: those of an image's segments and main's stack
 abbrev pub max_ranges : ℕ
-max_ranges = 257
+max_ranges = MAX_SEGMENTS + 1
 
 -- it has an address, and ends in time
 abbrev pub IsPlaced : MemoryRange → Type 0

@@ -6,13 +6,8 @@ ghost use Rattle.tss_memory.specs.Blocks.{AreBlocks, block_end, block_of, blocks
 
 use std::alloc::{AllocError, Global};
 use std::marker::Model;
+use tss_base::addresses::STACK;
 use tss_base::{Image, Range, Segment};
-
-/// The base of main's stack.
-pub(crate) const STACK_BASE: u32 = 0xFFFE0000;
-
-/// How many bytes main's stack has.
-pub(crate) const STACK_BYTES: usize = 65536;
 
 /// The bytes of a range of memory, and whether they can be written.
 #[derive(Drop, Debug)]
@@ -57,8 +52,8 @@ impl Block {
         ensures { IfOk result (λ b. b ≡ stack_block) }
     {
         Ok(Block {
-            base: STACK_BASE,
-            bytes: zero_bytes(alloc, STACK_BYTES)?,
+            base: STACK.base,
+            bytes: zero_bytes(alloc, STACK.len as usize)?,
             writable: true,
         })
     }

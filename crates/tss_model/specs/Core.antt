@@ -20,8 +20,9 @@ use Rattle.tss_isa.specs.Fields.{signed}
 use Rattle.tss_isa.specs.InstrTable.{instr_of, twos}
 use Rattle.tss_model.specs.Memory.{number_at}
 use Rattle.tss_model.specs.Access.{Actor, Loads, Stores, Access, Granted, Denied, Touch, access_of}
-use Rattle.tss_model.specs.Registers.{Registers, register_at, with_register, next_pc, completed, onward, end_pc, trap_of}
-use Rattle.tss_model.specs.Causes.{jump_misaligned, fetch_outside, illegal, breakpoint, load_misaligned, load_denied, store_misaligned, store_denied}
+use Rattle.tss_model.specs.Registers.{Registers, register_at, with_register, next_pc, completed, onward, trap_of}
+use Rattle.tss_base.specs.declared.causes.TheConstants.{JUMP_MISALIGNED, FETCH_OUTSIDE, ILLEGAL, BREAKPOINT, LOAD_MISALIGNED, LOAD_DENIED, STORE_MISALIGNED, STORE_DENIED}
+use Rattle.tss_base.specs.declared.addresses.TheConstants.{END_PC}
 
 -- bytes to be written from an address on
 pub record Write : Type 0 where
@@ -157,7 +158,7 @@ result_in r rd v = Executed (onward (with_register r rd v)) None
 abbrev pub jump_to : Registers → ℕ → ℕ → Stepped
 jump_to r rd target =
     if target % 4 == 0 then Executed (completed (with_register r rd (next_pc r)) target) None
-    else Trapped (trap_of r jump_misaligned target)
+    else Trapped (trap_of r JUMP_MISALIGNED target)
 
 -- a branch: x0 takes no next pc
 abbrev pub branch_if : Bool → Registers → ℕ → Stepped
@@ -166,7 +167,7 @@ branch_if taken r target = if taken then jump_to r 0 target else Executed (onwar
 -- a load that is answered
 abbrev pub load_on : Access → Registers → ℕ → ℕ → ℕ → Stepped
 load_on Granted r rd at v = result_in r rd v
-load_on Denied r rd at v = Trapped (trap_of r load_denied at)
+load_on Denied r rd at v = Trapped (trap_of r LOAD_DENIED at)
 load_on Touch r rd at v = Touched
 
 -- what a load reads
@@ -182,12 +183,12 @@ abbrev pub load_from : Actor → (ℕ → ℕ) → Registers → LoadKind → �
 load_from actor byte r kind rd at =
     if at % load_width kind == 0
     then load_on (access_of actor Loads (load_range kind at)) r rd at (loaded_value byte kind at)
-    else Trapped (trap_of r load_misaligned at)
+    else Trapped (trap_of r LOAD_MISALIGNED at)
 
 -- a store that is answered
 abbrev pub store_on : Access → Registers → Write → Stepped
 store_on Granted r w = Executed (onward r) (Some w)
-store_on Denied r w = Trapped (trap_of r store_denied w.at)
+store_on Denied r w = Trapped (trap_of r STORE_DENIED w.at)
 store_on Touch r w = Touched
 
 -- what a store writes
@@ -203,7 +204,7 @@ abbrev pub store_to : Actor → Registers → StoreKind → ℕ → ℕ → Step
 store_to actor r kind at v =
     if at % store_width kind == 0
     then store_on (access_of actor Stores (store_range kind at)) r (stored_value kind at v)
-    else Trapped (trap_of r store_misaligned at)
+    else Trapped (trap_of r STORE_MISALIGNED at)
 
 -- JALR clears bit 0 of its target
 abbrev pub even : ℕ → ℕ
@@ -224,21 +225,21 @@ execute actor byte r (OpImm op rd rs1 imm) = result_in r rd (op_result (op_of op
 execute actor byte r (Op op rd rs1 rs2) = result_in r rd (op_result op (register_at r rs1) (register_at r rs2))
 execute actor byte r (Fence rd rs1 bits) = Executed (onward r) None
 execute actor byte r Ecall = Called
-execute actor byte r Ebreak = Trapped (trap_of r breakpoint r.pc)
+execute actor byte r Ebreak = Trapped (trap_of r BREAKPOINT r.pc)
 
 -- ---- a step
 
 -- a word that was fetched, with what it decodes to
 abbrev pub execute_word : Actor → (ℕ → ℕ) → Registers → ℕ → Option Instr → Stepped
 execute_word actor byte r w (Some i) = execute actor byte r i
-execute_word actor byte r w None = Trapped (trap_of r illegal w)
+execute_word actor byte r w None = Trapped (trap_of r ILLEGAL w)
 
 -- what was fetched at the pc
 abbrev pub execute_fetched : Actor → (ℕ → ℕ) → Registers → Option ℕ → Stepped
 execute_fetched actor byte r (Some w) = execute_word actor byte r w (instr_of w)
-execute_fetched actor byte r None = Trapped (trap_of r fetch_outside r.pc)
+execute_fetched actor byte r None = Trapped (trap_of r FETCH_OUTSIDE r.pc)
 
 -- one step: the first of these that applies. The pc is where a task has ended; there is no word at the pc; the word is
--- illegal; the instruction is executed or traps. Whether a budget is spent is tested before it by who takes the step
+-- ILLEGAL; the instruction is executed or traps. Whether a budget is spent is tested before it by who takes the step
 unfoldable pub core_step : Actor → (ℕ → ℕ) → (ℕ → Option ℕ) → Registers → Stepped
-core_step actor byte word r = if r.pc == end_pc then Ended else execute_fetched actor byte r (word r.pc)
+core_step actor byte word r = if r.pc == END_PC then Ended else execute_fetched actor byte r (word r.pc)

@@ -8,7 +8,7 @@ use Rattle.tss_base.specs.declared.machine.Limits.{Limits}
 use Rattle.tss_base.specs.Image.{SegmentState, ImageState}
 use Rattle.tss_model.specs.Memory.{Memory, loaded, frozen}
 use Rattle.tss_model.specs.TaskRun.{repeated, TaskEnd, task_end}
-use Rattle.tss_model.specs.Causes.{main_budget_spent}
+use Rattle.tss_base.specs.declared.refusals.TheConstants.{MAIN_BUDGET_SPENT}
 use Rattle.tss_model.specs.MainStep.{MainState, Flat, Call, main_start, main_ended, main_step, next_call, main_call, output_of}
 
 -- the image with main before its first instruction
@@ -95,7 +95,7 @@ pub record ReferenceState : Type 0 where
 -- that of a flat machine that has ended
 abbrev pub reference_of : Flat → ReferenceState
 reference_of f = record {
-  ending = unwrap_or f.main.ending (Refused main_budget_spent f.main.registers.pc);
+  ending = unwrap_or f.main.ending (Refused MAIN_BUDGET_SPENT f.main.registers.pc);
   tasks = f.main.spawned;
   output = output_of f.main.pieces;
   memory = f.memory;

@@ -1,5 +1,4 @@
 pub mod Memory
-pub mod Causes
 pub mod Registers
 pub mod Access
 pub mod Core

@@ -1,6 +1,7 @@
 -- Main: its state, a step of it that is no call, and its calls. Both machines take these, the one in program order and
 -- the unit machine: only what becomes of a spawned task differs.
 use Rattle.std.specs.Prelude.{ℕ, suc, ◌+◌, ◌==◌, Bool, ◌||◌, nat_lt, nat_le, if◌then◌else◌, List, [], ◌∷◌, ◌++◌, length, flat_map, Option, Some, None, is_none, is_some, Result, Ok, Err}
+use Rattle.tss_base.specs.declared.calls.TheConstants.{EXIT, SPAWN, BARRIER, PRINT}
 use Rattle.tss_base.specs.declared.range.Range.{Range}
 use Rattle.tss_base.specs.declared.operand.Task.{Task}
 use Rattle.tss_base.specs.declared.ending.Trap.{Trap}
@@ -10,7 +11,8 @@ use Rattle.tss_base.specs.declared.machine.Limits.{Limits}
 use Rattle.tss_base.specs.Image.{SegmentState}
 use Rattle.tss_model.specs.Memory.{Memory, range_of, byte_at, bytes_of, code_word}
 use Rattle.tss_model.specs.Registers.{Registers, register_at, main_registers, onward, trap_of}
-use Rattle.tss_model.specs.Causes.{fetch_outside, load_denied, unknown_call, main_touch, main_budget_spent, output_full}
+use Rattle.tss_base.specs.declared.causes.TheConstants.{FETCH_OUTSIDE, LOAD_DENIED, UNKNOWN_CALL}
+use Rattle.tss_base.specs.declared.refusals.TheConstants.{MAIN_TOUCH, MAIN_BUDGET_SPENT, OUTPUT_FULL}
 use Rattle.tss_model.specs.Access.{MainActor, touches}
 use Rattle.tss_model.specs.Core.{Write, Stepped, Executed, Called, Ended, Trapped, Touched, core_step}
 use Rattle.tss_model.specs.Spawn.{SpawnCall, spawn_of, name_objects, objects_of}
@@ -73,9 +75,9 @@ flat_written m (Some w) = memory_write m w
 abbrev pub main_on : Flat → Stepped → Flat
 main_on f (Executed r w) = record { main = record (f.main) { registers = r }; memory = flat_written f.memory w }
 main_on f Called = f
-main_on f Ended = record f { main = main_trapped f.main (trap_of f.main.registers fetch_outside f.main.registers.pc) }
+main_on f Ended = record f { main = main_trapped f.main (trap_of f.main.registers FETCH_OUTSIDE f.main.registers.pc) }
 main_on f (Trapped t) = record f { main = main_trapped f.main t }
-main_on f Touched = record f { main = main_refused f.main main_touch }
+main_on f Touched = record f { main = main_refused f.main MAIN_TOUCH }
 
 -- what main's core does next
 abbrev pub main_core : List SegmentState → Flat → Stepped
@@ -87,7 +89,7 @@ main_core code f =
 unfoldable pub main_step : List SegmentState → Limits → Flat → Flat
 main_step code limits f =
     if is_some f.main.ending then f
-    else if has_spent limits f.main then record f { main = main_refused f.main main_budget_spent }
+    else if has_spent limits f.main then record f { main = main_refused f.main MAIN_BUDGET_SPENT }
     else main_on f (main_core code f)
 
 -- a stretch of so many steps, fewer where main ends before or its next step is a call
@@ -107,10 +109,10 @@ pub data Call : Type 0 where
 -- the call of a number
 abbrev pub call_of : ℕ → Call
 call_of n =
-    if n == 1 then ExitCall
-    else if n == 2 then Spawn
-    else if n == 3 then Barrier
-    else if n == 4 then Print
+    if n == EXIT then ExitCall
+    else if n == SPAWN then Spawn
+    else if n == BARRIER then Barrier
+    else if n == PRINT then Print
     else Unknown n
 
 -- the call that a step of main's core meets
@@ -161,9 +163,9 @@ print_done m bytes = record (call_done m) { pieces = m.pieces ++ record { before
 -- output within its limit
 abbrev pub print_some : Limits → Memory → MainState → Range → MainState
 print_some limits memory m r =
-    if is_none (range_of memory.ranges r) then main_trapped m (trap_of m.registers load_denied r.base)
-    else if touches m.epoch r then main_refused m main_touch
-    else if nat_lt limits.output_bytes (length (output_of m.pieces) + r.len) then main_refused m output_full
+    if is_none (range_of memory.ranges r) then main_trapped m (trap_of m.registers LOAD_DENIED r.base)
+    else if touches m.epoch r then main_refused m MAIN_TOUCH
+    else if nat_lt limits.output_bytes (length (output_of m.pieces) + r.len) then main_refused m OUTPUT_FULL
     else print_done m (bytes_of memory r)
 
 -- a print of no byte checks nothing and adds nothing
@@ -176,4 +178,4 @@ main_call limits memory m ExitCall = (main_ended (call_done m) (Exit (register_a
 main_call limits memory m Spawn = spawn_on m (spawn_of (spawn_call m.registers) memory m.epoch limits m.spawned)
 main_call limits memory m Barrier = (record (call_done m) { epoch = [] }, None)
 main_call limits memory m Print = (print_call limits memory m (print_range m.registers), None)
-main_call limits memory m (Unknown n) = (main_trapped m (trap_of m.registers unknown_call n), None)
+main_call limits memory m (Unknown n) = (main_trapped m (trap_of m.registers UNKNOWN_CALL n), None)

@@ -2,6 +2,7 @@
 use Rattle.std.specs.Prelude.{ℕ, zero, suc, ◌+◌, ◌-◌, ◌*◌, ◌%◌, ◌==◌, Bool, true, ◌&&◌, nat_le, nat_lt, if◌then◌else◌, List, [], ◌∷◌, ◌++◌, map, length, filter, find, flat_map, replicate, slice_index, slice_set, Option, None, option_map, unwrap_or}
 use Rattle.std.specs.List.{enumerate_from, range_with_len}
 use Rattle.std.specs.FinMap.{get, insert, from_entries}
+use Rattle.tss_base.specs.declared.addresses.TheConstants.{SCRATCH, STACK}
 use Rattle.tss_base.specs.declared.range.Range.{Range}
 use Rattle.tss_base.specs.Range.{end_of, contains}
 use Rattle.tss_base.specs.Names.{Numbered}
@@ -30,11 +31,11 @@ range_of ranges r = option_map (λ m. m.writable) (find (λ m. contains m.range 
 
 -- main's stack
 abbrev pub stack_range : Range
-stack_range = record { base = 0xFFFE0000; len = 65536 }
+stack_range = STACK
 
 -- the scratch of a task: each running task has its own bytes there
 abbrev pub scratch_range : Range
-scratch_range = record { base = 0xFFFD0000; len = 65536 }
+scratch_range = SCRATCH
 
 -- ---- bytes
 

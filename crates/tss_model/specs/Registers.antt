@@ -1,5 +1,6 @@
 -- The registers of an actor with its pc and the number of instructions that it has completed.
 use Rattle.std.specs.Prelude.{ℕ, ◌+◌, ◌-◌, ◌%◌, ◌^◌, ◌==◌, if◌then◌else◌, List, [], ◌∷◌, ◌++◌, take, replicate, slice_index, slice_set}
+use Rattle.tss_base.specs.declared.addresses.TheConstants.{SCRATCH_END, STACK_END, END_PC}
 use Rattle.tss_base.specs.declared.operand.Task.{Task}
 use Rattle.tss_base.specs.declared.ending.Trap.{Trap}
 
@@ -29,13 +30,9 @@ completed r pc = record r { pc = pc; done = r.done + 1 }
 abbrev pub onward : Registers → Registers
 onward r = completed r (next_pc r)
 
--- the pc at which a task has ended, which it has in x1 at first
-abbrev pub end_pc : ℕ
-end_pc = 0xFFFFFFF0
-
 -- main at first: x2 is the end of its stack, and the other registers are 0
 abbrev pub main_registers : ℕ → Registers
-main_registers entry = record { values = 0 ∷ 0 ∷ 0xFFFF0000 ∷ replicate 29 0; pc = entry; done = 0 }
+main_registers entry = record { values = 0 ∷ 0 ∷ STACK_END ∷ replicate 29 0; pc = entry; done = 0 }
 
 -- what a task has from x10 on: the bases of its operands as listed, and its argument
 abbrev pub starting_words : Task → List ℕ
@@ -45,7 +42,7 @@ starting_words t = take t.listed t.bases ++ t.argument ∷ []
 -- registers are 0
 abbrev pub task_registers : Task → Registers
 task_registers t = record {
-  values = (0 ∷ end_pc ∷ 0xFFFE0000 ∷ replicate 7 0) ++ starting_words t ++ replicate (21 - t.listed) 0;
+  values = (0 ∷ END_PC ∷ SCRATCH_END ∷ replicate 7 0) ++ starting_words t ++ replicate (21 - t.listed) 0;
   pc = t.entry;
   done = 0;
 }

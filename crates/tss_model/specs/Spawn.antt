@@ -2,6 +2,7 @@
 -- operands, and the task.
 use Rattle.std.specs.Prelude.{ℕ, zero, suc, ◌+◌, ◌-◌, ◌*◌, ◌%◌, ◌==◌, Bool, true, ◌&&◌, ◌||◌, not, nat_lt, nat_le, if◌then◌else◌, List, [], ◌∷◌, ◌++◌, map, length, filter, replicate, Option, Some, None, is_none, Result, Ok, Err}
 use Rattle.std.specs.List.{list_any, list_all}
+use Rattle.tss_base.specs.declared.bounds.TheConstants.{MAX_OPERANDS}
 use Rattle.tss_base.specs.declared.range.Range.{Range}
 use Rattle.tss_base.specs.declared.operand.Mode.{Mode}
 use Rattle.tss_base.specs.declared.operand.Mode.TheVariants.{Input, Output, Inout}
@@ -11,7 +12,7 @@ use Rattle.tss_base.specs.declared.machine.Limits.{Limits}
 use Rattle.tss_base.specs.Range.{meets}
 use Rattle.tss_model.specs.Memory.{Memory, range_of, byte_at, number_at}
 use Rattle.tss_model.specs.Access.{touches, reads, writes}
-use Rattle.tss_model.specs.Causes.{too_many_operands, list_place, main_touch, bad_mode, bad_length, bad_base, object_outside, overlap, epoch_full, too_many_tasks}
+use Rattle.tss_base.specs.declared.refusals.TheConstants.{TOO_MANY_OPERANDS, LIST_PLACE, MAIN_TOUCH, BAD_MODE, BAD_LENGTH, BAD_BASE, OBJECT_OUTSIDE, OVERLAP, EPOCH_FULL, TOO_MANY_TASKS}
 
 -- ---- named objects
 
@@ -89,15 +90,15 @@ overlaps named object = list_any (λ n. meets n object && not (same_range n obje
 -- an entry whose mode is known, with the checks that follow
 abbrev pub operand_checked : Limits → Memory → List Range → Range → Mode → Result Operand ℕ
 operand_checked limits m named object mode =
-    if is_bad_length limits object then Err bad_length
-    else if not (object.base % 4 == 0) then Err bad_base
-    else if is_outside mode (range_of m.ranges object) then Err object_outside
-    else if overlaps named object then Err overlap
+    if is_bad_length limits object then Err BAD_LENGTH
+    else if not (object.base % 4 == 0) then Err BAD_BASE
+    else if is_outside mode (range_of m.ranges object) then Err OBJECT_OUTSIDE
+    else if overlaps named object then Err OVERLAP
     else Ok (record { object = object; mode = mode })
 
 -- an entry, by its mode
 abbrev pub mode_checked : Limits → Memory → List Range → Range → Option Mode → Result Operand ℕ
-mode_checked limits m named object None = Err bad_mode
+mode_checked limits m named object None = Err BAD_MODE
 mode_checked limits m named object (Some mode) = operand_checked limits m named object mode
 
 -- the operand of an entry, or the first check that it fails, where these objects are named or come earlier in the list
@@ -151,9 +152,9 @@ merged_operands listed = map (merged_on listed) (name_objects [] (objects_of lis
 abbrev pub no_operand : Operand
 no_operand = record { object = record { base = 0; len = 0 }; mode = Input }
 
--- a list filled up to seven elements
+-- a list filled up to the most operands of a task
 abbrev pub seven : {X : Type 0} → X → List X → List X
-seven x xs = xs ++ replicate (7 - length xs) x
+seven x xs = xs ++ replicate (MAX_OPERANDS - length xs) x
 
 -- a task of these listed operands and these merged ones
 abbrev pub task_of : SpawnCall → ℕ → List Operand → List Operand → Task
@@ -171,8 +172,8 @@ task_of call number listed merged = record {
 abbrev pub task_checked : Limits → SpawnCall → List Range → ℕ → Result (List Operand) ℕ → Result Task ℕ
 task_checked limits call named spawned (Err n) = Err n
 task_checked limits call named spawned (Ok listed) =
-    if nat_lt limits.epoch_objects (length (name_objects named (objects_of listed))) then Err epoch_full
-    else if nat_le limits.max_tasks spawned then Err too_many_tasks
+    if nat_lt limits.epoch_objects (length (name_objects named (objects_of listed))) then Err EPOCH_FULL
+    else if nat_le limits.max_tasks spawned then Err TOO_MANY_TASKS
     else Ok (task_of call (suc spawned) listed (merged_operands listed))
 
 -- the list isn't at a multiple of 4, or lies in no range of memory
@@ -182,7 +183,7 @@ is_misplaced m call = not (call.list % 4 == 0) || is_none (range_of m.ranges (li
 -- the task of a spawn, or the number of the first check that fails
 unfoldable pub spawn_of : SpawnCall → Memory → List Range → Limits → ℕ → Result Task ℕ
 spawn_of call m named limits spawned =
-    if nat_lt limits.max_operands call.count then Err too_many_operands
-    else if nat_lt 0 call.count && is_misplaced m call then Err list_place
-    else if nat_lt 0 call.count && touches named (list_range call) then Err main_touch
+    if nat_lt limits.max_operands call.count then Err TOO_MANY_OPERANDS
+    else if nat_lt 0 call.count && is_misplaced m call then Err LIST_PLACE
+    else if nat_lt 0 call.count && touches named (list_range call) then Err MAIN_TOUCH
     else task_checked limits call named spawned (entries_checked limits m named (entries_at m call.list call.count))

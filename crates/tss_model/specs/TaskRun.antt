@@ -7,10 +7,11 @@ use Rattle.tss_base.specs.declared.ending.Trap.{Trap}
 use Rattle.tss_base.specs.declared.machine.Limits.{Limits}
 use Rattle.tss_base.specs.Image.{SegmentState}
 use Rattle.tss_model.specs.Memory.{Memory, scratch_range, covers, zeros, list_put, byte_at, put_bytes, zeroed, code_word}
-use Rattle.tss_model.specs.Registers.{Registers, register_at, task_registers, end_pc, trap_of}
-use Rattle.tss_model.specs.Causes.{call_in_task, budget_spent}
+use Rattle.tss_model.specs.Registers.{Registers, register_at, task_registers, trap_of}
+use Rattle.tss_base.specs.declared.causes.TheConstants.{CALL_IN_TASK, BUDGET_SPENT}
 use Rattle.tss_model.specs.Access.{Actor, TaskActor, operands_of, reads}
 use Rattle.tss_model.specs.Core.{Write, Stepped, Executed, Called, Ended, Trapped, Touched, core_step}
+use Rattle.tss_base.specs.declared.addresses.TheConstants.{END_PC}
 
 -- f done so many times
 unfoldable pub repeated : {A : Type 0} → (A → A) → ℕ → A → A
@@ -26,7 +27,7 @@ pub record TaskState (M : Type 0) : Type 0 where
 
 -- it has trapped, or its pc is where a task ends
 abbrev pub is_over : {M : Type 0} → TaskState M → Bool
-is_over s = is_some s.trap || (s.registers.pc == end_pc)
+is_over s = is_some s.trap || (s.registers.pc == END_PC)
 
 -- the byte at an address: of its scratch, or else of what it sees of memory
 abbrev pub task_byte : {M : Type 0} → (M → ℕ → ℕ) → TaskState M → ℕ → ℕ
@@ -48,7 +49,7 @@ task_trapped s t = record s { trap = Some t }
 -- what a step makes of a task. No access of a task touches a named object
 abbrev pub task_on : {M : Type 0} → (M → Write → M) → TaskState M → Stepped → TaskState M
 task_on write s (Executed r w) = record (task_write write s w) { registers = r }
-task_on write s Called = task_trapped s (trap_of s.registers call_in_task (register_at s.registers 17))
+task_on write s Called = task_trapped s (trap_of s.registers CALL_IN_TASK (register_at s.registers 17))
 task_on write s Ended = s
 task_on write s (Trapped t) = task_trapped s t
 task_on write s Touched = s
@@ -58,7 +59,7 @@ unfoldable pub task_step : {M : Type 0} → (M → ℕ → ℕ) → (M → Write
     → TaskState M
 task_step byte write budget code actor s =
     if is_over s then s
-    else if nat_le budget s.registers.done then task_trapped s (trap_of s.registers budget_spent 0)
+    else if nat_le budget s.registers.done then task_trapped s (trap_of s.registers BUDGET_SPENT 0)
     else task_on write s (core_step actor (task_byte byte s) (code_word code) s.registers)
 
 -- a stretch of so many steps, fewer where the task is over before

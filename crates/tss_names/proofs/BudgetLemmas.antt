@@ -9,11 +9,12 @@ use Rattle.tss_isa.specs.declared.instr.Instr.{Instr}
 use Rattle.tss_isa.specs.declared.instr.Instr.TheVariants.{Lui, Auipc, Jal, Jalr, Branch, Load, Store, OpImm, Op, Fence, Ecall, Ebreak}
 use Rattle.tss_isa.specs.InstrTable.{instr_of}
 use Rattle.tss_model.specs.Access.{Actor, Loads, Stores, Access, Granted, Denied, Touch, access_of}
-use Rattle.tss_model.specs.Causes.{jump_misaligned, load_misaligned, store_misaligned, budget_spent}
-use Rattle.tss_model.specs.Registers.{Registers, register_at, with_register, next_pc, completed, end_pc, trap_of}
+use Rattle.tss_base.specs.declared.causes.TheConstants.{JUMP_MISALIGNED, LOAD_MISALIGNED, STORE_MISALIGNED, BUDGET_SPENT}
+use Rattle.tss_model.specs.Registers.{Registers, register_at, with_register, next_pc, completed, trap_of}
 use Rattle.tss_model.specs.Memory.{code_word}
 use Rattle.tss_model.specs.Core.{Write, Stepped, Executed, Called, Ended, Trapped, Touched, result_in, jump_to, branch_if, passes, load_on, load_from, loaded_value, load_range, load_width, store_on, store_to, stored_value, store_range, store_width, execute, execute_word, execute_fetched, moved, core_step}
 use Rattle.tss_model.specs.TaskRun.{TaskState, is_over, repeated, task_byte, task_trapped, task_on, task_step}
+use Rattle.tss_base.specs.declared.addresses.TheConstants.{END_PC}
 
 -- an instruction that is executed is one more
 abbrev pub CompletesOne : Registers → Stepped → Type 0
@@ -37,7 +38,7 @@ completes-jump : (r : Registers) (rd target : ℕ) → CompletesOne r (jump_to r
 completes-jump r rd target =
     elim (target % 4 == 0)
     as (λ b. CompletesOne r (if b then Executed (completed (with_register r rd (next_pc r)) target) None
-    else Trapped (trap_of r jump_misaligned target))) [
+    else Trapped (trap_of r JUMP_MISALIGNED target))) [
       | true ↦ ap (λ n. n + 1) (done-with_register r rd (next_pc r))
       | false ↦ tt
     ]
@@ -62,7 +63,7 @@ module _ (actor : Actor) (byte : ℕ → ℕ) (r : Registers) where
       elim (at % load_width kind == 0)
       as (λ b. CompletesOne r (if b
       then load_on (access_of actor Loads (load_range kind at)) r rd at (loaded_value byte kind at)
-      else Trapped (trap_of r load_misaligned at))) [
+      else Trapped (trap_of r LOAD_MISALIGNED at))) [
         | true ↦ completes-load_on (access_of actor Loads (load_range kind at)) r rd at (loaded_value byte kind at)
         | false ↦ tt
       ]
@@ -72,7 +73,7 @@ module _ (actor : Actor) (byte : ℕ → ℕ) (r : Registers) where
       elim (at % store_width kind == 0)
       as (λ b. CompletesOne r (if b
       then store_on (access_of actor Stores (store_range kind at)) r (stored_value kind at v)
-      else Trapped (trap_of r store_misaligned at))) [
+      else Trapped (trap_of r STORE_MISALIGNED at))) [
         | true ↦ completes-store_on (access_of actor Stores (store_range kind at)) r (stored_value kind at v)
         | false ↦ tt
       ]
@@ -104,7 +105,7 @@ module _ (actor : Actor) (byte : ℕ → ℕ) (r : Registers) where
   pub completes-core_step : (word : ℕ → Option ℕ) → CompletesOne r (core_step actor byte word r)
   unfolding core_step
   completes-core_step word =
-      elim (r.pc == end_pc) as (λ b. CompletesOne r (if b then Ended else execute_fetched actor byte r (word r.pc))) [
+      elim (r.pc == END_PC) as (λ b. CompletesOne r (if b then Ended else execute_fetched actor byte r (word r.pc))) [
         | true ↦ tt
         | false ↦ completes-fetched (word r.pc)
       ]
@@ -129,7 +130,7 @@ module _ {M : Type 0} (byte : M → ℕ → ℕ) (write : M → Write → M) (bu
     where
       by : (a b : Bool) → nat_le budget s.registers.done ≡ b
           → (if a then s
-          else if b then task_trapped s (trap_of s.registers budget_spent 0)
+          else if b then task_trapped s (trap_of s.registers BUDGET_SPENT 0)
           else task_on write s (core_step actor (task_byte byte s)
           (code_word code) s.registers)).registers.done ≤ budget
       by true b e = within

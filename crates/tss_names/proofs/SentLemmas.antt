@@ -2,11 +2,11 @@
 use Rattle.std.proofs.Common.{◌≡◌, ℕ, zero, suc, Bool, true, false, if◌then◌else◌, List, [], ◌∷◌, ◌++◌, Option, Some, None, refl, ◌∙◌}
 use Rattle.std.specs.FinMap.{get}
 use Rattle.tss_base.specs.declared.operand.OpName.{OpName}
-use Rattle.tss_base.specs.declared.event.How.{How}
-use Rattle.tss_base.specs.declared.event.How.TheVariants.{Beside, Over}
-use Rattle.tss_base.specs.declared.event.Follow.{Follow}
-use Rattle.tss_base.specs.declared.event.LinkState.{LinkState}
-use Rattle.tss_base.specs.declared.event.LinkState.TheVariants as link
+use Rattle.tss_base.specs.declared.marks.How.{How}
+use Rattle.tss_base.specs.declared.marks.How.TheVariants.{Beside, Over}
+use Rattle.tss_base.specs.declared.marks.Follow.{Follow}
+use Rattle.tss_base.specs.declared.marks.LinkState.{LinkState}
+use Rattle.tss_base.specs.declared.marks.LinkState.TheVariants as link
 use Rattle.tss_base.specs.Names.{Named, Numbered}
 use Rattle.tss_protocol.specs.Mail.{StorageName, Home, Buffer, Source, ReleaseContents, OpenContents, Message, Decode, Ack, Open, Use, Ready, Link, Release, Bye, Idle, Nack, Retire, Gone, Mail, posted, posted_all}
 use Rattle.tss_base.specs.declared.range.Range.{Range}

@@ -14,7 +14,8 @@ use Rattle.tss_base.specs.Image.{SegmentState}
 use Rattle.tss_model.specs.Memory.{Memory, range_of, bytes_of}
 use Rattle.tss_model.specs.Access.{operands_of, touches}
 use Rattle.tss_model.specs.Registers.{trap_of}
-use Rattle.tss_model.specs.Causes.{epoch_full, list_place, load_denied, main_touch, main_budget_spent, output_full, too_many_operands, too_many_tasks}
+use Rattle.tss_base.specs.declared.causes.TheConstants.{LOAD_DENIED}
+use Rattle.tss_base.specs.declared.refusals.TheConstants.{EPOCH_FULL, LIST_PLACE, MAIN_TOUCH, MAIN_BUDGET_SPENT, OUTPUT_FULL, TOO_MANY_OPERANDS, TOO_MANY_TASKS}
 use Rattle.tss_model.specs.Core.{Stepped, Executed, Called, Ended, Trapped, Touched}
 use Rattle.tss_model.specs.TaskRun.{repeated}
 use Rattle.tss_model.specs.Spawn.{SpawnCall, Entry, after_first, entries_at, entries_checked, entry_checked, is_misplaced, list_range, merged_on, merged_operands, name_object, name_objects, no_operand, objects_of, same_range, spawn_of, task_checked, task_of, with_rest}
@@ -99,8 +100,8 @@ module _ (call : SpawnCall) (m : Memory) (named : List Range) (limits : Limits) 
       → IsNext limits spawned t
   next_listed few (Err n) many h = absurd (cc)
   next_listed few (Ok os) many h =
-      let room = else_of (nat_lt limits.epoch_objects (length (name_objects named (objects_of os)))) epoch_full _ t h in
-      let more = else_of (nat_le limits.max_tasks spawned) too_many_tasks _ t room.1 in
+      let room = else_of (nat_lt limits.epoch_objects (length (name_objects named (objects_of os)))) EPOCH_FULL _ t h in
+      let more = else_of (nat_le limits.max_tasks spawned) TOO_MANY_TASKS _ t room.1 in
       let is : task_of call (suc spawned) os (merged_operands os) ≡ t = cc in
       let same = ap operands_of (sym is)
       ∙ take-front (merged_operands os) (replicate (7 - length (merged_operands os)) no_operand) in
@@ -114,9 +115,9 @@ module _ (call : SpawnCall) (m : Memory) (named : List Range) (limits : Limits) 
   pub IsNext-spawn_of : spawn_of call m named limits spawned ≡ Ok t → IsNext limits spawned t
   unfolding spawn_of
   IsNext-spawn_of accepted =
-      let short = else_of (nat_lt limits.max_operands call.count) too_many_operands _ t accepted in
-      let placed = else_of (nat_lt 0 call.count && is_misplaced m call) list_place _ t short.1 in
-      let clear = else_of (nat_lt 0 call.count && touches named (list_range call)) main_touch _ t placed.1 in
+      let short = else_of (nat_lt limits.max_operands call.count) TOO_MANY_OPERANDS _ t accepted in
+      let placed = else_of (nat_lt 0 call.count && is_misplaced m call) LIST_PLACE _ t short.1 in
+      let clear = else_of (nat_lt 0 call.count && touches named (list_range call)) MAIN_TOUCH _ t placed.1 in
       next_listed (ltb-false _ _ short.0) (entries_checked limits m named (entries_at m call.list call.count))
       (λ os e. length-entries_checked limits m named _ os e ∙ length-entries_at m call.list call.count) clear.1
 
@@ -135,7 +136,7 @@ unfolding main_step
 spawned-main_step code limits f = by (is_some f.main.ending) (has_spent limits f.main)
   where
     by : (a b : Bool)
-        → (if a then f else if b then record f { main = main_refused f.main main_budget_spent }
+        → (if a then f else if b then record f { main = main_refused f.main MAIN_BUDGET_SPENT }
         else main_on f (main_core code f)).main.spawned ≡ f.main.spawned
     by true b = refl
     by false true = refl
@@ -155,9 +156,9 @@ spawned-print_some limits memory m r =
     (nat_lt limits.output_bytes (length (output_of m.pieces) + r.len))
   where
     by : (a b c : Bool)
-        → (if a then main_trapped m (trap_of m.registers load_denied r.base)
-        else if b then main_refused m main_touch
-        else if c then main_refused m output_full
+        → (if a then main_trapped m (trap_of m.registers LOAD_DENIED r.base)
+        else if b then main_refused m MAIN_TOUCH
+        else if c then main_refused m OUTPUT_FULL
         else print_done m (bytes_of memory r)).spawned ≡ m.spawned
     by true b c = refl
     by false true c = refl

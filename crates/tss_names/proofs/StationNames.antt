@@ -6,9 +6,9 @@ use Rattle.std.proofs.lemmas.Option.{none-some, same_Some}
 use Rattle.tss_base.specs.declared.operand.OpName.{OpName}
 use Rattle.tss_base.specs.declared.operand.Operand.{Operand}
 use Rattle.tss_base.specs.declared.operand.Task.{Task}
-use Rattle.tss_base.specs.declared.event.LinkState.{LinkState}
-use Rattle.tss_base.specs.declared.event.LinkState.TheVariants as link
-use Rattle.tss_base.specs.declared.event.Stage.TheVariants as stage
+use Rattle.tss_base.specs.declared.marks.LinkState.{LinkState}
+use Rattle.tss_base.specs.declared.marks.LinkState.TheVariants as link
+use Rattle.tss_base.specs.declared.marks.Stage.TheVariants as stage
 use Rattle.tss_base.specs.Names.{Numbered}
 use Rattle.tss_maps.proofs.Keys.{nat_order}
 use Rattle.tss_model.specs.Access.{operands_of}

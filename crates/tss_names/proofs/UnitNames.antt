@@ -15,7 +15,7 @@ use Rattle.tss_model.specs.Memory.{covers, scratch_range, zeros, list_put}
 use Rattle.tss_model.specs.Access.{Actor, reads}
 use Rattle.tss_model.specs.Core.{Write, Stepped, Executed, Called, Ended, Trapped, Touched, core_step}
 use Rattle.tss_model.specs.Memory.{code_word}
-use Rattle.tss_model.specs.Causes.{budget_spent}
+use Rattle.tss_base.specs.declared.causes.TheConstants.{BUDGET_SPENT}
 use Rattle.tss_model.specs.Registers.{trap_of}
 use Rattle.tss_model.specs.TaskRun.{TaskState, is_over, repeated, task_byte, task_write, task_trapped, task_on, task_step}
 use Rattle.tss_protocol.specs.Mail.{StorageName, Home, Buffer}
@@ -55,7 +55,7 @@ module _ {M : Type 0} (byte : M → ℕ → ℕ) (write : M → Write → M) (bu
     where
       by : (a b : Bool)
           → J (if a then s
-          else if b then task_trapped s (trap_of s.registers budget_spent 0)
+          else if b then task_trapped s (trap_of s.registers BUDGET_SPENT 0)
           else task_on write s (core_step actor (task_byte byte s) (code_word code) s.registers)).memory
       by true b = h
       by false true = h

@@ -6,7 +6,7 @@ use Rattle.tss_base.specs.declared.operand.Operand.{Operand}
 use Rattle.tss_base.specs.declared.machine.Limits.{Limits}
 use Rattle.tss_model.specs.Memory.{Memory}
 use Rattle.tss_model.specs.Access.{touches}
-use Rattle.tss_model.specs.Causes.{list_place, main_touch}
+use Rattle.tss_base.specs.declared.refusals.TheConstants.{LIST_PLACE, MAIN_TOUCH}
 use Rattle.tss_model.specs.Spawn.{SpawnCall, is_misplaced, list_range, after_first, entries_at, entries_checked, entry_at, entry_checked, objects_of, with_rest}
 use Rattle.tss_operands.specs.Spawning.{list_checked}
 
@@ -90,6 +90,6 @@ pub list_checked-none : (call : SpawnCall) (m : Memory) (named : List Range) (li
 unfolding entries_checked
 list_checked-none call m named limits none =
     ap (λ n.
-    if nat_lt 0 n && is_misplaced m call then Err list_place
-    else if nat_lt 0 n && touches named (list_range call) then Err main_touch
+    if nat_lt 0 n && is_misplaced m call then Err LIST_PLACE
+    else if nat_lt 0 n && touches named (list_range call) then Err MAIN_TOUCH
     else entries_checked limits m named (entries_at m call.list n)) none

@@ -14,7 +14,7 @@ use Rattle.tss_base.specs.declared.machine.Limits.{Limits}
 use Rattle.tss_base.specs.Range.{end_of, meets}
 use Rattle.tss_model.specs.Memory.{Memory, range_of}
 use Rattle.tss_model.specs.Access.{operands_of, touches}
-use Rattle.tss_model.specs.Causes.{bad_base, bad_length, epoch_full, list_place, main_touch, object_outside, overlap, too_many_operands, too_many_tasks}
+use Rattle.tss_base.specs.declared.refusals.TheConstants.{BAD_BASE, BAD_LENGTH, EPOCH_FULL, LIST_PLACE, MAIN_TOUCH, OBJECT_OUTSIDE, OVERLAP, TOO_MANY_OPERANDS, TOO_MANY_TASKS}
 use Rattle.tss_model.specs.Spawn.{SpawnCall, Entry, after_first, entries_at, entries_checked, entry_checked, is_bad_length, is_misplaced, is_outside, list_range, merged_operands, mode_checked, mode_of, name_objects, no_operand, objects_of, overlaps, same_range, spawn_of, task_checked, task_of, with_rest}
 use Rattle.tss_operands.specs.declared.spawn.SpawnFault.{SpawnFault}
 use Rattle.tss_operands.specs.Naming.{CanNameAll, count_with}
@@ -36,17 +36,17 @@ else_of false n r x h = (refl, h)
 -- the checks of the list, before those of the task
 pub spawn_of-listed : (call : SpawnCall) (m : Memory) (named : List Range) (limits : Limits) (spawned : ℕ)
     → spawn_of call m named limits spawned
-    ≡ (if nat_lt limits.max_operands call.count then Err too_many_operands
+    ≡ (if nat_lt limits.max_operands call.count then Err TOO_MANY_OPERANDS
     else task_checked limits call named spawned (list_checked call m named limits))
 unfolding spawn_of
 spawn_of-listed call m named limits spawned =
-    ap (λ r. if nat_lt limits.max_operands call.count then Err too_many_operands else r)
+    ap (λ r. if nat_lt limits.max_operands call.count then Err TOO_MANY_OPERANDS else r)
     (through (nat_lt 0 call.count && is_misplaced m call) (nat_lt 0 call.count && touches named (list_range call))
     (entries_checked limits m named (entries_at m call.list call.count)))
   where
     through : (a b : Bool) (r : Result (List Operand) ℕ)
-        → (if a then Err list_place else if b then Err main_touch else task_checked limits call named spawned r)
-        ≡ task_checked limits call named spawned (if a then Err list_place else if b then Err main_touch else r)
+        → (if a then Err LIST_PLACE else if b then Err MAIN_TOUCH else task_checked limits call named spawned r)
+        ≡ task_checked limits call named spawned (if a then Err LIST_PLACE else if b then Err MAIN_TOUCH else r)
     through true b r = refl
     through false true r = refl
     through false false r = refl
@@ -60,7 +60,7 @@ module _ (limits : Limits) (call : SpawnCall) (named : List Range) (spawned : �
 
   -- there are too many
   pub task_checked-full : limits.epoch_objects < count_with named merged
-      → task_checked limits call named spawned (Ok listed) ≡ Err epoch_full
+      → task_checked limits call named spawned (Ok listed) ≡ Err EPOCH_FULL
   task_checked-full full =
       cond-true (nat_lt limits.epoch_objects (length (name_objects named (objects_of listed)))) _ _
       (lt-ltb _ _ (omega (arith, as_many)))
@@ -72,7 +72,7 @@ module _ (limits : Limits) (call : SpawnCall) (named : List Range) (spawned : �
 
   -- there are too many tasks
   pub task_checked-many : count_with named merged ≤ limits.epoch_objects → limits.max_tasks ≤ spawned
-      → task_checked limits call named spawned (Ok listed) ≡ Err too_many_tasks
+      → task_checked limits call named spawned (Ok listed) ≡ Err TOO_MANY_TASKS
   task_checked-many room many =
       cond-false (nat_lt limits.epoch_objects (length (name_objects named (objects_of listed)))) _ _ (has_room room)
       ∙ cond-true (nat_le limits.max_tasks spawned) _ _ (le-leb _ _ many)
@@ -115,10 +115,10 @@ passed : (limits : Limits) (m : Memory) (named : List Range) (r : Range) (o : Op
     → mode_checked limits m named r mode ≡ Ok o → (0 < o.object.len) × (overlaps named o.object ≡ false)
 passed limits m named r o None h = absurd (cc)
 passed limits m named r o (Some mode) h =
-    let long = else_of (is_bad_length limits r) bad_length _ o h in
-    let base = else_of (not (eqb (r.base % 4) 0)) bad_base _ o long.1 in
-    let inside = else_of (is_outside mode (range_of m.ranges r)) object_outside _ o base.1 in
-    let apart = else_of (overlaps named r) overlap _ o inside.1 in
+    let long = else_of (is_bad_length limits r) BAD_LENGTH _ o h in
+    let base = else_of (not (eqb (r.base % 4) 0)) BAD_BASE _ o long.1 in
+    let inside = else_of (is_outside mode (range_of m.ranges r)) OBJECT_OUTSIDE _ o base.1 in
+    let apart = else_of (overlaps named r) OVERLAP _ o inside.1 in
     let is : record { object = r; mode = mode } ≡ o = cc in
     let same : r ≡ o.object = ap (λ (x : Operand). x.object) is in (
       subst (λ x. 0 < x.len) same (some_length r.len (or_parts (eqb r.len 0) _ long.0).0),
@@ -214,9 +214,9 @@ module _ (call : SpawnCall) (m : Memory) (named : List Range) (limits : Limits) 
   listed_by : HasListed call m named limits spawned t
   unfolding spawn_of
   listed_by =
-      let short = else_of (nat_lt limits.max_operands call.count) too_many_operands _ t accepted in
-      let placed = else_of (nat_lt 0 call.count && is_misplaced m call) list_place _ t short.1 in
-      let clear = else_of (nat_lt 0 call.count && touches named (list_range call)) main_touch _ t placed.1 in
+      let short = else_of (nat_lt limits.max_operands call.count) TOO_MANY_OPERANDS _ t accepted in
+      let placed = else_of (nat_lt 0 call.count && is_misplaced m call) LIST_PLACE _ t short.1 in
+      let clear = else_of (nat_lt 0 call.count && touches named (list_range call)) MAIN_TOUCH _ t placed.1 in
       last (entries_checked limits m named (entries_at m call.list call.count)) refl (ltb-false _ _ short.0) clear.1
     where
       last : (r : Result (List Operand) ℕ) → entries_checked limits m named (entries_at m call.list call.count) ≡ r
@@ -224,8 +224,8 @@ module _ (call : SpawnCall) (m : Memory) (named : List Range) (limits : Limits) 
           → HasListed call m named limits spawned t
       last (Err n) e few h = absurd (cc)
       last (Ok os) e few h =
-          let room = else_of (nat_lt limits.epoch_objects (length (name_objects named (objects_of os)))) epoch_full _ t h in
-          let task = else_of (nat_le limits.max_tasks spawned) too_many_tasks _ t room.1 in
+          let room = else_of (nat_lt limits.epoch_objects (length (name_objects named (objects_of os)))) EPOCH_FULL _ t h in
+          let task = else_of (nat_le limits.max_tasks spawned) TOO_MANY_TASKS _ t room.1 in
           record { listed = os; few = few; passes = e; room = ltb-false _ _ room.0; is = (cc) }
 
   -- its merged operands

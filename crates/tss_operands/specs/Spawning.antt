@@ -5,7 +5,7 @@ use Rattle.tss_base.specs.declared.operand.Operand.{Operand}
 use Rattle.tss_base.specs.declared.machine.Limits.{Limits}
 use Rattle.tss_model.specs.Memory.{Memory}
 use Rattle.tss_model.specs.Access.{touches}
-use Rattle.tss_model.specs.Causes.{list_place, main_touch}
+use Rattle.tss_base.specs.declared.refusals.TheConstants.{LIST_PLACE, MAIN_TOUCH}
 use Rattle.tss_model.specs.Spawn.{SpawnCall, is_misplaced, list_range, entries_at, entries_checked}
 use Rattle.tss_operands.specs.declared.spawn.SpawnWords.{SpawnWords}
 use Rattle.tss_operands.specs.declared.spawn.SpawnFault.{SpawnFault}
@@ -23,6 +23,6 @@ numbered (Err f) = Err f.0
 -- clause speaks of it
 abbrev pub list_checked : SpawnCall → Memory → List Range → Limits → Result (List Operand) ℕ
 list_checked call m named limits =
-    if nat_lt 0 call.count && is_misplaced m call then Err list_place
-    else if nat_lt 0 call.count && touches named (list_range call) then Err main_touch
+    if nat_lt 0 call.count && is_misplaced m call then Err LIST_PLACE
+    else if nat_lt 0 call.count && touches named (list_range call) then Err MAIN_TOUCH
     else entries_checked limits m named (entries_at m call.list call.count)

@@ -8,23 +8,9 @@ ghost use Rattle.tss_operands.specs.Spawning.{numbered};
 
 use crate::epoch::Epoch;
 use crate::spawn::SpawnFault;
+use tss_base::refusals::{BAD_BASE, BAD_LENGTH, BAD_MODE, OBJECT_OUTSIDE, OVERLAP};
 use tss_base::{Limits, Mode, Operand, Range};
 use tss_memory::Space;
-
-/// Its mode isn't 1, 2 or 3.
-const BAD_MODE: u32 = 4;
-
-/// Its length is 0, or more than an object may have.
-const BAD_LENGTH: u32 = 5;
-
-/// Its base isn't a multiple of 4.
-const BAD_BASE: u32 = 6;
-
-/// It doesn't lie in one range of memory, or is written in one that can't be.
-const OBJECT_OUTSIDE: u32 = 7;
-
-/// It meets a named object, or an earlier one of the list, and isn't that object.
-const OVERLAP: u32 = 8;
 
 /// The operand of an entry, or the first check that it fails. The operands of the entries before it are given.
 pub(crate) fn checked_entry(

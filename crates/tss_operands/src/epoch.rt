@@ -1,4 +1,5 @@
 // Epochs: the objects that main has named.
+ghost use Rattle.tss_base.specs.declared.bounds.TheConstants.{MAX_OPERANDS};
 ghost use Rattle.std.specs.Prelude.{◌≡◌, ◌≤◌, ◌↔◌, [], IfOk, IsTrue, length, slice_get, option_copied};
 ghost use Rattle.tss_model.specs.Access.{operands_of, touches};
 ghost use Rattle.tss_model.specs.Spawn.{name_object, name_objects, objects_of, overlaps};
@@ -61,7 +62,7 @@ impl Epoch {
 
     /// Names the objects of a task, in the order of its operands.
     pub fn name_all(&mut self, task: &Task)
-        requires few { task.now.count ≤ 7 }
+        requires few { task.now.count ≤ MAX_OPERANDS }
         requires apart { CanNameAll self.old.limit self.old.objects (objects_of (operands_of task.now)) }
         ensures { self.new ≡ record self.old { objects = name_objects self.old.objects (objects_of (operands_of task.now)) } }
     {

@@ -1,12 +1,14 @@
 // Lists of operands of one task.
 ghost use Rattle.std.specs.Prelude.{◌≡◌, ◌<◌, ◌≤◌, [], ◌∷◌, ◌++◌, length, map};
+ghost use Rattle.tss_base.specs.declared.bounds.TheConstants.{MAX_OPERANDS};
 ghost use Rattle.tss_model.specs.Spawn.{no_operand, seven};
 
 use std::marker::Model;
+use tss_base::bounds::MAX_OPERANDS;
 use tss_base::{Mode, Operand, Range};
 
 /// How many operands a list has room for.
-const ROOM: usize = 7;
+const ROOM: usize = MAX_OPERANDS as usize;
 
 /// What stands where there is no operand.
 const NO_OPERAND: Operand = Operand {
@@ -14,7 +16,7 @@ const NO_OPERAND: Operand = Operand {
     mode: Mode::Input,
 };
 
-/// At most seven operands, in order.
+/// As many operands as a task may have at most, in order.
 #[derive(Drop, Debug)]
 pub(crate) struct Listing {
     count: u32,
@@ -46,7 +48,7 @@ impl Listing {
 
     /// Puts an operand at its end.
     pub(crate) fn push(&mut self, operand: Operand)
-        requires { length self.old < 7 }
+        requires { length self.old < MAX_OPERANDS }
         ensures { self.new ≡ self.old ++ operand ∷ [] }
     {
         self.items[self.count as usize] = operand;
@@ -56,7 +58,7 @@ impl Listing {
     /// Its operands.
     pub(crate) fn as_slice(&self) -> &[Operand]
         ensures items { result.now ≡ self.now }
-        ensures few { length result.now ≤ 7 }
+        ensures few { length result.now ≤ MAX_OPERANDS }
     {
         &self.items[..self.count as usize]
     }
@@ -64,20 +66,20 @@ impl Listing {
     /// How many it has.
     pub(crate) fn len(&self) -> u32
         ensures len { result ≡ length self.now }
-        ensures few { length self.now ≤ 7 }
+        ensures few { length self.now ≤ MAX_OPERANDS }
     {
         self.count
     }
 
-    /// Its operands, filled up to seven.
-    pub(crate) fn operands(&self) -> [Operand; 7]
+    /// Its operands, filled up to the most.
+    pub(crate) fn operands(&self) -> [Operand; ROOM]
         ensures { result ≡ seven no_operand self.now }
     {
         self.items
     }
 
-    /// The bases of its operands, filled up to seven.
-    pub(crate) fn bases(&self) -> [u32; 7]
+    /// The bases of its operands, filled up to the most.
+    pub(crate) fn bases(&self) -> [u32; ROOM]
         ensures { result ≡ seven 0 (map (λ o. o.object.base) self.now) }
     {
         self.items.map(|o| o.object.base)

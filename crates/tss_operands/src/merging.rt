@@ -1,4 +1,5 @@
 // Merging: the listed operands of an object become one.
+ghost use Rattle.tss_base.specs.declared.bounds.TheConstants.{MAX_OPERANDS};
 ghost use Rattle.std.specs.Prelude.{◌≡◌, ◌≤◌, filter, length};
 ghost use Rattle.tss_model.specs.Spawn.{merged_on, merged_operands, same_range};
 ghost use Rattle.std.specs.List.{list_all, list_any};
@@ -11,7 +12,7 @@ use tss_base::{Mode, Operand, Range};
 
 /// One operand for each object that is listed, in order of first appearance.
 pub(crate) fn merged(listed: &[Operand]) -> Listing
-    requires { length listed.now ≤ 7 }
+    requires { length listed.now ≤ MAX_OPERANDS }
     ensures { result ≡ merged_operands listed.now }
 {
     let mut merged = Listing::new();

@@ -1,5 +1,6 @@
 // Operand lists in memory.
 ghost use Rattle.std.specs.Prelude.{◌≡◌, ◌+◌, ◌*◌, ◌≤◌, ◌++◌};
+ghost use Rattle.tss_base.specs.declared.bounds.TheConstants.{MAX_OPERANDS};
 ghost use Rattle.tss_model.specs.Spawn.{entries_at, entries_checked, entry_at, entry_checked, list_range, objects_of, word_at};
 ghost use Rattle.tss_memory.specs.Ranges.{IsFound, memory_end};
 ghost use Rattle.tss_operands.specs.Spawning.{call_of, list_checked, numbered};
@@ -8,14 +9,9 @@ use crate::checking::checked_entry;
 use crate::epoch::Epoch;
 use crate::listing::Listing;
 use crate::spawn::{SpawnFault, SpawnWords};
+use tss_base::refusals::{LIST_PLACE, MAIN_TOUCH};
 use tss_base::{Limits, Operand, Range};
 use tss_memory::{Found, Space};
-
-/// The list isn't at a multiple of 4, or doesn't lie in one range of memory.
-const LIST_PLACE: u32 = 2;
-
-/// The list meets a named object.
-const MAIN_TOUCH: u32 = 3;
 
 /// How many bytes an entry has.
 const ENTRY_BYTES: u32 = 12;
@@ -27,7 +23,7 @@ pub(crate) fn listed(
     epoch: &Epoch,
     limits: &Limits,
 ) -> Result<Listing, SpawnFault>
-    requires { words.now.count ≤ 7 }
+    requires { words.now.count ≤ MAX_OPERANDS }
     ensures { numbered result ≡ list_checked (call_of words.now) space.now epoch.now.objects limits.now }
 {
     if words.count == 0 {
@@ -57,7 +53,7 @@ fn checked_entries(
     epoch: &Epoch,
     limits: &Limits,
 ) -> Result<Listing, SpawnFault>
-    requires few { words.now.count ≤ 7 }
+    requires few { words.now.count ≤ MAX_OPERANDS }
     requires found { IsFound space.now.ranges found (list_range (call_of words.now)) }
     requires end { words.now.list + 12 * words.now.count ≤ memory_end }
     ensures { numbered result ≡ entries_checked limits.now space.now epoch.now.objects (entries_at space.now words.now.list words.now.count) }

@@ -1,5 +1,6 @@
 // Main's spawn: its words in memory, read as a task.
 ghost use Rattle.std.specs.Prelude.{◌≡◌, ◌≤◌, IfOk, Ok, length};
+ghost use Rattle.tss_base.specs.declared.bounds.TheConstants.{MAX_OPERANDS};
 ghost use Rattle.tss_model.specs.Access.{operands_of};
 ghost use Rattle.tss_model.specs.Spawn.{objects_of, spawn_of, task_checked, task_of};
 ghost use Rattle.tss_operands.specs.Naming.{CanNameAll};
@@ -9,6 +10,7 @@ use crate::epoch::Epoch;
 use crate::listing::Listing;
 use crate::merging::{merged, named_with};
 use crate::reading::listed;
+use tss_base::refusals::{EPOCH_FULL, TOO_MANY_OPERANDS, TOO_MANY_TASKS};
 use tss_base::{Limits, Task};
 use tss_memory::Space;
 
@@ -39,15 +41,6 @@ pub struct SpawnWords {
 #[derive(Clone, Copy, Debug, PartialEq, Eq)]
 pub struct SpawnFault(pub u32);
 
-/// More operands than a task may have.
-const TOO_MANY_OPERANDS: u32 = 1;
-
-/// More objects would be named than may be.
-const EPOCH_FULL: u32 = 9;
-
-/// As many tasks are spawned as may be.
-const TOO_MANY_TASKS: u32 = 10;
-
 /// The task of a spawn, or the number of the first check that fails. The checks 4 to 8 are made of one entry of the
 /// operand list after the other. `spawned` tasks were spawned before. Nothing is named by this call.
 pub fn read_spawn(
@@ -57,7 +50,7 @@ pub fn read_spawn(
     limits: &Limits,
     spawned: u32,
 ) -> Result<Task, SpawnFault>
-    requires { limits.now.max_operands ≤ 7 }
+    requires { limits.now.max_operands ≤ MAX_OPERANDS }
     ensures exact { numbered result ≡ spawn_of (call_of words.now) space.now epoch.now.objects limits.now spawned }
     ensures nameable { IfOk result (λ t. CanNameAll limits.now.epoch_objects epoch.now.objects (objects_of (operands_of t))) }
     ensures few { IfOk result (λ t. (t.count ≤ t.listed) × (t.listed ≤ limits.now.max_operands)) }

@@ -7,7 +7,7 @@ use Rattle.tss_base.specs.declared.operand.Mode.TheVariants.{Input, Output, Inou
 use Rattle.tss_base.specs.declared.operand.Operand.{Operand}
 use Rattle.tss_base.specs.declared.machine.Machine.{Machine}
 use Rattle.tss_base.specs.declared.event.Event.TheVariants as event
-use Rattle.tss_base.specs.declared.event.How.TheVariants.{Beside, Over}
+use Rattle.tss_base.specs.declared.marks.How.TheVariants.{Beside, Over}
 use Rattle.tss_protocol.specs.Mail.{Home, Buffer, OpenContents, Open, Use}
 use Rattle.tss_protocol.specs.State.{State, Entry}
 use Rattle.tss_protocol.specs.Renaming.{after_decode, decode_message, live_message, follows_latest, sent_by_decode}

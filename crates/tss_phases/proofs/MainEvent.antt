@@ -12,7 +12,8 @@ use Rattle.tss_base.specs.declared.event.Event.TheVariants as event
 use Rattle.tss_base.specs.Image.{SegmentState}
 use Rattle.tss_model.specs.Memory.{Memory, range_of, bytes_of}
 use Rattle.tss_model.specs.Registers.{trap_of}
-use Rattle.tss_model.specs.Causes.{too_many_operands, list_place, main_touch, epoch_full, too_many_tasks, load_denied, output_full, main_budget_spent}
+use Rattle.tss_base.specs.declared.causes.TheConstants.{LOAD_DENIED}
+use Rattle.tss_base.specs.declared.refusals.TheConstants.{TOO_MANY_OPERANDS, LIST_PLACE, MAIN_TOUCH, EPOCH_FULL, TOO_MANY_TASKS, OUTPUT_FULL, MAIN_BUDGET_SPENT}
 use Rattle.tss_model.specs.Access.{touches}
 use Rattle.tss_model.specs.Core.{Stepped, Executed, Called, Ended, Trapped, Touched}
 use Rattle.tss_model.specs.Spawn.{SpawnCall, spawn_of, task_checked, task_of, merged_operands, name_objects, objects_of, entries_checked, entries_at, is_misplaced, list_range}
@@ -40,7 +41,7 @@ unfolding main_step
 spawned-main_step code limits f = by (is_some f.main.ending) (has_spent limits f.main)
   where
     by : (a b : Bool)
-        → (if a then f else if b then record f { main = main_refused f.main main_budget_spent }
+        → (if a then f else if b then record f { main = main_refused f.main MAIN_BUDGET_SPENT }
         else main_on f (main_core code f)).main.spawned ≡ f.main.spawned
     by true b = refl
     by false true = refl
@@ -63,9 +64,9 @@ printed_some limits memory m r =
     (nat_lt limits.output_bytes (length (output_of m.pieces) + r.len))
   where
     by : (a b c : Bool)
-        → (if a then main_trapped m (trap_of m.registers load_denied r.base)
-        else if b then main_refused m main_touch
-        else if c then main_refused m output_full
+        → (if a then main_trapped m (trap_of m.registers LOAD_DENIED r.base)
+        else if b then main_refused m MAIN_TOUCH
+        else if c then main_refused m OUTPUT_FULL
         else print_done m (bytes_of memory r)).spawned ≡ m.spawned
     by true b c = refl
     by false true c = refl
@@ -97,10 +98,10 @@ checked_number limits call named spawned (Ok listed) t e =
     (nat_le limits.max_tasks spawned) e
   where
     by : (a b : Bool)
-        → (if a then Err epoch_full else if b then Err too_many_tasks
+        → (if a then Err EPOCH_FULL else if b then Err TOO_MANY_TASKS
         else Ok (task_of call (suc spawned) listed (merged_operands listed))) ≡ Ok t → t.number ≡ suc spawned
-    by true b e = absurd (not_refused epoch_full t e)
-    by false true e = absurd (not_refused too_many_tasks t e)
+    by true b e = absurd (not_refused EPOCH_FULL t e)
+    by false true e = absurd (not_refused TOO_MANY_TASKS t e)
     by false false e = ap (λ (t : Task). t.number) (sym (accepted _ t e))
 
 -- the number of a task that is spawned
@@ -115,11 +116,11 @@ spawn_number call m named limits spawned t e =
     rest = task_checked limits call named spawned (entries_checked limits m named (entries_at m call.list call.count))
 
     by : (a b c : Bool)
-        → (if a then Err too_many_operands else if b then Err list_place else if c then Err main_touch else rest) ≡ Ok t
+        → (if a then Err TOO_MANY_OPERANDS else if b then Err LIST_PLACE else if c then Err MAIN_TOUCH else rest) ≡ Ok t
         → t.number ≡ suc spawned
-    by true b c e = absurd (not_refused too_many_operands t e)
-    by false true c e = absurd (not_refused list_place t e)
-    by false false true e = absurd (not_refused main_touch t e)
+    by true b c e = absurd (not_refused TOO_MANY_OPERANDS t e)
+    by false true c e = absurd (not_refused LIST_PLACE t e)
+    by false false true e = absurd (not_refused MAIN_TOUCH t e)
     by false false false e =
         checked_number limits call named spawned
         (entries_checked limits m named (entries_at m call.list call.count)) t e

@@ -11,7 +11,7 @@ use Rattle.tss_base.specs.declared.operand.Operand.{Operand}
 use Rattle.tss_base.specs.declared.operand.Task.{Task}
 use Rattle.tss_base.specs.declared.machine.Machine.{Machine}
 use Rattle.tss_base.specs.declared.event.Event.TheVariants as event
-use Rattle.tss_base.specs.declared.event.How.TheVariants.{Beside, Over}
+use Rattle.tss_base.specs.declared.marks.How.TheVariants.{Beside, Over}
 use Rattle.tss_maps.proofs.Keys.{nat_order, decide_key}
 use Rattle.tss_model.specs.Access.{operands_of}
 use Rattle.tss_protocol.specs.Mail.{Home, Buffer, OpenContents, Open, Use}

@@ -2,7 +2,7 @@
 use Rattle.std.proofs.Common.{◌≡◌, ◌≢◌, ◌≤◌, Bool, true, false, List, Option, Some, None, refl, sym, ap, ◌∙◌, subst, inl, inr}
 use Rattle.tss_base.specs.declared.operand.OpName.{OpName}
 use Rattle.tss_base.specs.declared.operand.Operand.{Operand}
-use Rattle.tss_base.specs.declared.event.Farewell.TheVariants as farewell
+use Rattle.tss_base.specs.declared.marks.Farewell.TheVariants as farewell
 use Rattle.std.proofs.lemmas.Option.{none-some}
 use Rattle.tss_maps.proofs.Keys.{name_order, decide_key}
 use Rattle.tss_protocol.specs.Mail.{Source, OpenContents, ReleaseContents, Message}

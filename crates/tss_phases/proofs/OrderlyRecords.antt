@@ -4,8 +4,8 @@ use Rattle.std.specs.Prelude.{slice_get, if◌then◌else◌}
 use Rattle.std.specs.FinMap.{insert, remove}
 use Rattle.std.proofs.lemmas.Option.{none-some, same_Some}
 use Rattle.tss_base.specs.declared.operand.OpName.{OpName}
-use Rattle.tss_base.specs.declared.event.Farewell.{Farewell}
-use Rattle.tss_base.specs.declared.event.Farewell.TheVariants as farewell
+use Rattle.tss_base.specs.declared.marks.Farewell.{Farewell}
+use Rattle.tss_base.specs.declared.marks.Farewell.TheVariants as farewell
 use Rattle.tss_base.specs.Names.{Numbered}
 use Rattle.tss_protocol.specs.Mail.{Source}
 use Rattle.tss_protocol.specs.State.{OperandState, Flying}

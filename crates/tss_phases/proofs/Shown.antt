@@ -1,7 +1,7 @@
 -- What a phase shows of the look-ups.
 use Rattle.std.proofs.Common.{◌≡◌, ◌≢◌, Bool, true, false, Option, Some, None, refl, sym, ap, ◌∙◌, inl, inr, ◌⊎◌}
-use Rattle.tss_base.specs.declared.event.Farewell.{Farewell}
-use Rattle.tss_base.specs.declared.event.Farewell.TheVariants as farewell
+use Rattle.tss_base.specs.declared.marks.Farewell.{Farewell}
+use Rattle.tss_base.specs.declared.marks.Farewell.TheVariants as farewell
 use Rattle.tss_protocol.specs.Mail.{Source}
 use Rattle.tss_protocol.specs.State.{OperandState}
 use Rattle.tss_phases.specs.Phase.{Phase, Ahead, Decoding, Sent, Waiting, Told, Ready, Releasing, Leaving, Promised, Left, LookUps, where_there, absent_phase, record_phase, station_phase, phase_at}

@@ -1,6 +1,6 @@
 -- Farewells: when a task leaves, and the phases that a link and a bye make.
 use Rattle.std.specs.Prelude.{◌≡◌, ℕ, Bool, true, false, slice_get, Some}
-use Rattle.tss_base.specs.declared.event.Farewell.TheVariants as farewell
+use Rattle.tss_base.specs.declared.marks.Farewell.TheVariants as farewell
 use Rattle.tss_protocol.specs.State.{OperandState, Flying}
 use Rattle.tss_protocol.specs.Stations.{has_finished}
 use Rattle.tss_phases.specs.Phase.{Phase, Promised, Left}

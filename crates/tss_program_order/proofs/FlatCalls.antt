@@ -10,7 +10,8 @@ use Rattle.tss_base.specs.declared.machine.Limits.{Limits}
 use Rattle.tss_model.specs.Memory.{Memory, range_of, byte_at, bytes_of}
 use Rattle.tss_model.specs.Access.{touches}
 use Rattle.tss_model.specs.Registers.{trap_of}
-use Rattle.tss_model.specs.Causes.{load_denied, main_touch, output_full, too_many_operands, list_place}
+use Rattle.tss_base.specs.declared.causes.TheConstants.{LOAD_DENIED}
+use Rattle.tss_base.specs.declared.refusals.TheConstants.{MAIN_TOUCH, OUTPUT_FULL, TOO_MANY_OPERANDS, LIST_PLACE}
 use Rattle.tss_model.specs.Spawn.{SpawnCall, Entry, entries_at, list_range, mode_of, mode_checked, with_rest, entries_checked, task_checked, is_misplaced, spawn_of}
 use Rattle.tss_model.specs.MainStep.{MainState, Call, ExitCall, Spawn, Barrier, Print, Unknown, main_trapped, main_refused, spawn_call, spawn_on, print_range, print_call, print_done, call_done, output_of, main_call}
 use Rattle.tss_program_order.specs.MainInOrder.{MayLoad}
@@ -38,9 +39,9 @@ entries_at-same h m at (suc n) same =
 -- the checks of a spawn before those of its entries
 abbrev list_then : Limits → SpawnCall → Bool → Bool → Result Task ℕ → Result Task ℕ
 list_then limits call misplaced touched rest =
-    if nat_lt limits.max_operands call.count then Err too_many_operands
-    else if misplaced then Err list_place
-    else if touched then Err main_touch
+    if nat_lt limits.max_operands call.count then Err TOO_MANY_OPERANDS
+    else if misplaced then Err LIST_PLACE
+    else if touched then Err MAIN_TOUCH
     else rest
 
 -- and those that follow
@@ -107,9 +108,9 @@ module _ (limits : Limits) (h m : Memory) (ranges : h.ranges ≡ m.ranges) where
 -- the checks of a print, with the bytes that it would print
 abbrev print_then : Limits → MainState → Range → Bool → Bool → List ℕ → MainState
 print_then limits s r outside touched bytes =
-    if outside then main_trapped s (trap_of s.registers load_denied r.base)
-    else if touched then main_refused s main_touch
-    else if nat_lt limits.output_bytes (length (output_of s.pieces) + r.len) then main_refused s output_full
+    if outside then main_trapped s (trap_of s.registers LOAD_DENIED r.base)
+    else if touched then main_refused s MAIN_TOUCH
+    else if nat_lt limits.output_bytes (length (output_of s.pieces) + r.len) then main_refused s OUTPUT_FULL
     else print_done s bytes
 
 module _ (limits : Limits) (h m : Memory) (ranges : h.ranges ≡ m.ranges) (s : MainState)

@@ -11,11 +11,12 @@ use Rattle.tss_isa.specs.declared.instr.LoadKind.{LoadKind}
 use Rattle.tss_isa.specs.declared.instr.StoreKind.{StoreKind}
 use Rattle.tss_isa.specs.declared.instr.StoreKind.TheVariants.{Sb, Sh, Sw}
 use Rattle.tss_isa.specs.InstrTable.{instr_of}
-use Rattle.tss_model.specs.Causes.{jump_misaligned, load_misaligned, store_misaligned}
-use Rattle.tss_model.specs.Registers.{Registers, register_at, with_register, next_pc, completed, end_pc, trap_of}
+use Rattle.tss_base.specs.declared.causes.TheConstants.{JUMP_MISALIGNED, LOAD_MISALIGNED, STORE_MISALIGNED}
+use Rattle.tss_model.specs.Registers.{Registers, register_at, with_register, next_pc, completed, trap_of}
 use Rattle.tss_model.specs.Access.{Actor, Purpose, Loads, Stores, Access, Granted, Denied, Touch, access_of}
 use Rattle.tss_model.specs.Core.{Stepped, Executed, Called, Ended, Trapped, Touched, jump_to, branch_if, passes, load_on, load_from, load_range, load_width, loaded_value, extended, store_on, store_to, store_range, store_width, stored_value, execute, execute_word, execute_fetched, core_step, moved, result_in}
 use Rattle.tss_program_order.proofs.FlatLoads.{same_number}
+use Rattle.tss_base.specs.declared.addresses.TheConstants.{END_PC}
 
 -- ---- what a step reads
 
@@ -34,7 +35,7 @@ module _ (actor : Actor) (f g : ℕ → ℕ) (same : AgreeOnLoads actor f g) (r 
 
   load_from-same : (kind : LoadKind) (rd at : ℕ) → load_from actor f r kind rd at ≡ load_from actor g r kind rd at
   load_from-same kind rd at =
-      ap (λ x. cond (at % load_width kind == 0) x (Trapped (trap_of r load_misaligned at)))
+      ap (λ x. cond (at % load_width kind == 0) x (Trapped (trap_of r LOAD_MISALIGNED at)))
       (load_on-same kind rd at (access_of actor Loads (load_range kind at)) refl)
 
   execute-same : (i : Instr) → execute actor f r i ≡ execute actor g r i
@@ -62,7 +63,7 @@ module _ (actor : Actor) (f g : ℕ → ℕ) (same : AgreeOnLoads actor f g) (r 
   -- reads that agree wherever an actor may load give its core the same step
   pub core_step-same : (word : ℕ → Option ℕ) → core_step actor f word r ≡ core_step actor g word r
   unfolding core_step
-  core_step-same word = ap (λ x. cond (r.pc == end_pc) Ended x) (fetched-same (word r.pc))
+  core_step-same word = ap (λ x. cond (r.pc == END_PC) Ended x) (fetched-same (word r.pc))
 
 -- ---- what a step stores, and the instructions that it completes
 
@@ -75,7 +76,7 @@ IsStep actor r (Executed s (Some w)) =
     × (0 < length w.bytes)
     × (access_of actor Stores (record { base = w.at; len = length w.bytes }) ≡ Granted)
 IsStep actor r Called = Unit {0}
-IsStep actor r Ended = (r.pc == end_pc) ≡ true
+IsStep actor r Ended = (r.pc == END_PC) ≡ true
 IsStep actor r (Trapped t) = Unit {0}
 IsStep actor r Touched = (purpose : Purpose) × (q : Range) × (access_of actor purpose q ≡ Touch)
 
@@ -104,7 +105,7 @@ module _ (actor : Actor) (byte : ℕ → ℕ) (r : Registers) where
   jump_to-step rd target =
       elim (target % 4 == 0) as (λ b. IsStep actor r (cond b
       (Executed (completed (with_register r rd (next_pc r)) target) None)
-      (Trapped (trap_of r jump_misaligned target)))) [
+      (Trapped (trap_of r JUMP_MISALIGNED target)))) [
         | true ↦ ap (λ n. n + 1) (with_register-done r rd (next_pc r))
         | false ↦ tt
       ]
@@ -123,7 +124,7 @@ module _ (actor : Actor) (byte : ℕ → ℕ) (r : Registers) where
   load_from-step kind rd at =
       elim (at % load_width kind == 0) as (λ b. IsStep actor r (cond b
       (load_on (access_of actor Loads (load_range kind at)) r rd at (loaded_value byte kind at))
-      (Trapped (trap_of r load_misaligned at)))) [
+      (Trapped (trap_of r LOAD_MISALIGNED at)))) [
         | true ↦ load_on-step kind rd at (loaded_value byte kind at) (access_of actor Loads (load_range kind at)) refl
         | false ↦ tt
       ]
@@ -143,7 +144,7 @@ module _ (actor : Actor) (byte : ℕ → ℕ) (r : Registers) where
   store_to-step kind at v =
       elim (at % store_width kind == 0) as (λ b. IsStep actor r (cond b
       (store_on (access_of actor Stores (store_range kind at)) r (stored_value kind at v))
-      (Trapped (trap_of r store_misaligned at)))) [
+      (Trapped (trap_of r STORE_MISALIGNED at)))) [
         | true ↦ store_on-step kind at v (access_of actor Stores (store_range kind at)) refl
         | false ↦ tt
       ]
@@ -173,9 +174,9 @@ module _ (actor : Actor) (byte : ℕ → ℕ) (r : Registers) where
   -- each step of a core is such a step
   pub core_step-step : (word : ℕ → Option ℕ) → IsStep actor r (core_step actor byte word r)
   unfolding core_step
-  core_step-step word = by (r.pc == end_pc) refl
+  core_step-step word = by (r.pc == END_PC) refl
     where
-      by : (b : Bool) → (r.pc == end_pc) ≡ b
-          → IsStep actor r (cond (r.pc == end_pc) Ended (execute_fetched actor byte r (word r.pc)))
+      by : (b : Bool) → (r.pc == END_PC) ≡ b
+          → IsStep actor r (cond (r.pc == END_PC) Ended (execute_fetched actor byte r (word r.pc)))
       by true e = subst (IsStep actor r) (sym (cond-true _ _ _ e)) e
       by false e = subst (IsStep actor r) (sym (cond-false _ _ _ e)) (fetched-step (word r.pc))

@@ -6,7 +6,7 @@ use Rattle.tss_base.specs.declared.ending.Trap.{Trap}
 use Rattle.tss_base.specs.declared.ending.Ending.TheVariants.{TaskTrap, Refused}
 use Rattle.tss_base.specs.declared.machine.Limits.{Limits}
 use Rattle.tss_base.specs.Image.{ImageState}
-use Rattle.tss_model.specs.Causes.{main_budget_spent}
+use Rattle.tss_base.specs.declared.refusals.TheConstants.{MAIN_BUDGET_SPENT}
 use Rattle.tss_model.specs.Memory.{Memory, frozen}
 use Rattle.tss_model.specs.TaskRun.{task_end}
 use Rattle.tss_model.specs.MainStep.{MainState, Flat, has_spent, output_of}
@@ -83,7 +83,7 @@ module _ (i : ImageState) (limits : Limits) where
     pub in_order-trap : (in_order i limits).ending ≡ TaskTrap s.task.number trap
     in_order-trap =
         ap (λ (r : ReferenceState). r.ending) trapped_order
-        ∙ ap (λ (m : MainState). unwrap_or m.ending (Refused main_budget_spent m.registers.pc)) trapped_main
+        ∙ ap (λ (m : MainState). unwrap_or m.ending (Refused MAIN_BUDGET_SPENT m.registers.pc)) trapped_main
 
     -- with the tasks up to it
     pub in_order-tasks : (in_order i limits).tasks ≡ s.task.number

@@ -8,7 +8,8 @@ use Rattle.tss_base.specs.declared.operand.Mode.{Mode}
 use Rattle.tss_base.specs.declared.operand.Operand.{Operand}
 use Rattle.tss_base.specs.declared.operand.Task.{Task}
 use Rattle.tss_base.specs.declared.machine.Limits.{Limits}
-use Rattle.tss_model.specs.Causes.{bad_length, bad_base, object_outside, overlap, too_many_operands, list_place, main_touch, epoch_full, too_many_tasks, output_full, load_denied}
+use Rattle.tss_base.specs.declared.causes.TheConstants.{LOAD_DENIED}
+use Rattle.tss_base.specs.declared.refusals.TheConstants.{BAD_LENGTH, BAD_BASE, OBJECT_OUTSIDE, OVERLAP, TOO_MANY_OPERANDS, LIST_PLACE, MAIN_TOUCH, EPOCH_FULL, TOO_MANY_TASKS, OUTPUT_FULL}
 use Rattle.tss_model.specs.Memory.{Memory, range_of, bytes_of, frozen}
 use Rattle.tss_model.specs.Access.{touches, operands_of}
 use Rattle.tss_model.specs.Spawn.{SpawnCall, Entry, same_range, name_objects, objects_of, is_bad_length, is_outside, overlaps, mode_of, operand_checked, mode_checked, after_first, with_rest, entries_at, entries_checked, merged_on, merged_operands, no_operand, task_of, task_checked, is_misplaced, list_range, spawn_of}
@@ -42,10 +43,10 @@ module _ (limits : Limits) (m : Memory) where
   operand_passed : (named : List Range) (object : Range) (mode : Mode) (o : Operand)
       → operand_checked limits m named object mode ≡ Ok o → IsChecked limits m named o
   operand_passed named object mode o e =
-      let first = else_of (is_bad_length limits object) bad_length _ o e in
-      let second = else_of (not (object.base % 4 == 0)) bad_base _ o first.1 in
-      let third = else_of (is_outside mode (range_of m.ranges object)) object_outside _ o second.1 in
-      let last = else_of (overlaps named object) overlap (Ok (record { object = object; mode = mode })) o third.1 in
+      let first = else_of (is_bad_length limits object) BAD_LENGTH _ o e in
+      let second = else_of (not (object.base % 4 == 0)) BAD_BASE _ o first.1 in
+      let third = else_of (is_outside mode (range_of m.ranges object)) OBJECT_OUTSIDE _ o second.1 in
+      let last = else_of (overlaps named object) OVERLAP (Ok (record { object = object; mode = mode })) o third.1 in
       subst (IsChecked limits m named) (same_Ok (record { object = object; mode = mode }) o last.1)
       (record {
         length = first.0;
@@ -120,9 +121,9 @@ module _ (call : SpawnCall) (m : Memory) (named : List Range) (limits : Limits) 
       → task_checked limits call named spawned r ≡ Ok t → IsSpawned limits m named t
   task_passed (Err n) each e = absurd (cc)
   task_passed (Ok os) each e =
-      let first = else_of (nat_lt limits.epoch_objects (length (name_objects named (objects_of os)))) epoch_full _
+      let first = else_of (nat_lt limits.epoch_objects (length (name_objects named (objects_of os)))) EPOCH_FULL _
       t e in
-      let second = else_of (nat_le limits.max_tasks spawned) too_many_tasks _ t first.1 in
+      let second = else_of (nat_le limits.max_tasks spawned) TOO_MANY_TASKS _ t first.1 in
       let is = same_Ok (task_of call (suc spawned) os (merged_operands os)) t second.1 in
       record {
         listed = os;
@@ -136,9 +137,9 @@ module _ (call : SpawnCall) (m : Memory) (named : List Range) (limits : Limits) 
   pub spawn_of-spawned : spawn_of call m named limits spawned ≡ Ok t → IsSpawned limits m named t
   unfolding spawn_of
   spawn_of-spawned e =
-      let first = else_of (nat_lt limits.max_operands call.count) too_many_operands _ t e in
-      let second = else_of (nat_lt 0 call.count && is_misplaced m call) list_place _ t first.1 in
-      let third = else_of (nat_lt 0 call.count && touches named (list_range call)) main_touch _ t second.1 in
+      let first = else_of (nat_lt limits.max_operands call.count) TOO_MANY_OPERANDS _ t e in
+      let second = else_of (nat_lt 0 call.count && is_misplaced m call) LIST_PLACE _ t first.1 in
+      let third = else_of (nat_lt 0 call.count && touches named (list_range call)) MAIN_TOUCH _ t second.1 in
       task_passed (entries_checked limits m named (entries_at m call.list call.count))
       (λ os d. entries_passed limits m named (entries_at m call.list call.count) os d) third.1
 
@@ -184,9 +185,9 @@ module _ (limits : Limits) (m : Memory) (s : MainState) where
       by (r.len == 0) (is_none (range_of m.ranges r)) (touches s.epoch r)
       (nat_lt limits.output_bytes (length (output_of s.pieces) + r.len))
     where
-      by : (n b t o : Bool) → (cond n (call_done s) (cond b (main_trapped s (trap_of s.registers load_denied r.base))
-          (cond t (main_refused s main_touch)
-          (cond o (main_refused s output_full) (print_done s (bytes_of m r)))))).epoch ≡ s.epoch
+      by : (n b t o : Bool) → (cond n (call_done s) (cond b (main_trapped s (trap_of s.registers LOAD_DENIED r.base))
+          (cond t (main_refused s MAIN_TOUCH)
+          (cond o (main_refused s OUTPUT_FULL) (print_done s (bytes_of m r)))))).epoch ≡ s.epoch
       by true b t o = refl
       by false true t o = refl
       by false false true o = refl

@@ -7,7 +7,8 @@ use Rattle.tss_base.specs.declared.range.Range.{Range}
 use Rattle.tss_base.specs.Range.{Covers}
 use Rattle.tss_base.specs.declared.machine.Limits.{Limits}
 use Rattle.tss_base.specs.Image.{SegmentState}
-use Rattle.tss_model.specs.Causes.{fetch_outside, main_touch, main_budget_spent}
+use Rattle.tss_base.specs.declared.causes.TheConstants.{FETCH_OUTSIDE}
+use Rattle.tss_base.specs.declared.refusals.TheConstants.{MAIN_TOUCH, MAIN_BUDGET_SPENT}
 use Rattle.tss_model.specs.Memory.{MemoryRange, byte_at, code_word}
 use Rattle.tss_model.specs.Access.{MainActor, Loads, Stores, Granted, main_access}
 use Rattle.tss_model.specs.Core.{Stepped, Executed, Called, Ended, Trapped, Touched, core_step}
@@ -178,11 +179,11 @@ module _ (code : List SegmentState) (limits : Limits) (f g : Flat) (alike : AreA
   main_on-together Called = record { main = alike.main; bytes = λ a same. same }
   main_on-together Ended = record {
     main = λ i.
-        main_trapped (alike.main i) (trap_of (alike.main i).registers fetch_outside (alike.main i).registers.pc);
+        main_trapped (alike.main i) (trap_of (alike.main i).registers FETCH_OUTSIDE (alike.main i).registers.pc);
     bytes = λ a same. same;
   }
   main_on-together (Trapped t) = record { main = λ i. main_trapped (alike.main i) t; bytes = λ a same. same }
-  main_on-together Touched = record { main = λ i. main_refused (alike.main i) main_touch; bytes = λ a same. same }
+  main_on-together Touched = record { main = λ i. main_refused (alike.main i) MAIN_TOUCH; bytes = λ a same. same }
 
   main_step-together : GoTogether f g (main_step code limits f) (main_step code limits g)
   main_step-together = by (is_some f.main.ending) (has_spent limits f.main) refl refl
@@ -201,7 +202,7 @@ module _ (code : List SegmentState) (limits : Limits) (f g : Flat) (alike : AreA
       by false true e d =
           together_by f g _ _ _ _ (main_step-spent code limits f e d)
           (main_step-spent code limits g (ending false e) (spent true d))
-          (record { main = λ i. main_refused (alike.main i) main_budget_spent; bytes = λ a same. same })
+          (record { main = λ i. main_refused (alike.main i) MAIN_BUDGET_SPENT; bytes = λ a same. same })
       by false false e d =
           together_by f g _ _ _ _ (main_step-core code limits f e d)
           (main_step-core code limits g (ending false e) (spent false d)

@@ -9,7 +9,8 @@ use Rattle.tss_base.specs.declared.range.Range.{Range}
 use Rattle.tss_base.specs.declared.operand.Operand.{Operand}
 use Rattle.tss_base.specs.declared.operand.Task.{Task}
 use Rattle.tss_base.specs.declared.machine.Limits.{Limits}
-use Rattle.tss_model.specs.Causes.{too_many_operands, list_place, main_touch, epoch_full, too_many_tasks, output_full, load_denied}
+use Rattle.tss_base.specs.declared.causes.TheConstants.{LOAD_DENIED}
+use Rattle.tss_base.specs.declared.refusals.TheConstants.{TOO_MANY_OPERANDS, LIST_PLACE, MAIN_TOUCH, EPOCH_FULL, TOO_MANY_TASKS, OUTPUT_FULL}
 use Rattle.tss_model.specs.Memory.{MemoryRange, Memory, range_of, bytes_of, covers}
 use Rattle.tss_model.specs.Registers.{trap_of}
 use Rattle.tss_model.specs.Access.{Loads, touches}
@@ -33,8 +34,8 @@ module _ (limits : Limits) (m : Memory) (s : MainState) (on : is_some s.ending �
       by (is_none (range_of m.ranges r)) (touches s.epoch r)
       (nat_lt limits.output_bytes (length (output_of s.pieces) + r.len))
     where
-      by : (b t o : Bool) → steps_taken (cond b (main_trapped s (trap_of s.registers load_denied r.base))
-          (cond t (main_refused s main_touch) (cond o (main_refused s output_full) (print_done s (bytes_of m r)))))
+      by : (b t o : Bool) → steps_taken (cond b (main_trapped s (trap_of s.registers LOAD_DENIED r.base))
+          (cond t (main_refused s MAIN_TOUCH) (cond o (main_refused s OUTPUT_FULL) (print_done s (bytes_of m r)))))
           ≡ suc s.registers.done
       by true t o = refl
       by false true o = refl
@@ -91,8 +92,8 @@ module _ (limits : Limits) (m : Memory) (s : MainState) where
       (nat_lt limits.output_bytes (length (output_of s.pieces) + r.len))
     where
       by : (n b t o : Bool) → Rises s (cond n (call_done s)
-          (cond b (main_trapped s (trap_of s.registers load_denied r.base)) (cond t (main_refused s main_touch)
-          (cond o (main_refused s output_full) (print_done s (bytes_of m r))))))
+          (cond b (main_trapped s (trap_of s.registers LOAD_DENIED r.base)) (cond t (main_refused s MAIN_TOUCH)
+          (cond o (main_refused s OUTPUT_FULL) (print_done s (bytes_of m r))))))
       by true b t o = rises_done _ refl refl (inl refl)
       by false true t o = rises_still _ refl refl refl
       by false false true o = rises_still _ refl refl refl
@@ -124,7 +125,7 @@ task_checked-number limits call named spawned (Ok listed) t e =
     by (nat_lt limits.epoch_objects (length (name_objects named (objects_of listed))))
     (nat_le limits.max_tasks spawned) e
   where
-    by : (b d : Bool) → cond b (Err epoch_full) (cond d (Err too_many_tasks)
+    by : (b d : Bool) → cond b (Err EPOCH_FULL) (cond d (Err TOO_MANY_TASKS)
         (Ok (task_of call (suc spawned) listed (merged_operands listed)))) ≡ Ok t → t.number ≡ suc spawned
     by true d e = absurd (cc)
     by false true e = absurd (cc)
@@ -143,7 +144,7 @@ spawn_of-number call m named limits spawned t e =
     rest = task_checked limits call named spawned (entries_checked limits m named (entries_at m call.list call.count))
 
     by : (b c d : Bool)
-        → cond b (Err too_many_operands) (cond c (Err list_place) (cond d (Err main_touch) rest)) ≡ Ok t
+        → cond b (Err TOO_MANY_OPERANDS) (cond c (Err LIST_PLACE) (cond d (Err MAIN_TOUCH) rest)) ≡ Ok t
         → t.number ≡ suc spawned
     by true c d e = absurd (cc)
     by false true d e = absurd (cc)
@@ -186,8 +187,8 @@ print_call-spawned limits m s r =
     (nat_lt limits.output_bytes (length (output_of s.pieces) + r.len))
   where
     by : (n b t o : Bool) → (cond n (call_done s)
-        (cond b (main_trapped s (trap_of s.registers load_denied r.base)) (cond t (main_refused s main_touch)
-        (cond o (main_refused s output_full) (print_done s (bytes_of m r)))))).spawned ≡ s.spawned
+        (cond b (main_trapped s (trap_of s.registers LOAD_DENIED r.base)) (cond t (main_refused s MAIN_TOUCH)
+        (cond o (main_refused s OUTPUT_FULL) (print_done s (bytes_of m r)))))).spawned ≡ s.spawned
     by true b t o = refl
     by false true t o = refl
     by false false true o = refl

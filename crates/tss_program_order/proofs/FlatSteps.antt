@@ -5,7 +5,7 @@ use Rattle.std.proofs.lemmas.Bool.{cond-true, cond-false, or_left, or_right, or_
 use Rattle.std.proofs.lemmas.Option.{none-some}
 use Rattle.tss_base.specs.declared.machine.Limits.{Limits}
 use Rattle.tss_base.specs.Image.{SegmentState}
-use Rattle.tss_model.specs.Causes.{main_budget_spent}
+use Rattle.tss_base.specs.declared.refusals.TheConstants.{MAIN_BUDGET_SPENT}
 use Rattle.tss_model.specs.TaskRun.{repeated}
 use Rattle.tss_model.specs.MainStep.{Flat, Call, main_refused, has_spent, main_on, main_core, main_step, called_by, next_call}
 use Rattle.tss_model.specs.InOrder.{flat_by, flat_step}
@@ -51,7 +51,7 @@ module _ (code : List SegmentState) (limits : Limits) (f : Flat) where
 
   -- main that has spent its budget is refused
   pub main_step-spent : is_some f.main.ending ≡ false → has_spent limits f.main ≡ true
-      → main_step code limits f ≡ record f { main = main_refused f.main main_budget_spent }
+      → main_step code limits f ≡ record f { main = main_refused f.main MAIN_BUDGET_SPENT }
   unfolding main_step
   main_step-spent on spent = cond-false _ _ _ on ∙ cond-true _ _ _ spent
 

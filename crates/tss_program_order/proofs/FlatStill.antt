@@ -8,7 +8,8 @@ use Rattle.tss_base.specs.declared.machine.Limits.{Limits}
 use Rattle.tss_base.specs.Image.{SegmentState}
 use Rattle.tss_model.specs.Memory.{Memory, range_of, bytes_of}
 use Rattle.tss_model.specs.Registers.{trap_of}
-use Rattle.tss_model.specs.Causes.{load_denied, main_touch, output_full}
+use Rattle.tss_base.specs.declared.causes.TheConstants.{LOAD_DENIED}
+use Rattle.tss_base.specs.declared.refusals.TheConstants.{MAIN_TOUCH, OUTPUT_FULL}
 use Rattle.tss_model.specs.Access.{MainActor, touches}
 use Rattle.tss_model.specs.Core.{Stepped, Executed, Called, Ended, Trapped, Touched}
 use Rattle.tss_model.specs.Spawn.{spawn_of}
@@ -49,10 +50,10 @@ print_still limits m x r = by (r.len == 0) (is_none (range_of m.ranges r)) (touc
     (nat_lt limits.output_bytes (length (output_of x.pieces) + r.len))
   where
     by : (n o t f : Bool)
-        → HasSameCount x (cond n (call_done x) (cond o (main_trapped x (trap_of x.registers load_denied r.base))
-        (cond t (main_refused x main_touch) (cond f (main_refused x output_full) (print_done x (bytes_of m r))))))
-        → SameButEnding x (cond n (call_done x) (cond o (main_trapped x (trap_of x.registers load_denied r.base))
-        (cond t (main_refused x main_touch) (cond f (main_refused x output_full) (print_done x (bytes_of m r))))))
+        → HasSameCount x (cond n (call_done x) (cond o (main_trapped x (trap_of x.registers LOAD_DENIED r.base))
+        (cond t (main_refused x MAIN_TOUCH) (cond f (main_refused x OUTPUT_FULL) (print_done x (bytes_of m r))))))
+        → SameButEnding x (cond n (call_done x) (cond o (main_trapped x (trap_of x.registers LOAD_DENIED r.base))
+        (cond t (main_refused x MAIN_TOUCH) (cond f (main_refused x OUTPUT_FULL) (print_done x (bytes_of m r))))))
     by true o t f e = absurd (one_more x.registers.done e)
     by false true t f e = record { registers = refl; spawned = refl; epoch = refl; pieces = refl }
     by false false true f e = record { registers = refl; spawned = refl; epoch = refl; pieces = refl }

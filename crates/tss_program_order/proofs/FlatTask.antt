@@ -13,7 +13,7 @@ use Rattle.tss_base.specs.declared.operand.Task.{Task}
 use Rattle.tss_base.specs.declared.machine.Limits.{Limits}
 use Rattle.tss_base.specs.Image.{SegmentState}
 use Rattle.tss_base.specs.Range.{end_of, Covers, contains}
-use Rattle.tss_model.specs.Causes.{budget_spent}
+use Rattle.tss_base.specs.declared.causes.TheConstants.{BUDGET_SPENT}
 use Rattle.tss_model.specs.Memory.{MemoryRange, Memory, scratch_range, covers, zeros, zeroed, byte_at, code_word}
 use Rattle.tss_model.specs.Registers.{trap_of}
 use Rattle.tss_model.specs.Access.{TaskActor, Stores, Granted, Denied, reads, writes, operands_of, task_may_store, task_access}
@@ -136,7 +136,7 @@ module _ (budget : ℕ) (code : List SegmentState) (ranges : List MemoryRange) (
     where
       after : Bool → Bool → TaskState Memory
       after over spent =
-          cond over s (cond spent (task_trapped s (trap_of s.registers budget_spent 0))
+          cond over s (cond spent (task_trapped s (trap_of s.registers BUDGET_SPENT 0))
           (task_on memory_write s
           (core_step (TaskActor ranges operands) (task_byte byte_at s) (code_word code) s.registers)))
 

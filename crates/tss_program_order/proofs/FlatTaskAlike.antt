@@ -8,14 +8,15 @@ use Rattle.tss_base.specs.declared.operand.Operand.{Operand}
 use Rattle.tss_base.specs.declared.ending.Trap.{Trap}
 use Rattle.tss_base.specs.Image.{SegmentState}
 use Rattle.tss_base.specs.Range.{Covers}
-use Rattle.tss_model.specs.Causes.{call_in_task, budget_spent}
+use Rattle.tss_base.specs.declared.causes.TheConstants.{CALL_IN_TASK, BUDGET_SPENT}
 use Rattle.tss_model.specs.Memory.{MemoryRange, scratch_range, covers, list_put, code_word}
-use Rattle.tss_model.specs.Registers.{register_at, end_pc, trap_of}
+use Rattle.tss_model.specs.Registers.{register_at, trap_of}
 use Rattle.tss_model.specs.Access.{Actor, TaskActor, Loads, Stores, Granted, task_access}
 use Rattle.tss_model.specs.Core.{Write, Stepped, Executed, Called, Ended, Trapped, Touched, core_step}
 use Rattle.tss_model.specs.TaskRun.{TaskState, repeated, is_over, task_byte, task_write, task_on, task_step, task_stretch, task_trapped}
 use Rattle.tss_program_order.proofs.FlatCore.{IsStep, core_step-same, core_step-step}
 use Rattle.tss_program_order.proofs.FlatTask.{MayWrite, granted_write}
+use Rattle.tss_base.specs.declared.addresses.TheConstants.{END_PC}
 
 -- ---- one step by what comes first
 
@@ -28,7 +29,7 @@ module _ {M : Type 0} (byte : M → ℕ → ℕ) (write : M → Write → M) (bu
 
   -- one that has spent its budget traps
   pub task_step-spent : is_over s ≡ false → nat_le budget s.registers.done ≡ true
-      → task_step byte write budget code actor s ≡ task_trapped s (trap_of s.registers budget_spent 0)
+      → task_step byte write budget code actor s ≡ task_trapped s (trap_of s.registers BUDGET_SPENT 0)
   unfolding task_step
   task_step-spent on spent = cond-false _ _ _ on ∙ cond-true _ _ _ spent
 
@@ -127,7 +128,7 @@ module _ {M N : Type 0} (byte : M → ℕ → ℕ) (write : M → Write → M) (
         let written = task_write-alike w step.1 step.2 in
         record { registers = refl; scratch = written.scratch; trap = written.trap; memory = written.memory }
     task_on-alike Called step =
-        trapped-alike _ _ (λ i. trap_of (alike.registers i) call_in_task (register_at (alike.registers i) 17))
+        trapped-alike _ _ (λ i. trap_of (alike.registers i) CALL_IN_TASK (register_at (alike.registers i) 17))
     task_on-alike Ended step = alike
     task_on-alike (Trapped t) step = trapped-alike t t refl
     task_on-alike Touched step = alike
@@ -139,7 +140,7 @@ module _ {M N : Type 0} (byte : M → ℕ → ℕ) (write : M → Write → M) (
     task_step-alike budget code = by (is_over s) (nat_le budget s.registers.done) refl refl
       where
         over : (b : Bool) → is_over s ≡ b → is_over u ≡ b
-        over b e = (λ i. is_some (sym alike.trap i) || ((sym alike.registers i).pc == end_pc)) ∙ e
+        over b e = (λ i. is_some (sym alike.trap i) || ((sym alike.registers i).pc == END_PC)) ∙ e
 
         spent : (b : Bool) → nat_le budget s.registers.done ≡ b → nat_le budget u.registers.done ≡ b
         spent b e = (λ i. nat_le budget (sym alike.registers i).done) ∙ e
@@ -153,7 +154,7 @@ module _ {M N : Type 0} (byte : M → ℕ → ℕ) (write : M → Write → M) (
         by false true e d =
             alike_by R _ _ _ _ (task_step-spent byte write budget code (TaskActor ranges operands) s e d)
             (task_step-spent other rewrite budget code (TaskActor ranges operands) u (over false e) (spent true d))
-            (trapped-alike _ _ (λ i. trap_of (alike.registers i) budget_spent 0))
+            (trapped-alike _ _ (λ i. trap_of (alike.registers i) BUDGET_SPENT 0))
         by false false e d =
             alike_by R _ _ _ _ (task_step-core byte write budget code (TaskActor ranges operands) s e d)
             (task_step-core other rewrite budget code (TaskActor ranges operands) u (over false e) (spent false d)

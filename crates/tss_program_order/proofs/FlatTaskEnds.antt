@@ -9,7 +9,7 @@ use Rattle.tss_base.specs.declared.ending.Trap.{Trap}
 use Rattle.tss_base.specs.declared.machine.Limits.{Limits}
 use Rattle.tss_base.specs.Image.{SegmentState}
 use Rattle.tss_model.specs.Memory.{MemoryRange, Memory, range_of, scratch_range, covers, byte_at, code_word, list_put}
-use Rattle.tss_model.specs.Registers.{end_pc}
+use Rattle.tss_base.specs.declared.addresses.TheConstants.{END_PC}
 use Rattle.tss_model.specs.Access.{TaskActor, Purpose, Touch, Granted, Denied, operands_of, task_access, task_may_within}
 use Rattle.tss_model.specs.Core.{Write, Stepped, Executed, Called, Ended, Trapped, Touched, core_step}
 use Rattle.tss_model.specs.TaskRun.{TaskState, TaskEnd, repeated, is_over, task_byte, task_write, task_on, task_step, task_trapped, memory_write, task_start, task_actor, task_stepped, task_after, end_of_task, task_end}
@@ -47,7 +47,7 @@ module _ (budget : ℕ) (code : List SegmentState) (ranges : List MemoryRange) (
   on_goes s (Executed r None) on is = inl (is ∙ add-one s.registers.done, refl)
   on_goes s (Executed r (Some w)) on is = inl (is.0 ∙ add-one s.registers.done, write_keeps s w)
   on_goes s Called on is = inr (_, refl)
-  on_goes s Ended on is = absurd (both_ways _ (or_parts (is_some s.trap) (s.registers.pc == end_pc) on).1 is)
+  on_goes s Ended on is = absurd (both_ways _ (or_parts (is_some s.trap) (s.registers.pc == END_PC) on).1 is)
   on_goes s (Trapped t) on is = inr (t, refl)
   on_goes s Touched on is = absurd (never_touched ranges operands is.0 is.1 is.2)
 

@@ -15,7 +15,8 @@ use Rattle.tss_maps.proofs.Keys.{nat_order, decide_key}
 use Rattle.tss_maps.proofs.Changes.{at_inserted, beside_inserted}
 use Rattle.tss_model.specs.Memory.{Memory, scratch_range, covers, map_put, put_bytes, zeroed, byte_at, code_word, loaded, frozen, list_put}
 use Rattle.tss_model.specs.Registers.{trap_of}
-use Rattle.tss_model.specs.Causes.{budget_spent, main_budget_spent}
+use Rattle.tss_base.specs.declared.causes.TheConstants.{BUDGET_SPENT}
+use Rattle.tss_base.specs.declared.refusals.TheConstants.{MAIN_BUDGET_SPENT}
 use Rattle.tss_model.specs.Access.{Actor, TaskActor, operands_of, reads}
 use Rattle.tss_model.specs.Core.{Write, Stepped, Executed, Called, Ended, Trapped, Touched, core_step}
 use Rattle.tss_model.specs.TaskRun.{TaskState, is_over, task_byte, task_write, task_on, task_step, task_trapped, memory_write, zeroed_output, zeroed_outputs, task_start, task_actor, task_end}
@@ -86,7 +87,7 @@ module _ (a : ℕ) where
       next = task_on memory_write s (core_step actor (task_byte byte_at s) (code_word code) s.registers)
 
       by : (o c : Bool)
-          → HasByte (cond o s (cond c (task_trapped s (trap_of s.registers budget_spent 0)) next)).memory a
+          → HasByte (cond o s (cond c (task_trapped s (trap_of s.registers BUDGET_SPENT 0)) next)).memory a
       by true c = h
       by false true = h
       by false false = kept_on s (core_step actor (task_byte byte_at s) (code_word code) s.registers) h
@@ -126,7 +127,7 @@ module _ (a : ℕ) where
   kept_main_step code limits f h = by (is_some f.main.ending) (has_spent limits f.main)
     where
       by : (e s : Bool)
-          → HasByte (cond e f (cond s (record f { main = main_refused f.main main_budget_spent })
+          → HasByte (cond e f (cond s (record f { main = main_refused f.main MAIN_BUDGET_SPENT })
           (main_on f (main_core code f)))).memory a
       by true s = h
       by false true = h
@@ -204,7 +205,7 @@ module _ (a : ℕ) where
         next = task_on (worker_write placed) s
             (core_step actor (task_byte (worker_byte placed) s) (code_word code) s.registers)
 
-        by : (o c : Bool) → AtHome (cond o s (cond c (task_trapped s (trap_of s.registers budget_spent 0)) next)).memory
+        by : (o c : Bool) → AtHome (cond o s (cond c (task_trapped s (trap_of s.registers BUDGET_SPENT 0)) next)).memory
         by true c = h
         by false true = h
         by false false =

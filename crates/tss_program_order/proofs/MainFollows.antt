@@ -7,7 +7,7 @@ use Rattle.tss_base.specs.declared.ending.Ending.{Ending}
 use Rattle.tss_base.specs.declared.ending.Ending.TheVariants.{Refused}
 use Rattle.tss_base.specs.declared.machine.Machine.{Machine}
 use Rattle.tss_base.specs.Image.{ImageState}
-use Rattle.tss_model.specs.Causes.{main_budget_spent}
+use Rattle.tss_base.specs.declared.refusals.TheConstants.{MAIN_BUDGET_SPENT}
 use Rattle.tss_model.specs.TaskRun.{repeated}
 use Rattle.tss_model.specs.MainStep.{MainState, Flat, output_of}
 use Rattle.tss_model.specs.InOrder.{ReferenceState, is_executed, flat_stepped, main_after, in_order}
@@ -76,8 +76,8 @@ follows_to_end m i S e follows ended =
     record {
       ending =
           ap (λ (r : ReferenceState). r.ending) order
-          ∙ ap (λ (x : MainState). unwrap_or x.ending (Refused main_budget_spent x.registers.pc)) (sym follows.main)
-          ∙ ap (λ (o : Option Ending). unwrap_or o (Refused main_budget_spent S.main.registers.pc)) ended;
+          ∙ ap (λ (x : MainState). unwrap_or x.ending (Refused MAIN_BUDGET_SPENT x.registers.pc)) (sym follows.main)
+          ∙ ap (λ (o : Option Ending). unwrap_or o (Refused MAIN_BUDGET_SPENT S.main.registers.pc)) ended;
       tasks = ap (λ (r : ReferenceState). r.tasks) order ∙ ap (λ (x : MainState). x.spawned) (sym follows.main);
       output =
           ap (λ (r : ReferenceState). r.output) order ∙ ap (λ (x : MainState). output_of x.pieces) (sym follows.main);

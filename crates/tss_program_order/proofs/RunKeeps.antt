@@ -12,7 +12,7 @@ use Rattle.tss_base.specs.declared.machine.Machine.{Machine}
 use Rattle.tss_base.specs.declared.event.Event.{Event}
 use Rattle.tss_base.specs.declared.event.Event.TheVariants as event
 use Rattle.tss_base.specs.Image.{SegmentState, ImageState}
-use Rattle.tss_model.specs.Causes.{budget_spent}
+use Rattle.tss_base.specs.declared.causes.TheConstants.{BUDGET_SPENT}
 use Rattle.tss_model.specs.Memory.{MemoryRange, scratch_range, covers, zeros, zeroed, loaded, frozen, memory_ranges, code_word}
 use Rattle.tss_model.specs.Registers.{trap_of}
 use Rattle.tss_model.specs.Access.{Actor, TaskActor, operands_of, reads}
@@ -183,7 +183,7 @@ module _ (placed : List Placed) (ranges : List MemoryRange) where
           (core_step actor (task_byte (worker_byte placed) s) (code_word code) s.registers)
 
       by : (o b : Bool)
-          → HasRanges ranges (cond o s (cond b (task_trapped s (trap_of s.registers budget_spent 0)) next)).memory
+          → HasRanges ranges (cond o s (cond b (task_trapped s (trap_of s.registers BUDGET_SPENT 0)) next)).memory
       by true b = h
       by false true = h
       by false false =

@@ -11,7 +11,7 @@ use Rattle.tss_base.specs.declared.machine.Limits.{Limits}
 use Rattle.tss_base.specs.declared.machine.Machine.{Machine}
 use Rattle.tss_base.specs.Image.{SegmentState, ImageState}
 use Rattle.tss_model.specs.Memory.{MemoryRange, Memory, covers, frozen, byte_at, bytes_of}
-use Rattle.tss_model.specs.Registers.{Registers, end_pc}
+use Rattle.tss_model.specs.Registers.{Registers}
 use Rattle.tss_model.specs.Access.{TaskActor, operands_of}
 use Rattle.tss_model.specs.TaskRun.{TaskState, repeated, task_step, task_stretch, memory_write, task_start, task_stepped, task_after, TaskEnd, is_over}
 use Rattle.tss_model.specs.InOrder.{started_at, Started, end_of_started}
@@ -25,6 +25,7 @@ use Rattle.tss_program_order.proofs.FlatTaskEnds.{task_stepped-counts, task_afte
 use Rattle.tss_program_order.proofs.StoreBytes.{IsPlaced, AreSeparate, HaveRoom}
 use Rattle.tss_program_order.proofs.StoreRuns.{InScope, WorksAlike, exec_stretch-alike, stored_bytes-same}
 use Rattle.tss_program_order.proofs.StoreStart.{FindsOperands, placed_in-parts, start-alike}
+use Rattle.tss_base.specs.declared.addresses.TheConstants.{END_PC}
 
 -- a worker runs a task that program order starts, and stands where the task does after so many steps
 pub record RunsInOrder (m : Machine) (i : ImageState) (s : Stores) (b : Busy) : Type 0 where
@@ -168,7 +169,7 @@ pub runs-end : (m : Machine) (i : ImageState) (s : Stores) (b : Busy) (r : RunsI
 runs-end m i s b r ended =
     let now = task_stepped (frozen i) m.limits r.memory b.task r.steps in
     let over : is_over now ≡ true =
-    (λ j. is_some (sym r.alike.trap j) || ((sym r.alike.registers j).pc == end_pc)) ∙ ended in
+    (λ j. is_some (sym r.alike.trap j) || ((sym r.alike.registers j).pc == END_PC)) ∙ ended in
     let end = task_end-over (frozen i) m.limits r.memory b.task r.steps over in
     record {
       trap = ap (λ (e : TaskEnd). e.trap) end ∙ sym r.alike.trap;

@@ -15,7 +15,7 @@ use Rattle.tss_model.specs.MainStep.{MainState}
 use Rattle.tss_protocol.specs.Names.{bank_of, station_of}
 use Rattle.tss_protocol.specs.Mail.{Home, Source, OpenContents, ReleaseContents, IdleContents, Bye, Idle, no_mail}
 use Rattle.tss_protocol.specs.State.{State, Flying, Busy, Entry, Version}
-use Rattle.tss_base.specs.declared.event.Stage.TheVariants.{Running, Finished}
+use Rattle.tss_base.specs.declared.marks.Stage.TheVariants.{Running, Finished}
 use Rattle.tss_protocol.specs.Stations.{new_operand, entered, task_after_ready, awaited, woken_in, finished_in, parted_in}
 use Rattle.tss_protocol.specs.Versions.{first_version, after_open, released_once, sending, settle, settled, settle_at, released_at}
 use Rattle.tss_protocol.specs.Workers.{can_start, busy_at_start, can_exec, exec_stretch, busy_after, can_finish}

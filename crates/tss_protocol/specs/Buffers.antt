@@ -1,6 +1,7 @@
 -- The bytes of rename buffers, and the copy engines that bring a retired version's bytes home.
 use Rattle.std.specs.Prelude.{ℕ, ◌+◌, ◌-◌, Bool, true, false, nat_le, min, List, [], ◌∷◌, take, drop, Option, Some, None, is_none, unwrap_or}
 use Rattle.std.specs.FinMap.{get, insert, remove}
+use Rattle.tss_base.specs.declared.bounds.TheConstants.{COPY_BYTES}
 use Rattle.tss_base.specs.declared.range.Range.{Range}
 use Rattle.tss_base.specs.declared.operand.OpName.{OpName}
 use Rattle.tss_base.specs.Names.{Named, Numbered}
@@ -44,11 +45,11 @@ copies_after_retire copies bank v object None = copies
 copies_after_retire copies bank v object (Some Home) = copies
 copies_after_retire copies bank v object (Some (Buffer n)) = insert copies bank (new_copy v object n)
 
--- ---- copy: the next 64 bytes go home, or the fewer that are left
+-- ---- copy: the next piece goes home, of so many bytes or the fewer that are left
 
 -- the bytes of the next piece
 abbrev pub piece_len : CopyState → ℕ
-piece_len c = min 64 (c.object.len - c.moved)
+piece_len c = min COPY_BYTES (c.object.len - c.moved)
 
 -- the next piece of a buffer
 abbrev pub piece_of : CopyState → List ℕ → List ℕ
@@ -60,7 +61,7 @@ home_after_copy home c bytes = put_bytes home (c.object.base + c.moved) (piece_o
 
 -- these are the last
 abbrev pub is_last_piece : CopyState → Bool
-is_last_piece c = nat_le c.object.len (c.moved + 64)
+is_last_piece c = nat_le c.object.len (c.moved + COPY_BYTES)
 
 -- after the last the bank's copy is idle, and the version is gone with its buffer
 abbrev pub copies_after_copy : Numbered CopyState → ℕ → CopyState → Bool → Numbered CopyState

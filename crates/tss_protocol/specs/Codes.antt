@@ -8,20 +8,20 @@ use Rattle.tss_base.specs.contracts.operand.Operand as operand
 use Rattle.tss_base.specs.contracts.operand.Task as task
 use Rattle.tss_base.specs.contracts.ending.Trap as trap
 use Rattle.tss_base.specs.contracts.ending.Ending as ending
-use Rattle.tss_base.specs.contracts.event.Stage as stage
-use Rattle.tss_base.specs.contracts.event.LinkState as link
-use Rattle.tss_base.specs.contracts.event.Farewell as farewell
-use Rattle.tss_base.specs.contracts.event.Follow as follow
+use Rattle.tss_base.specs.contracts.marks.Stage as stage
+use Rattle.tss_base.specs.contracts.marks.LinkState as link
+use Rattle.tss_base.specs.contracts.marks.Farewell as farewell
+use Rattle.tss_base.specs.contracts.marks.Follow as follow
 use Rattle.tss_base.specs.declared.range.Range.{Range}
 use Rattle.tss_base.specs.declared.operand.OpName.{OpName}
 use Rattle.tss_base.specs.declared.operand.Operand.{Operand}
 use Rattle.tss_base.specs.declared.operand.Task.{Task}
 use Rattle.tss_base.specs.declared.ending.Trap.{Trap}
 use Rattle.tss_base.specs.declared.ending.Ending.{Ending}
-use Rattle.tss_base.specs.declared.event.Stage.{Stage}
-use Rattle.tss_base.specs.declared.event.LinkState.{LinkState}
-use Rattle.tss_base.specs.declared.event.Farewell.{Farewell}
-use Rattle.tss_base.specs.declared.event.Follow.{Follow}
+use Rattle.tss_base.specs.declared.marks.Stage.{Stage}
+use Rattle.tss_base.specs.declared.marks.LinkState.{LinkState}
+use Rattle.tss_base.specs.declared.marks.Farewell.{Farewell}
+use Rattle.tss_base.specs.declared.marks.Follow.{Follow}
 use Rattle.tss_base.specs.Names.{Named, Numbered}
 use Rattle.tss_base.specs.Image.{SegmentState}
 use Rattle.tss_model.specs.Memory.{MemoryRange, Memory}

@@ -1,10 +1,11 @@
 -- How full the tables are, their sizes, the peaks of a run, and the bound on its events.
-use Rattle.std.specs.Prelude.{ℕ, zero, suc, ◌+◌, ◌*◌, ◌/◌, ◌≤◌, max, List, [], ◌∷◌, length}
+use Rattle.std.specs.Prelude.{ℕ, zero, suc, ◌+◌, ◌-◌, ◌*◌, ◌/◌, ◌≤◌, max, List, [], ◌∷◌, length}
+use Rattle.tss_base.specs.declared.bounds.TheConstants.{COPY_BYTES}
 use Rattle.std.specs.FinMap.{len}
 use Rattle.tss_base.specs.declared.machine.Machine.{Machine}
 use Rattle.tss_base.specs.declared.event.Event.{Event}
-use Rattle.tss_base.specs.declared.event.Counts.{Counts}
-use Rattle.tss_base.specs.declared.event.Peaks.{Peaks}
+use Rattle.tss_base.specs.declared.counts.Counts.{Counts}
+use Rattle.tss_base.specs.declared.counts.Peaks.{Peaks}
 use Rattle.tss_protocol.specs.Mail.{message_count}
 use Rattle.tss_protocol.specs.State.{State}
 use Rattle.tss_protocol.specs.Stations.{tasks_in}
@@ -81,9 +82,9 @@ peak_counts m S (e ∷ es) = greater_counts (counts_of m S) (peak_counts m (afte
 abbrev pub peaks_of : Machine → State → List Event → Peaks
 peaks_of m S es = record { events = length es; counts = peak_counts m S es }
 
--- how many pieces of 64 bytes the longest object has
+-- how many pieces the longest object has
 abbrev pub pieces_of_object : Machine → ℕ
-pieces_of_object m = (m.limits.object_bytes + 63) / 64
+pieces_of_object m = (m.limits.object_bytes + (COPY_BYTES - 1)) / COPY_BYTES
 
 -- no run has more events. Of an operand: decode, ack, open or use, ready, link, release, bye, idle, its nack or retire,
 -- gone, and its copies

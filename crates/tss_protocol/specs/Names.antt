@@ -1,6 +1,7 @@
 -- Names of the unit machine: banks and stations by number, the operands of a task, and events by their kinds.
 use Rattle.std.specs.Prelude.{ℕ, ◌-◌, ◌/◌, ◌%◌, Bool}
 use Rattle.std.specs.Ordering.{eq_by_cmp}
+use Rattle.tss_base.specs.declared.bounds.TheConstants.{BANK_BYTES}
 use Rattle.tss_base.specs.declared.range.Range.{Range}
 use Rattle.tss_base.specs.declared.operand.OpName.{OpName}
 use Rattle.tss_base.specs.declared.machine.Sizes.{Sizes}
@@ -10,7 +11,7 @@ use Rattle.tss_base.specs.Names.{name_cmp}
 
 -- the bank of an object, of the tables for renaming and versioning
 abbrev pub bank_of : Sizes → Range → ℕ
-bank_of sizes object = object.base / 64 % sizes.banks
+bank_of sizes object = object.base / BANK_BYTES % sizes.banks
 
 -- the station of a task by its number
 abbrev pub station_of : Sizes → ℕ → ℕ

@@ -7,9 +7,9 @@ use Rattle.tss_base.specs.declared.operand.Mode.{Mode}
 use Rattle.tss_base.specs.declared.operand.Mode.TheVariants.{Input, Output, Inout}
 use Rattle.tss_base.specs.declared.operand.Operand.{Operand}
 use Rattle.tss_base.specs.declared.machine.Sizes.{Sizes}
-use Rattle.tss_base.specs.declared.event.How.{How}
-use Rattle.tss_base.specs.declared.event.How.TheVariants.{Beside, Over}
-use Rattle.tss_base.specs.declared.event.Follow.{Follow}
+use Rattle.tss_base.specs.declared.marks.How.{How}
+use Rattle.tss_base.specs.declared.marks.How.TheVariants.{Beside, Over}
+use Rattle.tss_base.specs.declared.marks.Follow.{Follow}
 use Rattle.tss_base.specs.Names.{Named, Numbered}
 use Rattle.tss_maps.specs.Sums.{count_of}
 use Rattle.tss_protocol.specs.Names.{bank_of, same_name}

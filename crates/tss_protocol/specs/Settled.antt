@@ -2,8 +2,8 @@
 use Rattle.std.specs.Prelude.{◌≡◌, true, false, Some, None}
 use Rattle.std.specs.FinMap.{get}
 use Rattle.tss_base.specs.declared.operand.OpName.{OpName}
-use Rattle.tss_base.specs.declared.event.How.{How}
-use Rattle.tss_base.specs.declared.event.Follow.{Follow}
+use Rattle.tss_base.specs.declared.marks.How.{How}
+use Rattle.tss_base.specs.declared.marks.Follow.{Follow}
 use Rattle.tss_base.specs.Names.{Named}
 use Rattle.tss_protocol.specs.State.{Version}
 use Rattle.tss_protocol.specs.Versions.{may_die, may_ask}

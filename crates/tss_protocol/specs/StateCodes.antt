@@ -6,10 +6,10 @@ use Rattle.tss_base.specs.declared.operand.OpName.{OpName}
 use Rattle.tss_base.specs.declared.operand.Operand.{Operand}
 use Rattle.tss_base.specs.declared.operand.Task.{Task}
 use Rattle.tss_base.specs.declared.ending.Trap.{Trap}
-use Rattle.tss_base.specs.declared.event.Stage.{Stage}
-use Rattle.tss_base.specs.declared.event.LinkState.{LinkState}
-use Rattle.tss_base.specs.declared.event.Farewell.{Farewell}
-use Rattle.tss_base.specs.declared.event.Follow.{Follow}
+use Rattle.tss_base.specs.declared.marks.Stage.{Stage}
+use Rattle.tss_base.specs.declared.marks.LinkState.{LinkState}
+use Rattle.tss_base.specs.declared.marks.Farewell.{Farewell}
+use Rattle.tss_base.specs.declared.marks.Follow.{Follow}
 use Rattle.tss_base.specs.Names.{Named, Numbered}
 use Rattle.tss_base.specs.Image.{SegmentState}
 use Rattle.tss_model.specs.Memory.{Memory}

@@ -9,8 +9,8 @@ use Rattle.tss_base.specs.declared.operand.Task.{Task}
 use Rattle.tss_base.specs.declared.machine.Machine.{Machine}
 use Rattle.tss_base.specs.declared.event.Event.{Event}
 use Rattle.tss_base.specs.declared.event.Event.TheVariants as event
-use Rattle.tss_base.specs.declared.event.Stage.{Stage}
-use Rattle.tss_base.specs.declared.event.Stage.TheVariants as stage
+use Rattle.tss_base.specs.declared.marks.Stage.{Stage}
+use Rattle.tss_base.specs.declared.marks.Stage.TheVariants as stage
 use Rattle.tss_base.specs.Names.{Numbered}
 use Rattle.tss_protocol.specs.Names.{bank_of}
 use Rattle.tss_protocol.specs.Mail.{Source, OpenContents, ReleaseContents, IdleContents, GoneContents, Message, posted_all, taken, early_names, late_names, gone_names}

@@ -9,7 +9,7 @@ use Rattle.tss_base.specs.declared.machine.Limits.{Limits}
 use Rattle.tss_base.specs.Names.{Named}
 use Rattle.tss_base.specs.Image.{SegmentState}
 use Rattle.tss_model.specs.Memory.{Memory, scratch_range, covers, zeros, list_put, byte_at, bytes_of, zeroed}
-use Rattle.tss_model.specs.Registers.{task_registers, end_pc}
+use Rattle.tss_model.specs.Registers.{task_registers}
 use Rattle.tss_model.specs.Access.{TaskActor, operands_of, reads}
 use Rattle.tss_model.specs.Core.{Write}
 use Rattle.tss_model.specs.TaskRun.{TaskState, task_stretch, memory_write}
@@ -17,6 +17,7 @@ use Rattle.tss_protocol.specs.Mail.{StorageName, Home, Buffer}
 use Rattle.tss_protocol.specs.State.{Flying, Busy, HeldTrap}
 use Rattle.tss_protocol.specs.Stations.{storages_of}
 use Rattle.tss_protocol.specs.Buffers.{buffer_bytes}
+use Rattle.tss_base.specs.declared.addresses.TheConstants.{END_PC}
 
 -- ---- storages
 
@@ -118,7 +119,7 @@ stores_after_start limits s x = outputs_zeroed limits s (operands_of x.task) (st
 
 -- its task has trapped, or its pc is where a task ends
 abbrev pub has_ended : Busy → Bool
-has_ended b = is_some b.trap || (b.registers.pc == end_pc)
+has_ended b = is_some b.trap || (b.registers.pc == END_PC)
 
 -- exec may happen
 abbrev pub can_exec : Option Busy → Bool

@@ -2,7 +2,7 @@
 use Rattle.std.proofs.Common.{◌≡◌, ℕ, ◌+◌, ◌<◌, List, [], ◌++◌, drop, get_or, refl, ap}
 use Rattle.std.specs.Prelude.{flat_map}
 use Rattle.std.proofs.lemmas.List.{drop_more}
-use Rattle.tss_base.specs.declared.event.Counts.{Counts}
+use Rattle.tss_base.specs.declared.counts.Counts.{Counts}
 use Rattle.tss_report.specs.declared.peaks.Count.{Count}
 use Rattle.tss_report.specs.declared.peaks.Count.TheVariants.{Messages}
 use Rattle.tss_report.specs.Peaks.{all_counts, peak_text, counts_text}

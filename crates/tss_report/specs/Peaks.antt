@@ -1,7 +1,7 @@
 -- The greatest counts of a run, each with its size.
 use Rattle.std.specs.Prelude.{ℕ, List, [], ◌∷◌, ◌++◌, codes, decimal, flat_map}
-use Rattle.tss_base.specs.declared.event.Counts.{Counts}
-use Rattle.tss_base.specs.declared.event.Peaks.{Peaks}
+use Rattle.tss_base.specs.declared.counts.Counts.{Counts}
+use Rattle.tss_base.specs.declared.counts.Peaks.{Peaks}
 use Rattle.tss_report.specs.declared.peaks.Count.{Count}
 use Rattle.tss_report.specs.declared.peaks.Count.TheVariants.{Messages, Slots, Ready, Workers, Entries, Versions, Buffers}
 use Rattle.tss_report.specs.Pieces.{joined}

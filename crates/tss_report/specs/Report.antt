@@ -7,8 +7,8 @@ use Rattle.tss_report.specs.Rows.{changed_text}
 use Rattle.tss_report.specs.Peaks.{peaks_text}
 use Rattle.tss_base.specs.declared.ending.Ending.{Ending}
 use Rattle.tss_base.specs.declared.ending.Ending.TheVariants.{Exit, MainTrap, TaskTrap, Refused}
-use Rattle.tss_base.specs.declared.event.Counts.{Counts}
-use Rattle.tss_base.specs.declared.event.Peaks.{Peaks}
+use Rattle.tss_base.specs.declared.counts.Counts.{Counts}
+use Rattle.tss_base.specs.declared.counts.Peaks.{Peaks}
 use Rattle.tss_model.specs.Memory.{Memory}
 
 -- the lines that say how a run ended, how many tasks were spawned, and what was printed, by their parts

@@ -15,7 +15,8 @@ use Rattle.tss_run.specs.declared.outcome.Input.{Input}
 use Rattle.tss_run.specs.declared.outcome.Input.TheVariants as input
 use Rattle.tss_run.specs.declared.outcome.Refusal.{Refusal}
 use Rattle.tss_run.specs.declared.outcome.Refusal.TheVariants as refusal
-use Rattle.tss_run.specs.Answer.{Names, inorder_names, machine_limit, image_limit, machine_answer, described_machine, image_answer, accepted_image, within, machine_from, image_from, Outcome, Inputs, inputs_held, outcome_of_image, outcome_of_machine, outcome_of, files_after_machine, files_read, Gives, IsRead, Reads, FailsToRead, Answers, status_of, text_of}
+use Rattle.tss_run.specs.Answer.{Names, inorder_names, machine_answer, described_machine, image_answer, accepted_image, within, machine_from, image_from, Outcome, Inputs, inputs_held, outcome_of_image, outcome_of_machine, outcome_of, files_after_machine, files_read, Gives, IsRead, Reads, FailsToRead, Answers, status_of, text_of}
+use Rattle.tss_base.specs.declared.bounds.TheConstants.{MACHINE_FILE_BYTES, IMAGE_FILE_BYTES}
 
 none_some : {X : Type 0} {x : X} → None ≡ Some x → ⊥
 none_some e = cc
@@ -93,10 +94,10 @@ within-of_bytes which limit from bytes h =
     elim (nat_lt limit (length bytes)) as (λ b. AreOfBytes (cond b (Err (refusal.TooLong which)) (from bytes))) [ true ↦ tt | false ↦ h ]
 
 machine_from-of_bytes : (bytes : List ℕ) → AreOfBytes (machine_from bytes)
-machine_from-of_bytes bytes = within-of_bytes input.Machine machine_limit described_machine bytes (described-of_bytes bytes)
+machine_from-of_bytes bytes = within-of_bytes input.Machine MACHINE_FILE_BYTES described_machine bytes (described-of_bytes bytes)
 
 image_from-of_bytes : (bytes : List ℕ) → AreOfBytes (image_from bytes)
-image_from-of_bytes bytes = within-of_bytes input.Image image_limit accepted_image bytes (accepted-of_bytes bytes)
+image_from-of_bytes bytes = within-of_bytes input.Image IMAGE_FILE_BYTES accepted_image bytes (accepted-of_bytes bytes)
 
 -- ---- an answer about a file
 

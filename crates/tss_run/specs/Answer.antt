@@ -3,6 +3,7 @@ use Rattle.std.specs.Prelude.{◌≡◌, ℕ, nat_lt, if◌then◌else◌, List,
 use Rattle.std.specs.Fmt.{decimal}
 use Rattle.std.specs.Str.{bytes_eq}
 use Rattle.std.proofs.Common.{String, Vec, Global}
+use Rattle.tss_base.specs.declared.bounds.TheConstants.{MACHINE_FILE_BYTES, IMAGE_FILE_BYTES}
 use Rattle.tss_base.specs.declared.ending.Ending.{Ending}
 use Rattle.tss_base.specs.declared.ending.Ending.TheVariants as ending
 use Rattle.tss_base.specs.declared.machine.Machine.{Machine}
@@ -42,13 +43,6 @@ inorder_names words = None
 
 -- ---- what the bytes of a file come to
 
--- the longest files that a machine and an image may have
-abbrev pub machine_limit : ℕ
-machine_limit = 65536
-
-abbrev pub image_limit : ℕ
-image_limit = 33554432
-
 -- the machine that bytes describe, or why they are refused
 abbrev pub machine_answer : Result Machine MachineFault → Result Machine Refusal
 machine_answer (Ok m) = Ok m
@@ -71,11 +65,11 @@ within which limit from bytes = if nat_lt limit (length bytes) then Err (refusal
 
 -- the machine of a file's bytes
 abbrev pub machine_from : List ℕ → Result Machine Refusal
-machine_from bytes = within input.Machine machine_limit described_machine bytes
+machine_from bytes = within input.Machine MACHINE_FILE_BYTES described_machine bytes
 
 -- the image of a file's bytes
 abbrev pub image_from : List ℕ → Result ImageState Refusal
-image_from bytes = within input.Image image_limit accepted_image bytes
+image_from bytes = within input.Image IMAGE_FILE_BYTES accepted_image bytes
 
 -- ---- the outcome
 

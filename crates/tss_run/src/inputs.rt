@@ -6,16 +6,11 @@ ghost use Rattle.tss_run.specs.Answer.{words_of, inorder_names as inorder_names_
 
 use crate::outcome::{Input, Refusal};
 use std::alloc::Global;
+use tss_base::bounds::{IMAGE_FILE_BYTES, MACHINE_FILE_BYTES};
 use tss_base::{Image, Machine};
 use tss_elf::{ImageFault, read_image};
 use tss_machine::read_machine;
 use tss_outside::{FileFault, Files};
-
-/// The most bytes that the file of a machine may have.
-const MACHINE_LIMIT: u64 = 65_536;
-
-/// The most bytes that the file of an image may have.
-const IMAGE_LIMIT: u64 = 33_554_432;
 
 /// The image and the machine that `inorder IMAGE MACHINE` names. None where the words are no such command.
 pub fn inorder_names(words: &[String]) -> Option<(&str, &str)>
@@ -82,7 +77,7 @@ pub fn machine_in<F: Files>(alloc: Global, files: &mut F, name: &str) -> Result<
     ensures never_falls { (n : List ℕ) → F.read_faults files.old n ≤ F.read_faults files.new n }
     ensures held { F.held files.new ≡ F.held files.old }
 {
-    let bytes = read(alloc, files, Input::Machine, name, MACHINE_LIMIT)?;
+    let bytes = read(alloc, files, Input::Machine, name, MACHINE_FILE_BYTES)?;
     described_machine(alloc, bytes.as_slice())
 }
 
@@ -92,6 +87,6 @@ pub fn image_in<F: Files>(alloc: Global, files: &mut F, name: &str) -> Result<Im
     ensures never_falls { (n : List ℕ) → F.read_faults files.old n ≤ F.read_faults files.new n }
     ensures held { F.held files.new ≡ F.held files.old }
 {
-    let bytes = read(alloc, files, Input::Image, name, IMAGE_LIMIT)?;
+    let bytes = read(alloc, files, Input::Image, name, IMAGE_FILE_BYTES)?;
     accepted_image(alloc, bytes.as_slice())
 }

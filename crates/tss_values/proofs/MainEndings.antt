@@ -16,7 +16,8 @@ use Rattle.tss_model.specs.Registers.{trap_of}
 use Rattle.tss_model.specs.Access.{touches}
 use Rattle.tss_model.specs.Core.{Stepped, Executed, Called, Ended, Trapped, Touched}
 use Rattle.tss_model.specs.TaskRun.{repeated}
-use Rattle.tss_model.specs.Causes.{main_budget_spent, main_touch, load_denied, output_full}
+use Rattle.tss_base.specs.declared.causes.TheConstants.{LOAD_DENIED}
+use Rattle.tss_base.specs.declared.refusals.TheConstants.{MAIN_BUDGET_SPENT, MAIN_TOUCH, OUTPUT_FULL}
 use Rattle.tss_model.specs.MainStep.{MainState, Flat, Call, ExitCall, Spawn, Barrier, Print, Unknown, main_refused, main_trapped, call_done, output_of, print_done, print_some, has_spent, main_on, main_core, main_step, main_stretch, spawn_call, spawn_on, print_call, print_range}
 use Rattle.tss_model.specs.Spawn.{spawn_of}
 use Rattle.tss_protocol.specs.State.{State, initial_state}
@@ -56,7 +57,7 @@ own_step : (code : List SegmentState) (limits : Limits) (f : Flat) → EndsItsel
     → EndsItself (main_step code limits f).main
 unfolding main_step
 own_step code limits f h =
-    let spent : Flat = record f { main = main_refused f.main main_budget_spent } in
+    let spent : Flat = record f { main = main_refused f.main MAIN_BUDGET_SPENT } in
     let on = main_on f (main_core code f) in
     own_if (is_some f.main.ending) f (cond (has_spent limits f.main) spent on) h
     (own_if (has_spent limits f.main) spent on refl (own_on f h (main_core code f)))
@@ -71,14 +72,14 @@ own_stretch code limits (suc n) f h =
 own_print : (limits : Limits) (memory : Memory) (x : MainState) (r : Range) → EndsItself x
     → EndsItself (print_call limits memory x r)
 own_print limits memory x r h =
-    let full = main_refused x output_full in
+    let full = main_refused x OUTPUT_FULL in
     let done = print_done x (bytes_of memory r) in
     let fits = cond (nat_lt limits.output_bytes (length (output_of x.pieces) + r.len)) full done in
-    let touching = cond (touches x.epoch r) (main_refused x main_touch) fits in
-    let placed = main_trapped x (trap_of x.registers load_denied r.base) in
+    let touching = cond (touches x.epoch r) (main_refused x MAIN_TOUCH) fits in
+    let placed = main_trapped x (trap_of x.registers LOAD_DENIED r.base) in
     own_cond (r.len == 0) (call_done x) (print_some limits memory x r) h
     (own_cond (is_none (range_of memory.ranges r)) placed touching refl
-    (own_cond (touches x.epoch r) (main_refused x main_touch) fits refl
+    (own_cond (touches x.epoch r) (main_refused x MAIN_TOUCH) fits refl
     (own_cond (nat_lt limits.output_bytes (length (output_of x.pieces) + r.len)) full done refl h)))
 
 module _ (m : Machine) (S : State) (h : EndsItself S.main) where

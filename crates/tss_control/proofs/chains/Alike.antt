@@ -8,7 +8,7 @@ use Rattle.tss_base.specs.declared.operand.OpName.{OpName}
 use Rattle.tss_base.specs.declared.operand.Mode.TheVariants.{Input, Inout}
 use Rattle.tss_base.specs.declared.operand.Operand.{Operand}
 use Rattle.tss_base.specs.declared.operand.Task.{Task}
-use Rattle.tss_base.specs.declared.event.Follow.{Follow}
+use Rattle.tss_base.specs.declared.marks.Follow.{Follow}
 use Rattle.tss_protocol.specs.Mail.{OpenContents}
 use Rattle.tss_protocol.specs.State.{State, Version}
 use Rattle.tss_control.specs.Members.{IsOn, NoWriterBetween, IsVersionOf, IsOpenOf, IsMember, registered_of, opening_reader, uses_of, total}

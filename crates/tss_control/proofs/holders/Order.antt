@@ -9,7 +9,7 @@ use Rattle.std.proofs.lemmas.Bool.{and_parts}
 use Rattle.tss_base.specs.declared.operand.OpName.{OpName}
 use Rattle.tss_base.specs.declared.operand.Task.{Task}
 use Rattle.tss_base.specs.declared.machine.Machine.{Machine}
-use Rattle.tss_base.specs.declared.event.Stage.TheVariants as stage
+use Rattle.tss_base.specs.declared.marks.Stage.TheVariants as stage
 use Rattle.tss_protocol.specs.Mail.{Source}
 use Rattle.tss_protocol.specs.State.{State, OperandState, Flying}
 use Rattle.tss_protocol.specs.Stations.{operand_at, is_ready, is_complete}

@@ -6,9 +6,9 @@ use Rattle.std.proofs.lemmas.Option.{none-some, same_Some}
 use Rattle.tss_base.specs.declared.operand.OpName.{OpName}
 use Rattle.tss_base.specs.declared.operand.Operand.{Operand}
 use Rattle.tss_base.specs.declared.operand.Task.{Task}
-use Rattle.tss_base.specs.declared.event.Farewell.{Farewell}
-use Rattle.tss_base.specs.declared.event.Farewell.TheVariants as farewell
-use Rattle.tss_base.specs.declared.event.LinkState.TheVariants as link
+use Rattle.tss_base.specs.declared.marks.Farewell.{Farewell}
+use Rattle.tss_base.specs.declared.marks.Farewell.TheVariants as farewell
+use Rattle.tss_base.specs.declared.marks.LinkState.TheVariants as link
 use Rattle.tss_base.specs.Names.{Numbered}
 use Rattle.tss_protocol.specs.State.{State, OperandState, Flying}
 use Rattle.tss_protocol.specs.Stations.{operand_at, is_gone, remaining_tasks}

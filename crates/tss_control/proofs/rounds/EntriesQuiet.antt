@@ -7,8 +7,8 @@ use Rattle.tss_base.specs.declared.operand.Task.{Task}
 use Rattle.tss_base.specs.declared.machine.Machine.{Machine}
 use Rattle.tss_base.specs.declared.event.Event.{Event}
 use Rattle.tss_base.specs.declared.event.Event.TheVariants as event
-use Rattle.tss_base.specs.declared.event.Farewell.{Farewell}
-use Rattle.tss_base.specs.declared.event.Farewell.TheVariants as farewell
+use Rattle.tss_base.specs.declared.marks.Farewell.{Farewell}
+use Rattle.tss_base.specs.declared.marks.Farewell.TheVariants as farewell
 use Rattle.tss_model.specs.Access.{operands_of}
 use Rattle.tss_protocol.specs.Mail.{Source, Message, Decode, Ack, Open, Use, Ready, Link, Release, Bye, Idle, Nack, Retire, Gone, Mail, posted, posted_all}
 use Rattle.tss_protocol.specs.State.{State, OperandState, Flying, Busy}

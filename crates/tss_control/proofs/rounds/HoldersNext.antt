@@ -3,7 +3,7 @@ use Rattle.std.proofs.Common.{◌≡◌, List, Some, sym, ◌∙◌, subst, ap, 
 use Rattle.std.specs.FinMap.{get}
 use Rattle.tss_base.specs.declared.operand.OpName.{OpName}
 use Rattle.tss_base.specs.declared.operand.Task.{Task}
-use Rattle.tss_base.specs.declared.event.LinkState.TheVariants as link
+use Rattle.tss_base.specs.declared.marks.LinkState.TheVariants as link
 use Rattle.tss_protocol.specs.State.{State, Version}
 use Rattle.tss_phases.specs.Phase.{Waiting, phase_of}
 use Rattle.tss_control.specs.Readers.{Arrivals, Has, Holds, IsLinking, HasReaders}

@@ -14,7 +14,7 @@ use Rattle.tss_base.specs.Machine.{IsAdmissible}
 use Rattle.tss_maps.proofs.Keys.{nat_order}
 use Rattle.tss_maps.proofs.Sums.{sum_written}
 use Rattle.tss_model.specs.Memory.{MemoryRange, range_of, scratch_range, covers, code_word, list_put}
-use Rattle.tss_model.specs.Registers.{end_pc}
+use Rattle.tss_base.specs.declared.addresses.TheConstants.{END_PC}
 use Rattle.tss_model.specs.Access.{TaskActor, Purpose, Touch, Granted, Denied, operands_of, task_access, task_may_within}
 use Rattle.tss_model.specs.Core.{Write, Stepped, Executed, Called, Ended, Trapped, Touched, core_step}
 use Rattle.tss_model.specs.TaskRun.{TaskState, repeated, is_over, task_byte, task_write, task_on, task_step}
@@ -72,7 +72,7 @@ module _ {M : Type 0} (byte : M → ℕ → ℕ) (write : M → Write → M) (bu
       let same = ap trap_left (write_keeps s w) in omega (arith, is.0, left, same)
   on_less s Called on is left one = omega (arith, one)
   on_less s Ended on is left one =
-      absurd (both_ways _ (or_parts (is_some s.trap) (s.registers.pc == end_pc) on).1 is)
+      absurd (both_ways _ (or_parts (is_some s.trap) (s.registers.pc == END_PC) on).1 is)
   on_less s (Trapped t) on is left one = omega (arith, one)
   on_less s Touched on is left one = absurd (never_touched ranges operands is.0 is.1 is.2)
 
@@ -108,7 +108,7 @@ module _ {M : Type 0} (byte : M → ℕ → ℕ) (write : M → Write → M) (bu
   step_less s on = by (nat_le budget s.registers.done) refl
     where
       one : trap_left s.trap ≡ 1
-      one = trap_one s.trap (or_parts (is_some s.trap) (s.registers.pc == end_pc) on).0
+      one = trap_one s.trap (or_parts (is_some s.trap) (s.registers.pc == END_PC) on).0
 
       by : (b : Bool) → nat_le budget s.registers.done ≡ b → LeavesLess s (step s)
       by true spent =

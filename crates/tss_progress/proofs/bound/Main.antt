@@ -15,7 +15,8 @@ use Rattle.tss_base.specs.Image.{SegmentState}
 use Rattle.tss_base.specs.Machine.{IsAdmissible}
 use Rattle.tss_model.specs.Memory.{range_of, bytes_of}
 use Rattle.tss_model.specs.Registers.{trap_of}
-use Rattle.tss_model.specs.Causes.{load_denied, main_touch, output_full}
+use Rattle.tss_base.specs.declared.causes.TheConstants.{LOAD_DENIED}
+use Rattle.tss_base.specs.declared.refusals.TheConstants.{MAIN_TOUCH, OUTPUT_FULL}
 use Rattle.tss_model.specs.Access.{MainActor, touches}
 use Rattle.tss_model.specs.Core.{Stepped, Executed, Called, Ended, Trapped, Touched}
 use Rattle.tss_model.specs.Spawn.{spawn_of}
@@ -146,9 +147,9 @@ module _ (m : Machine) (S : State) (on : is_some S.main.ending ≡ false)
       (nat_lt m.limits.output_bytes (length (output_of S.main.pieces) + r.len))
     where
       by : (a b c : Bool)
-          → Leaves (cond a (main_trapped S.main (trap_of S.main.registers load_denied r.base))
-          (cond b (main_refused S.main main_touch)
-          (cond c (main_refused S.main output_full) (print_done S.main (bytes_of S.home r))))) S.inbox
+          → Leaves (cond a (main_trapped S.main (trap_of S.main.registers LOAD_DENIED r.base))
+          (cond b (main_refused S.main MAIN_TOUCH)
+          (cond c (main_refused S.main OUTPUT_FULL) (print_done S.main (bytes_of S.home r))))) S.inbox
       by true b c = omega (arith, one)
       by false true c = omega (arith, one)
       by false false true = omega (arith, one)

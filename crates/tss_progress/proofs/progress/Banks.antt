@@ -10,7 +10,7 @@ use Rattle.tss_base.specs.declared.operand.OpName.{OpName}
 use Rattle.tss_base.specs.declared.operand.Operand.{Operand}
 use Rattle.tss_base.specs.declared.operand.Task.{Task}
 use Rattle.tss_base.specs.declared.machine.Machine.{Machine}
-use Rattle.tss_base.specs.declared.event.Follow.{Follow}
+use Rattle.tss_base.specs.declared.marks.Follow.{Follow}
 use Rattle.tss_model.specs.Access.{operands_of}
 use Rattle.tss_model.specs.Spawn.{same_range}
 use Rattle.tss_protocol.specs.Names.{bank_of}

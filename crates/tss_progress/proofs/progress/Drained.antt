@@ -13,7 +13,7 @@ use Rattle.tss_base.specs.declared.operand.Task.{Task}
 use Rattle.tss_base.specs.declared.machine.Machine.{Machine}
 use Rattle.tss_base.specs.declared.machine.Key.TheVariants.{Slots}
 use Rattle.tss_base.specs.declared.event.Event.TheVariants as event
-use Rattle.tss_base.specs.declared.event.Follow.{Follow}
+use Rattle.tss_base.specs.declared.marks.Follow.{Follow}
 use Rattle.tss_base.specs.Machine.{IsAdmissible}
 use Rattle.tss_maps.proofs.Keys.{IsKeyOrder, nat_order, name_order}
 use Rattle.tss_maps.proofs.Entries.{some_entry}

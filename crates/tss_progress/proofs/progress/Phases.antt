@@ -10,8 +10,8 @@ use Rattle.std.proofs.lemmas.Option.{none-some, same_Some}
 use Rattle.tss_base.specs.declared.operand.OpName.{OpName}
 use Rattle.tss_base.specs.declared.operand.Task.{Task}
 use Rattle.tss_base.specs.declared.machine.Machine.{Machine}
-use Rattle.tss_base.specs.declared.event.Stage.{Stage}
-use Rattle.tss_base.specs.declared.event.Stage.TheVariants as stage
+use Rattle.tss_base.specs.declared.marks.Stage.{Stage}
+use Rattle.tss_base.specs.declared.marks.Stage.TheVariants as stage
 use Rattle.tss_protocol.specs.Names.{operand_name}
 use Rattle.tss_protocol.specs.State.{State, OperandState, Flying}
 use Rattle.tss_protocol.specs.Stations.{operand_at, has_left, has_finished}

@@ -9,7 +9,7 @@ use Rattle.tss_base.specs.declared.range.Range.{Range}
 use Rattle.tss_base.specs.declared.operand.OpName.{OpName}
 use Rattle.tss_base.specs.declared.operand.Task.{Task}
 use Rattle.tss_base.specs.declared.machine.Machine.{Machine}
-use Rattle.tss_base.specs.declared.event.Follow.{Follow}
+use Rattle.tss_base.specs.declared.marks.Follow.{Follow}
 use Rattle.tss_protocol.specs.State.{State, Entry, Version}
 use Rattle.tss_protocol.specs.Versions.{is_count}
 use Rattle.tss_phases.specs.Phase.{Left, phase_of, has_released}

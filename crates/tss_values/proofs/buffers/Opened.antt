@@ -8,9 +8,9 @@ use Rattle.tss_base.specs.declared.operand.Mode.TheVariants.{Input, Output, Inou
 use Rattle.tss_base.specs.declared.operand.Task.{Task}
 use Rattle.tss_base.specs.declared.machine.Machine.{Machine}
 use Rattle.tss_base.specs.declared.event.Event.TheVariants as event
-use Rattle.tss_base.specs.declared.event.How.{How}
-use Rattle.tss_base.specs.declared.event.How.TheVariants.{Beside, Over}
-use Rattle.tss_base.specs.declared.event.Follow.{Follow}
+use Rattle.tss_base.specs.declared.marks.How.{How}
+use Rattle.tss_base.specs.declared.marks.How.TheVariants.{Beside, Over}
+use Rattle.tss_base.specs.declared.marks.Follow.{Follow}
 use Rattle.tss_maps.proofs.Keys.{name_order}
 use Rattle.tss_maps.proofs.Changes.{from_inserted, from_removed}
 use Rattle.tss_protocol.specs.Mail.{Buffer, OpenContents, Message, posted_all, taken}

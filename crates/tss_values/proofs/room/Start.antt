@@ -9,7 +9,7 @@ use Rattle.tss_base.specs.declared.operand.Mode.TheVariants.{Input, Output, Inou
 use Rattle.tss_base.specs.declared.operand.Operand.{Operand}
 use Rattle.tss_base.specs.declared.operand.Task.{Task}
 use Rattle.tss_base.specs.declared.machine.Machine.{Machine}
-use Rattle.tss_base.specs.declared.event.Stage.TheVariants as stage
+use Rattle.tss_base.specs.declared.marks.Stage.TheVariants as stage
 use Rattle.tss_model.specs.Access.{operands_of, reads, writes}
 use Rattle.tss_protocol.specs.Mail.{Source, Buffer}
 use Rattle.tss_protocol.specs.State.{State, OperandState, Flying, Version}

@@ -15,7 +15,7 @@ use Rattle.tss_maps.proofs.Keys.{name_order, decide_key}
 use Rattle.tss_maps.proofs.Changes.{beside_removed}
 use Rattle.tss_model.specs.Memory.{scratch_range, covers, zeros, code_word, list_put}
 use Rattle.tss_model.specs.Registers.{trap_of}
-use Rattle.tss_model.specs.Causes.{budget_spent}
+use Rattle.tss_base.specs.declared.causes.TheConstants.{BUDGET_SPENT}
 use Rattle.tss_model.specs.Access.{Actor, TaskActor, operands_of, reads}
 use Rattle.tss_model.specs.Core.{Write, Stepped, Executed, Called, Ended, Trapped, Touched, core_step}
 use Rattle.tss_model.specs.TaskRun.{TaskState, is_over, task_byte, task_write, task_on, task_step, task_trapped}
@@ -132,7 +132,7 @@ module _ (placed : List Placed) (b : OpName) (n : ℕ) where
       next = task_on (worker_write placed) s
           (core_step actor (task_byte (worker_byte placed) s) (code_word code) s.registers)
 
-      by : (o c : Bool) → IsLong (cond o s (cond c (task_trapped s (trap_of s.registers budget_spent 0)) next))
+      by : (o c : Bool) → IsLong (cond o s (cond c (task_trapped s (trap_of s.registers BUDGET_SPENT 0)) next))
       by true c = h
       by false true = h
       by false false =
