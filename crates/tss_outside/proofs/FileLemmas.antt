@@ -1,5 +1,5 @@
 -- Files in a list, found by name, after one has changed or another has come.
-use Rattle.std.proofs.Common.{◌≡◌, ◌≢◌, ℕ, zero, suc, ◌<◌, ◌≤◌, Bool, true, false, cond, List, [], ◌∷◌, ◌++◌, length, get_or, Option, Some, None, refl, sym, ap, ◌∙◌, subst, inl, inr, ◌⊎◌, arith}
+use Rattle.std.proofs.Common.{◌≡◌, ◌≢◌, ℕ, zero, suc, ◌<◌, ◌≤◌, Bool, true, false, cond, List, [], ◌∷◌, ◌++◌, length, get_or, Option, Some, None, refl, sym, ap, ◌∙◌, subst, inl, inr, ◌⊎◌, arith, Result, Ok, Err, OnOk, OnErr, Vec, Global}
 use Rattle.std.proofs.Math.ListN.{set}
 use Rattle.std.specs.Prelude.{nat_lt, slice_get, unwrap_or, is_some}
 use Rattle.std.specs.Option.{option_map_or}
@@ -10,7 +10,12 @@ use Rattle.std.proofs.lemmas.Slice.Eq.{bytes_eq-Decides}
 use Rattle.std.proofs.lemmas.List.Folds.{find-set, find_at, position_or_len-set}
 use Rattle.std.proofs.lemmas.List.Sums.{passes_at_first}
 use Rattle.std.proofs.lemmas.Option.{slice_get-get_or, slice_get_past}
-use Rattle.tss_outside.specs.MemFiles.{FileState, MemFilesState, ChangesFile, file_of, file_or_new, new_file, has_name}
+use Rattle.std.proofs.lemmas.List.{set-get_or}
+use Rattle.tss_outside.specs.declared.files.Failed.{Failed as Fault}
+use Rattle.tss_outside.specs.declared.files.FileFault.{FileFault}
+use Rattle.tss_outside.specs.declared.files.FileFault.TheVariants as fault
+use Rattle.tss_outside.specs.Outside.{risen, is_failed}
+use Rattle.tss_outside.specs.MemFiles.{FileState, MemFilesState, ChangesFile, file_of, file_or_new, new_file, has_name, read_once, appended_once, with_read_fault, with_append_fault, with_bytes, CountsReadFault, CountsAppendFault, AfterRead, AfterAppend}
 
 -- a place is given only where the test of it passed
 some_place : (b : Bool) (p i : ℕ) → cond b (Some p) None ≡ Some i → (b ≡ true) × (p ≡ i)
@@ -171,3 +176,84 @@ placed_or_not fs n None e = ap is_some (sym (not_found fs n e))
 placed_or_not fs n (Some i) e =
     let any : FileState = record { name = n; bytes = None; room = 0; read_faults = 0; append_faults = 0 } in
     ap is_some (sym (found fs n i e any))
+
+-- ---- what calls leave
+
+-- a file in its own place changes nothing
+same_files : (fs : List FileState) (i : ℕ) (f g : FileState) → f ≡ get_or fs i f → g ≡ f → set fs i g ≡ fs
+same_files fs i f g is e = ap (set fs i) (e ∙ is) ∙ set-get_or fs i f
+
+-- the file at the place of a name is now g
+changes_to : (s : MemFilesState) (n : List ℕ) (i : ℕ) (f g : FileState) → position (has_name n) s.files ≡ Some i →
+    f ≡ get_or s.files i f → g.name ≡ f.name → ChangesFile s (record s { files = set s.files i g }) n g
+changes_to s n i f g at is kept =
+    record {
+      changed = change_now s.files n i at f g is kept;
+      others = λ m other. change_beside s.files n i at f g is kept m other;
+      rest = refl;
+    }
+
+-- it is what was found
+file_at : (s : MemFilesState) (n : List ℕ) (i : ℕ) (f : FileState) → position (has_name n) s.files ≡ Some i →
+    f ≡ get_or s.files i f → file_of s n ≡ Some f
+file_at s n i f at is = change_here s.files n i at f f is refl
+
+-- a read of the file at the place of a name
+read_at : (s : MemFilesState) (n : List ℕ) (i : ℕ) (f g : FileState) (r : Result (Vec ℕ Global) FileFault) →
+    position (has_name n) s.files ≡ Some i → f ≡ get_or s.files i f → g ≡ cond (is_failed r) (with_read_fault f) f →
+    AfterRead s (record (read_once s) { files = set s.files i g }) n r
+read_at s n i f g (Ok v) at is e = λ j. record (read_once s) { files = same_files s.files i f g is e j }
+read_at s n i f g (Err (fault.TooLong k)) at is e = λ j. record (read_once s) { files = same_files s.files i f g is e j }
+read_at s n i f g (Err fault.NoMemory) at is e = λ j. record (read_once s) { files = same_files s.files i f g is e j }
+read_at s n i f g (Err fault.Failed) at is e =
+    let new : MemFilesState = record (read_once s) { files = set s.files i g } in
+    subst (CountsReadFault (read_once s) new n) (sym (file_at s n i f at is))
+    (subst (λ h. ChangesFile (read_once s) new n h) e
+    (changes_to (read_once s) n i f g at is (ap (λ (x : FileState). x.name) e)))
+
+pub after_read : (s : MemFilesState) (n : List ℕ) (i : ℕ) (f g : FileState) (r : Result (Vec ℕ Global) FileFault) (k : ℕ) →
+    position (has_name n) s.files ≡ Some i → f ≡ get_or s.files i f → g ≡ cond (is_failed r) (with_read_fault f) f →
+    k ≡ risen s.reads → AfterRead s (record s { files = set s.files i g; reads = k }) n r
+after_read s n i f g r k at is e count =
+    subst (λ k. AfterRead s (record s { files = set s.files i g; reads = k }) n r) (sym count) (read_at s n i f g r at is e)
+
+-- one of a name that isn't known
+pub after_missed_read : (s : MemFilesState) (n : List ℕ) (k m : ℕ) → position (has_name n) s.files ≡ None →
+    k ≡ risen s.reads → m ≡ risen s.other_read_faults →
+    CountsReadFault (read_once s) (record s { reads = k; other_read_faults = m }) n (file_of s n)
+after_missed_read s n k m at count faults =
+    subst (CountsReadFault (read_once s) (record s { reads = k; other_read_faults = m }) n) (sym (not_found s.files n at))
+    (λ j. record s { reads = count j; other_read_faults = faults j })
+
+-- an append to the file at the place of a name
+append_at : (s : MemFilesState) (n : List ℕ) (i : ℕ) (f g : FileState) (bytes : List ℕ) (r : Result (Unit {0}) Fault) (A B C : Type 0) →
+    position (has_name n) s.files ≡ Some i → f ≡ get_or s.files i f → OnOk r (A × B × (g ≡ with_bytes bytes f)) →
+    OnErr r (C × (g ≡ with_append_fault f)) → AfterAppend s (record (appended_once s) { files = set s.files i g }) n bytes r
+append_at s n i f g bytes (Ok v) A B C at is done failed =
+    let new : MemFilesState = record (appended_once s) { files = set s.files i g } in (
+      f,
+      file_at s n i f at is,
+      subst (λ h. ChangesFile (appended_once s) new n h) done.2
+          (changes_to (appended_once s) n i f g at is (ap (λ (x : FileState). x.name) done.2)),
+    )
+append_at s n i f g bytes (Err e) A B C at is done failed =
+    let new : MemFilesState = record (appended_once s) { files = set s.files i g } in
+    subst (CountsAppendFault (appended_once s) new n) (sym (file_at s n i f at is))
+    (subst (λ h. ChangesFile (appended_once s) new n h) failed.1
+    (changes_to (appended_once s) n i f g at is (ap (λ (x : FileState). x.name) failed.1)))
+
+pub after_append : (s : MemFilesState) (n : List ℕ) (i : ℕ) (f g : FileState) (bytes : List ℕ) (r : Result (Unit {0}) Fault) (k : ℕ) (A B C : Type 0) →
+    position (has_name n) s.files ≡ Some i → f ≡ get_or s.files i f → OnOk r (A × B × (g ≡ with_bytes bytes f)) →
+    OnErr r (C × (g ≡ with_append_fault f)) → k ≡ risen s.appends →
+    AfterAppend s (record s { files = set s.files i g; appends = k }) n bytes r
+after_append s n i f g bytes r k A B C at is done failed count =
+    subst (λ k. AfterAppend s (record s { files = set s.files i g; appends = k }) n bytes r) (sym count)
+    (append_at s n i f g bytes r A B C at is done failed)
+
+-- one to a name that isn't known
+pub after_missed_append : (s : MemFilesState) (n : List ℕ) (k m : ℕ) → position (has_name n) s.files ≡ None →
+    k ≡ risen s.appends → m ≡ risen s.other_append_faults →
+    CountsAppendFault (appended_once s) (record s { appends = k; other_append_faults = m }) n (file_of s n)
+after_missed_append s n k m at count faults =
+    subst (CountsAppendFault (appended_once s) (record s { appends = k; other_append_faults = m }) n) (sym (not_found s.files n at))
+    (λ j. record s { appends = count j; other_append_faults = faults j })

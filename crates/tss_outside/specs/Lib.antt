@@ -1,4 +1,5 @@
 pub mod Outside
+pub mod Moving
 pub mod MemSink
 pub mod MemFiles
 pub mod Honest

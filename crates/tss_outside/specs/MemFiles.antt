@@ -1,9 +1,12 @@
 -- Files in memory: what each holds and its room, the calls that are to fail, and what calls leave.
-use Rattle.std.specs.Prelude.{◌≡◌, ◌≢◌, ℕ, Bool, true, false, ◌||◌, nat_lt, List, [], Option, Some, None, is_some, is_none, unwrap_or}
+use Rattle.std.specs.Prelude.{◌≡◌, ◌≢◌, ℕ, ◌-◌, Bool, true, false, ◌||◌, nat_lt, List, [], ◌++◌, length, Option, Some, None, is_some, is_none, unwrap_or, Result, Ok, Err}
 use Rattle.std.specs.List.{find}
 use Rattle.std.specs.Option.{option_and_then, option_map_or}
 use Rattle.std.specs.Str.{bytes_eq}
-use Rattle.std.proofs.Common.{refl}
+use Rattle.std.proofs.Common.{refl, Vec, Global}
+use Rattle.tss_outside.specs.declared.files.Failed.{Failed as Fault}
+use Rattle.tss_outside.specs.declared.files.FileFault.{FileFault}
+use Rattle.tss_outside.specs.declared.files.FileFault.TheVariants.{Failed, TooLong, NoMemory}
 use Rattle.tss_outside.specs.Outside.{Held, risen}
 use Rattle.tss_outside.specs.MemSink.{is_listed}
 
@@ -77,6 +80,47 @@ pub record ChangesFile (old new : MemFilesState) (name : List ℕ) (f : FileStat
   pub changed : file_of new name ≡ Some f
   pub others : (n : List ℕ) → n ≢ name → file_of new n ≡ file_of old n
   pub rest : new ≡ record old { files = new.files }
+
+-- ---- what calls leave
+
+-- one more read was made, and one more append
+abbrev pub read_once : MemFilesState → MemFilesState
+read_once s = record s { reads = risen s.reads }
+
+abbrev pub appended_once : MemFilesState → MemFilesState
+appended_once s = record s { appends = risen s.appends }
+
+-- a name after a read that failed, after an append that did, and after one that put bytes
+abbrev pub with_read_fault : FileState → FileState
+with_read_fault f = record f { read_faults = risen f.read_faults }
+
+abbrev pub with_append_fault : FileState → FileState
+with_append_fault f = record f { append_faults = risen f.append_faults }
+
+abbrev pub with_bytes : List ℕ → FileState → FileState
+with_bytes bytes f = record f { bytes = Some (unwrap_or f.bytes [] ++ bytes); room = f.room - length bytes }
+
+-- the count of the name has risen, or the shared one where the name isn't known, and all else is as it was
+abbrev pub CountsReadFault : MemFilesState → MemFilesState → List ℕ → Option FileState → Type 0
+CountsReadFault old new name None = new ≡ record old { other_read_faults = risen old.other_read_faults }
+CountsReadFault old new name (Some f) = ChangesFile old new name (with_read_fault f)
+
+abbrev pub CountsAppendFault : MemFilesState → MemFilesState → List ℕ → Option FileState → Type 0
+CountsAppendFault old new name None = new ≡ record old { other_append_faults = risen old.other_append_faults }
+CountsAppendFault old new name (Some f) = ChangesFile old new name (with_append_fault f)
+
+-- a read leaves all as it was but its own number, and a count of faults where it failed
+abbrev pub AfterRead : MemFilesState → MemFilesState → List ℕ → Result (Vec ℕ Global) FileFault → Type 0
+AfterRead old new name (Err Failed) = CountsReadFault (read_once old) new name (file_of old name)
+AfterRead old new name (Err (TooLong n)) = new ≡ read_once old
+AfterRead old new name (Err NoMemory) = new ≡ read_once old
+AfterRead old new name (Ok v) = new ≡ read_once old
+
+-- an append puts the bytes under a known name, or a count of faults has risen
+abbrev pub AfterAppend : MemFilesState → MemFilesState → List ℕ → List ℕ → Result (Unit {0}) Fault → Type 0
+AfterAppend old new name bytes (Ok v) =
+    (f : FileState) × (file_of old name ≡ Some f) × ChangesFile (appended_once old) new name (with_bytes bytes f)
+AfterAppend old new name bytes (Err fault) = CountsAppendFault (appended_once old) new name (file_of old name)
 
 -- a name under which nothing is found has the shared count
 shared_part : (part : FileState → ℕ) (o p : Option FileState) (d : ℕ) → is_some o ≡ false → is_some p ≡ false → option_map_or part o d ≡ option_map_or part p d

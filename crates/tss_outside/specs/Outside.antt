@@ -1,5 +1,5 @@
 -- What is put after what was there, where it is told, and counts of faults.
-use Rattle.std.specs.Prelude.{◌≡◌, ◌≢◌, ℕ, ◌+◌, ◌-◌, ◌^◌, ◌≤◌, min, Bool, true, List, [], ◌++◌, Option, Some, IfSome, unwrap_or, Result, Ok, Err, false}
+use Rattle.std.specs.Prelude.{◌≡◌, ◌≢◌, ◌⊎◌, ℕ, ◌+◌, ◌-◌, ◌^◌, ◌≤◌, min, Bool, true, List, [], ◌++◌, Option, Some, IfSome, unwrap_or, Result, Ok, Err, false}
 use Rattle.tss_outside.specs.declared.files.FileFault.{FileFault}
 use Rattle.tss_outside.specs.declared.files.FileFault.TheVariants.{Failed, TooLong, NoMemory}
 
@@ -36,12 +36,16 @@ abbrev pub AppendsTo : Option Held → Option Held → List ℕ → List ℕ →
 AppendsTo old new name bytes =
     IfSome new (λ b. (a : Held) × (old ≡ Some a) × (b name ≡ Some (unwrap_or (a name) [] ++ bytes)) × SameOthers a b name)
 
--- the same with a prefix of the bytes, which may be no bytes in no file
+-- a file has a prefix of the bytes after what it held, or it is as it was
+abbrev pub HoldsPrefix : Option (List ℕ) → Option (List ℕ) → List ℕ → Type 0
+HoldsPrefix old new bytes =
+    (new ≡ old) ⊎ ((p : List ℕ) × IsPrefix p bytes × (new ≡ Some (unwrap_or old [] ++ p)))
+
+-- the same with a prefix of the bytes. A file of which nothing is known to be put is as it was, or is there with what it
+-- held
 abbrev pub PutsPrefixTo : Option Held → Option Held → List ℕ → List ℕ → Type 0
 PutsPrefixTo old new name bytes =
-    IfSome new (λ b. (a : Held) × (old ≡ Some a)
-    × ((p : List ℕ) × IsPrefix p bytes × (unwrap_or (b name) [] ≡ unwrap_or (a name) [] ++ p))
-    × SameOthers a b name)
+    IfSome new (λ b. (a : Held) × (old ≡ Some a) × HoldsPrefix (a name) (b name) bytes × SameOthers a b name)
 
 -- counts by name: none has fallen, and that of no known name but this one has changed
 pub record RaisesOnly (knows : List ℕ → Bool) (old new : List ℕ → ℕ) (name : List ℕ) : Type 0 where

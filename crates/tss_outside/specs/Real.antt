@@ -10,6 +10,10 @@ pub record RealFilesState : Type 0 where
   pub read_faults : List ℕ
   pub append_faults : List ℕ
 
+-- how often a write to standard output has failed
+pub record RealSinkState : Type 0 where
+  pub faults : ℕ
+
 -- no faults yet
 abbrev pub no_faults : List (List ℕ) → RealFilesState
 no_faults names = record { names = names; read_faults = replicate 9 0; append_faults = replicate 9 0 }

@@ -8,6 +8,7 @@ mod honest;
 mod mem_file;
 mod mem_files;
 mod mem_sink;
+mod moving;
 mod real;
 mod sink;
 #[cfg(test)]

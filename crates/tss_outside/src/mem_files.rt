@@ -1,7 +1,7 @@
 // Files in memory.
 ghost use Rattle.std.specs.Prelude.{◌≡◌, ◌≢◌, ◌<◌, ◌+◌, ◌≤◌, ◌++◌, ◌∷◌, [], ℕ, List, Bool, false, Option, Some, None, length, vec_len, IfOk, OnOk, OnErr, IfSome, IsErr, IsErrOf, IsTrue, IsFalse, MatchResult, ◌↔◌, position, unwrap_or};
 ghost use Rattle.tss_outside.specs.Outside.{Held, Rose, AppendsTo, PutsPrefixTo, RaisesOnly, risen};
-ghost use Rattle.tss_outside.specs.MemFiles.{ChangesFile, bytes_of, is_known, read_faults_of, append_faults_of, file_or_new, room_of, fails_append, fails_read, has_name, no_files};
+ghost use Rattle.tss_outside.specs.MemFiles.{ChangesFile, bytes_of, is_known, read_faults_of, append_faults_of, file_or_new, fails_append, fails_read, has_name, no_files, AfterRead, AfterAppend};
 
 use crate::files::{Failed, FileFault, Files};
 use crate::mem_file::MemFile;
@@ -171,8 +171,7 @@ impl Files for MemFiles {
 
         // It fails exactly where its number is listed or there is no such file.
         ensures exact { IsErrOf result FileFault.Failed ↔ IsTrue (fails_read self.old name.now) }
-        ensures rest { self.new ≡ record self.old { files = self.new.files; reads = risen self.old.reads; other_read_faults = self.new.other_read_faults } }
-        ensures rooms { (n : List ℕ) → room_of self.new n ≡ room_of self.old n }
+        ensures leaves { AfterRead self.old self.new name.now result }
     {
         self.reads = self.reads.saturating_add(1);
         let failing = self.failing_reads.contains(&self.reads);
@@ -198,10 +197,7 @@ impl Files for MemFiles {
 
         // It fails exactly where its number is listed or room is missing, and then nothing is put.
         ensures exact { IsErr result ↔ IsTrue (fails_append self.old name.now (length bytes.now)) }
-        ensures nothing { OnErr result ((n : List ℕ) → bytes_of self.new n ≡ bytes_of self.old n) }
-        ensures rest { self.new ≡ record self.old { files = self.new.files; appends = risen self.old.appends; other_append_faults = self.new.other_append_faults } }
-        ensures rooms { (n : List ℕ) → n ≢ name.now → room_of self.new n ≡ room_of self.old n }
-        ensures room { OnOk result (room_of self.new name.now + length bytes.now ≡ room_of self.old name.now) }
+        ensures leaves { AfterAppend self.old self.new name.now bytes.now result }
     {
         self.appends = self.appends.saturating_add(1);
         let failing = self.failing_appends.contains(&self.appends);

@@ -6,18 +6,15 @@ ghost use Rattle.tss_outside.specs.Outside.{risen, Rose, RaisesOnly};
 ghost use Rattle.tss_outside.specs.Real.{count_of, count_place, is_counted, no_faults};
 
 use crate::files::{Failed, FileFault, Files};
+use crate::moving::{read_all, write_all};
 use crate::sink::Sink;
 use std::alloc::Global;
 use std::fs::OpenOptions;
-use std::io::{Read, Write};
 use std::marker::Model;
 use std::{fs, io, rt};
 
 /// How many names have counts of their own.
 const COUNTED: usize = 8;
-
-/// How many bytes one read of a file asks for.
-const BLOCK: usize = 16384;
 
 /// The machine's files. The first eight of the names that it is made over have counts of their own. No content is told.
 #[derive(Drop)]
@@ -75,37 +72,20 @@ fn read_whole<R: rt::Files>(
     ensures short { IfOk result (λ v. vec_len v ≤ limit) }
     ensures too_long { (n : ℕ) → IsErrOf result (FileFault.TooLong n) → limit < n }
 {
-    let mut file = match fs::open(rt, name) {
-        Ok(file) => file,
-        Err(_) => return Err(FileFault::Failed),
-    };
-    let mut bytes = Vec::new(alloc);
-    let mut block = [0u8; BLOCK];
-    for _ in 0..u64::MAX {
-        let n = match file.read(&mut block) {
-            Ok(n) => n,
-            Err(_) => return Err(FileFault::Failed),
-        };
-        if n == 0 {
-            return Ok(bytes);
-        }
-        let len = bytes.len() as u64 + n as u64;
-        if len > limit {
-            return Err(FileFault::TooLong(len));
-        }
-        if bytes.extend_from_slice(&block[..n]).is_err() {
-            return Err(FileFault::NoMemory);
-        }
+    match fs::open(rt, name) {
+        Ok(file) => read_all(alloc, file, limit),
+        Err(_) => Err(FileFault::Failed),
     }
-    Err(FileFault::Failed)
 }
 
 // Puts bytes at the end of a file, which is made where there is none.
-fn append_whole<R: rt::Files>(rt: &R, name: &str, bytes: &[u8]) -> io::Result<()> {
+fn append_whole<R: rt::Files>(rt: &R, name: &str, bytes: &[u8]) -> Result<(), Failed> {
     let mut options = OpenOptions::new();
     options.append(true).create(true);
-    let mut file = options.open(rt, name)?;
-    file.write_all(bytes)
+    match options.open(rt, name) {
+        Ok(mut file) => write_all(&mut file, bytes),
+        Err(_) => Err(Failed),
+    }
 }
 
 impl<'a, R: rt::Files> RealFiles<'a, R> {
@@ -146,7 +126,7 @@ impl<'a, R: rt::Files> Files for RealFiles<'a, R> {
         let place = place_of(self.names, name);
         match append_whole(self.rt, name, bytes) {
             Ok(()) => Ok(()),
-            Err(_) => {
+            Err(Failed) => {
                 raise(&mut self.append_faults, place);
                 Err(Failed)
             }
@@ -167,10 +147,18 @@ pub struct RealSink<'a, R: Print> {
     faults: u64,
 }
 
+impl<'a, R: Print> Model for RealSink<'a, R> {
+    ghost use Rattle.tss_outside.specs.Real.{RealSinkState};
+
+    ghost Value = { RealSinkState };
+
+    ghost view = { λ s. record { faults = s.faults } };
+}
+
 impl<'a, R: Print> RealSink<'a, R> {
-    /// The machine's standard output.
+    /// The machine's standard output, with no fault yet.
     pub fn new(rt: &'a R) -> RealSink<'a, R>
-        ensures { result.faults ≡ 0 }
+        ensures { result ≡ record { faults = 0 } }
     {
         RealSink { rt, faults: 0 }
     }
@@ -182,9 +170,9 @@ impl<'a, R: Print> Sink for RealSink<'a, R> {
     ghost faults = { λ s. s.faults };
 
     fn write_piece(&mut self, bytes: &[u8]) -> Result<(), Failed> {
-        match io::writer(self.rt).write_all(bytes) {
+        match write_all(&mut io::writer(self.rt), bytes) {
             Ok(()) => Ok(()),
-            Err(_) => {
+            Err(Failed) => {
                 self.faults = self.faults.saturating_add(1);
                 Err(Failed)
             }

@@ -1,23 +1,20 @@
 -- What an append to a file in memory leaves.
-use Rattle.std.proofs.Common.{false, ◌≡◌, subst, true, ◌≤◌, ◌+◌, ◌≢◌, ◌++◌, ◌-◌, [], ℕ, List, Bool, append-nil, Option, Some, None, sym, ap, ◌∙◌, refl, arith, length, Result, Ok, Err}
+use Rattle.std.proofs.Common.{false, ◌≡◌, subst, true, ◌≤◌, ◌+◌, ◌≢◌, ◌++◌, ◌-◌, [], ℕ, List, Bool, inl, Option, Some, None, sym, ap, ◌∙◌, refl, arith, length, Result, Ok, Err}
 use Rattle.std.proofs.Math.ListN.{set}
 use Rattle.std.specs.Prelude.{nat_lt, ◌||◌, ◌↔◌, IsErr, IsTrue, position, is_some, OnOk, OnErr, unwrap_or}
 use Rattle.std.specs.Option.{option_and_then, option_map_or}
 use Rattle.std.specs.List.{find}
 use Rattle.tss_outside.specs.Outside.{risen}
 use Rattle.tss_outside.specs.MemSink.{is_listed}
-use Rattle.tss_outside.specs.MemFiles.{fails_append, FileState, MemFilesState, has_name, file_of, is_known, bytes_of, append_faults_of, read_faults_of}
-use Rattle.tss_outside.proofs.FileLemmas.{at_most, change_here, change_now, change_beside, change_same, change_counts, not_found}
+use Rattle.tss_outside.specs.contracts.mem_files.MemFiles.{the_view}
+use Rattle.tss_outside.specs.MemFiles.{AfterAppend, CountsAppendFault, appended_once, fails_append, FileState, MemFilesState, has_name, file_of, is_known, bytes_of, append_faults_of, read_faults_of}
+use Rattle.tss_outside.proofs.FileLemmas.{at_most, change_here, change_now, change_beside, change_same, change_counts, not_found, after_append, after_missed_append}
 use Rattle.tss_outside.proofs.mem_files.MemFilesFiles.append.Goals as goal
 
 -- what no append changes of a file
 kept_by : {X : Type 0} {T : Type 0} (part : FileState → X) (r : Result (Unit {0}) T) (f g h k : FileState) (P Q R : Type 0) → part h ≡ part f → part k ≡ part f → OnOk r (P × Q × (g ≡ h)) → OnErr r (R × (g ≡ k)) → part g ≡ part f
 kept_by part (Ok v) f g h k P Q R d e x y = ap part x.2 ∙ d
 kept_by part (Err v) f g h k P Q R d e x y = ap part y.1 ∙ e
-
--- what is left of the room
-room_left : (now len old was : ℕ) → now ≡ old - len → len ≤ old → was ≡ old → now + len ≡ was
-room_left now len old was e h f = omega arith
 
 -- where the file stands
 place : (c : goal.After-self-in-Some-1) → position (has_name c.args.name.now) c.self.inside.files.items ≡ Some c.in-Some.i
@@ -74,7 +71,7 @@ returns-in-Some-clause-prefix c =
     on_err c.append.result _ _ (λ failed. (
       bytes_of c.args.self.now,
       refl,
-      ([], (c.args.bytes.now, refl), ap (λ o. unwrap_or (bytes_in o) []) (now c) ∙ ap (λ x. unwrap_or x.bytes []) failed.1 ∙ ap (λ o. unwrap_or (bytes_in o) []) (sym (here c)) ∙ sym (append-nil _)),
+      inl (ap bytes_in (now c) ∙ ap (λ x. x.bytes) failed.1 ∙ ap bytes_in (sym (here c))),
       λ m other. ap bytes_in (beside c m other),
     )) c.append.ensures.err
 
@@ -136,22 +133,6 @@ returns-in-Some-clause-exact c =
     ∙ ap (λ o. is_listed c.args.self.now.failing_appends (risen c.args.self.now.appends) || short o) (sym (here c)) in
     subst (λ b. IsErr c.append.result ↔ IsTrue b) is c.append.ensures.exact
 
-pub returns-in-Some-clause-nothing : goal.returns-in-Some-clause-nothing
-unfolding bytes_in
-returns-in-Some-clause-nothing c =
-    on_err c.append.result _ _ (λ failed m.
-    change_same c.self.inside.files.items _ c.in-Some.i (place c) c.index_mut-file.result.now c.append.new.self c.index_mut-file.ensures.value (name c) (Option (List ℕ)) bytes_in (ap (λ (x : FileState). x.bytes) failed.1) m
-    ∙ ap (λ s. bytes_of s m) c.self.view_is) c.append.ensures.err
-
-pub returns-in-Some-clause-rooms : goal.returns-in-Some-clause-rooms
-returns-in-Some-clause-rooms c m other = ap (λ o. option_map_or (λ (x : FileState). x.room) o 0) (beside c m other)
-
-pub returns-in-Some-clause-room : goal.returns-in-Some-clause-room
-returns-in-Some-clause-room c =
-    let room = λ (o : Option FileState). option_map_or (λ (x : FileState). x.room) o 0 in
-    on_ok c.append.result _ _ (λ done.
-    room_left _ _ _ _ (ap room (now c) ∙ ap (λ (x : FileState). x.room) done.2) done.1 (ap room (here c))) c.append.ensures.ok
-
 pub returns-in-None-clause-exact : goal.returns-in-None-clause-exact
 returns-in-None-clause-exact c =
     let n = c.args.name.now in
@@ -164,3 +145,26 @@ returns-in-None-clause-exact c =
     ∙ ap (λ o. is_listed c.self.inside.failing_appends.items (risen c.self.inside.appends) || option_map_or (λ (x : FileState). nat_lt x.room len) o true) (not_found fs n at)
     ∙ or_true _ in
     (λ _. fails, λ _. refl)
+
+pub returns-in-Some-clause-leaves : goal.returns-in-Some-clause-leaves
+returns-in-Some-clause-leaves c =
+    let n = c.args.name.now in
+    let bytes = c.args.bytes.now in
+    let was = the_view c.self.inside in
+    let appends = c.saturating_add-self-inside in
+    let new : MemFilesState = record was { files = set was.files c.in-Some.i c.append.new.self; appends = appends.result } in
+    subst (λ s. AfterAppend s new n bytes c.append.result) c.self.view_is
+    (after_append was n c.in-Some.i c.index_mut-file.result.now c.append.new.self bytes c.append.result appends.result _ _ _
+    (place c) c.index_mut-file.ensures.value c.append.ensures.ok c.append.ensures.err appends.ensures)
+
+pub returns-in-None-clause-leaves : goal.returns-in-None-clause-leaves
+returns-in-None-clause-leaves c =
+    let n = c.args.name.now in
+    let was = the_view c.self.inside in
+    let at : position (has_name n) was.files ≡ None =
+    ap (position (has_name n)) (sym c.as_slice.ensures.value) ∙ sym c.place_of.ensures ∙ c.in-None.is in
+    let appends = c.saturating_add-self-inside in
+    let faults = c.saturating_add-self-inside-in-None in
+    let new : MemFilesState = record was { appends = appends.result; other_append_faults = faults.result } in
+    subst (λ s. CountsAppendFault (appended_once s) new n (file_of s n)) c.self.view_is
+    (after_missed_append was n appends.result faults.result at appends.ensures faults.ensures)

@@ -1,12 +1,14 @@
 -- What a read of a file in memory leaves.
 use Rattle.std.proofs.Common.{◌≡◌, subst, ◌≤◌, ℕ, List, Bool, true, false, cond, Option, Some, None, sym, ap, ◌∙◌, refl, arith, Result, Ok, Err, Vec, Global, vec_len}
+use Rattle.std.proofs.Math.ListN.{set}
 use Rattle.std.specs.Prelude.{is_none, ◌||◌, ◌↔◌, IsErrOf, IsTrue, position, is_some, IfOk}
 use Rattle.std.specs.Option.{option_and_then, option_map_or}
 use Rattle.tss_outside.specs.Outside.{is_failed, risen}
 use Rattle.tss_outside.specs.declared.files.FileFault.TheVariants.{Failed}
 use Rattle.tss_outside.specs.MemSink.{is_listed}
-use Rattle.tss_outside.specs.MemFiles.{fails_read, room_of, FileState, has_name, file_of, is_known, bytes_of, append_faults_of, read_faults_of}
-use Rattle.tss_outside.proofs.FileLemmas.{at_most, change_here, change_now, change_beside, change_same, change_counts, not_found}
+use Rattle.tss_outside.specs.contracts.mem_files.MemFiles.{the_view}
+use Rattle.tss_outside.specs.MemFiles.{MemFilesState, AfterRead, CountsReadFault, read_once, fails_read, FileState, has_name, file_of, is_known, bytes_of, append_faults_of, read_faults_of}
+use Rattle.tss_outside.proofs.FileLemmas.{at_most, change_here, change_now, change_beside, change_same, change_counts, not_found, after_read, after_missed_read}
 use Rattle.tss_outside.proofs.mem_files.MemFilesFiles.read.Goals as goal
 
 -- what a fault does not change
@@ -114,24 +116,6 @@ returns-in-Some-clause-exact c =
     ∙ ap (λ o. is_listed c.args.self.now.failing_reads (risen c.args.self.now.reads) || is_none (bytes o)) (sym (here c)) in
     subst (λ b. IsErrOf c.read.result Failed ↔ IsTrue b) is c.read.ensures.exact
 
-pub returns-in-Some-clause-rooms : goal.returns-in-Some-clause-rooms
-returns-in-Some-clause-rooms c m =
-    let room = λ (x : FileState). x.room in
-    change_same
-    c.self.inside.files.items
-    _
-    c.in-Some.i
-    (place c)
-    _
-    _
-    c.index_mut-file.ensures.value
-    (name c)
-    ℕ
-    (λ o. option_map_or room o 0)
-    (kept c ℕ room refl)
-    m
-    ∙ ap (λ s. room_of s m) c.self.view_is
-
 pub returns-in-None-clause-exact : goal.returns-in-None-clause-exact
 returns-in-None-clause-exact c =
     let n = c.args.name.now in
@@ -143,3 +127,24 @@ returns-in-None-clause-exact c =
     ∙ ap (λ o. is_listed c.self.inside.failing_reads.items (risen c.self.inside.reads) || is_none (option_and_then (λ (x : FileState). x.bytes) o)) (not_found fs n at)
     ∙ or_true _ in
     (λ _. fails, λ _. refl)
+
+pub returns-in-Some-clause-leaves : goal.returns-in-Some-clause-leaves
+returns-in-Some-clause-leaves c =
+    let n = c.args.name.now in
+    let was = the_view c.self.inside in
+    let new : MemFilesState = record was { files = set was.files c.in-Some.i c.read.new.self; reads = c.saturating_add-self-inside.result } in
+    subst (λ s. AfterRead s new n c.read.result) c.self.view_is
+    (after_read was n c.in-Some.i c.index_mut-file.result.now c.read.new.self c.read.result c.saturating_add-self-inside.result
+    (place c) c.index_mut-file.ensures.value c.read.ensures.counted c.saturating_add-self-inside.ensures)
+
+pub returns-in-None-clause-leaves : goal.returns-in-None-clause-leaves
+returns-in-None-clause-leaves c =
+    let n = c.args.name.now in
+    let was = the_view c.self.inside in
+    let at : position (has_name n) was.files ≡ None =
+    ap (position (has_name n)) (sym c.as_slice.ensures.value) ∙ sym c.place_of.ensures ∙ c.in-None.is in
+    let reads = c.saturating_add-self-inside in
+    let faults = c.saturating_add-self-inside-in-None in
+    let new : MemFilesState = record was { reads = reads.result; other_read_faults = faults.result } in
+    subst (λ s. CountsReadFault (read_once s) new n (file_of s n)) c.self.view_is
+    (after_missed_read was n reads.result faults.result at reads.ensures faults.ensures)
