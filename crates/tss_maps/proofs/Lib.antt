@@ -5,3 +5,4 @@ pub mod Sums
 pub mod Places
 pub mod OrderedLemmas
 pub mod MappedLemmas
+pub mod PartsLemmas
