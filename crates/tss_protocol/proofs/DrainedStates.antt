@@ -68,7 +68,7 @@ unfolding is_enabled
 no_message_enabled m S drained k o =
     let n = has_none S.mail (silent_drained S drained) in
     elim k as (λ k. is_enabled m S (message_event k o) ≡ false) [
-      | Decode ↦ ap (can_decode_message m S) (absent_empty S.mail.decodes o n.decodes)
+      | Decode ↦ ap (can_decode_message m S o) (absent_empty S.mail.decodes o n.decodes)
       | Ack ↦ ap is_some (absent_empty S.mail.acks o n.acks)
       | Open ↦ ap (can_open_message S) (absent_empty S.mail.opens o n.opens)
       | Use ↦ ap (can_use_message S) (absent_empty S.mail.uses o n.uses)

@@ -184,7 +184,7 @@ module _ (m : Machine) (S : State) where
   listed_decodes : (o : OpName) → is_enabled m S (event.Decode o) ≡ true → IsIn (event.Decode o) (candidate_events m S)
   unfolding is_enabled
   listed_decodes o e =
-      let found = something (can_decode_message m S) refl (get S.mail.decodes o) e in
+      let found = something (can_decode_message m S o) refl (get S.mail.decodes o) e in
       let key = in_keys name_order event.Decode S.mail.decodes o found.0 found.1 in
       from_early m S (event.Decode o) (in_decodes S.mail o key)
 

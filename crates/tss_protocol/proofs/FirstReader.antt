@@ -2,12 +2,11 @@
 -- retire.
 use Rattle.std.proofs.Common.{◌≡◌, ℕ, suc, true, false, [], ◌∷◌, Option, Some, None, refl, ap, ◌∙◌}
 use Rattle.std.specs.Prelude.{◌==◌, ◌&&◌, nat_lt, is_none, is_some}
-use Rattle.std.specs.FinMap.{len, empty, len-empty, get-empty}
+use Rattle.std.specs.FinMap.{len, empty, get-empty}
 use Rattle.std.specs.Ordering.{nat_cmp}
 use Rattle.tss_base.specs.declared.operand.Mode.TheVariants.{Input}
 use Rattle.tss_base.specs.declared.operand.Task.{Task}
 use Rattle.tss_base.specs.declared.event.Event.TheVariants as event
-use Rattle.tss_base.specs.Names.{name_cmp}
 use Rattle.tss_isa.specs.InstrTable.{instr_of}
 use Rattle.tss_model.specs.Core.{core_step}
 use Rattle.tss_model.specs.TaskRun.{repeated, task_step}
@@ -19,10 +18,10 @@ use Rattle.tss_base.specs.declared.marks.Stage.TheVariants.{Running, Finished}
 use Rattle.tss_protocol.specs.Stations.{new_operand, entered, task_after_ready, awaited, woken_in, finished_in, parted_in}
 use Rattle.tss_protocol.specs.Versions.{first_version, after_open, released_once, sending, settle, settled, settle_at, released_at}
 use Rattle.tss_protocol.specs.Workers.{can_start, busy_at_start, can_exec, exec_stretch, busy_after, can_finish}
-use Rattle.tss_protocol.specs.Renaming.{decode_wait, decoded_by}
+use Rattle.tss_protocol.specs.Renaming.{Turn, wait_or, decode_wait, decoded_by}
 use Rattle.tss_protocol.specs.UnitMachine.{is_enabled, after_event, without, tables_of, stores_of, with_decoded, can_decode_message, decode_message_taken, can_open_message, open_message_taken, with_versioned, with_woken, ready_message_taken, start_task, after_exec, after_finish, with_flight, release_message_taken, bye_message_taken}
 use Rattle.tss_protocol.proofs.KnownEvents.{small}
-use Rattle.tss_protocol.proofs.RacingProgram.{with_version, x, reading, reader, after_first, one, only, at_one, gone_one, again_one, at_only, gone_only, again_only, none_counted, none_held, at, idle_with, o1}
+use Rattle.tss_protocol.proofs.RacingProgram.{with_version, x, reading, reader, after_first, one, room_for_one, own_turn, only, at_one, gone_one, again_one, at_only, gone_only, again_only, none_counted, none_held, at, idle_with, o1}
 
 -- task 1 is taken
 abbrev pub taken_first : State
@@ -33,7 +32,7 @@ taken_first =
 pub may_take_first : is_enabled small (idle_with after_first (Some (reader 1))) event.Take ≡ true
 unfolding is_enabled
 may_take_first = λ i.
-    (len-empty name_cmp (Unit {0}) i == 0)
+    room_for_one i
     && nat_lt (none_counted {X = Flying} (λ task y. station_of small.sizes task == 0) i) 8
 
 pub takes_first : after_event small (idle_with after_first (Some (reader 1))) event.Take ≡ taken_first
@@ -55,14 +54,14 @@ decoded_first =
 pub may_decode_first : is_enabled small taken_first (event.Decode o1) ≡ true
 unfolding is_enabled
 may_decode_first =
-    ap (can_decode_message small taken_first) (at_one o1 reading)
-    ∙ (λ i. is_none (decode_wait small.sizes
+    ap (can_decode_message small taken_first o1) (at_one o1 reading)
+    ∙ (λ i. is_none (wait_or (own_turn o1 i) Turn (decode_wait small.sizes
     (record {
       entries = none_counted {X = Entry} (λ base e. bank_of small.sizes e.object == 0) i;
       places = none_held {X = ℕ} (λ v b. b == 0) i;
       buffers = none_held {X = ℕ} (λ v b. b == 0) i;
     })
-    (get-empty {X = Entry} nat_cmp 0x20000 i) Input))
+    (get-empty {X = Entry} nat_cmp 0x20000 i) Input)))
 
 pub decodes_first : after_event small taken_first (event.Decode o1) ≡ decoded_first
 unfolding after_event

@@ -15,12 +15,12 @@ use Rattle.tss_protocol.specs.Names.{station_of}
 use Rattle.tss_protocol.specs.Mail.{no_mail}
 use Rattle.tss_protocol.specs.State.{State, Flying, Entry}
 use Rattle.tss_protocol.specs.Stations.{entered}
-use Rattle.tss_protocol.specs.Renaming.{fill_of, decode_wait, decoded_by, may_retire, idle_by}
+use Rattle.tss_protocol.specs.Renaming.{Turn, wait_or, fill_of, decode_wait, decoded_by, may_retire, idle_by}
 use Rattle.tss_protocol.specs.MainEvent.{after_call}
 use Rattle.tss_protocol.specs.UnitMachine.{is_enabled, after_event, without, tables_of, with_decoded, can_decode_message, decode_message_taken, idle_message_taken, with_entries}
 use Rattle.tss_protocol.specs.Run.{after_events, IsRun}
 use Rattle.tss_protocol.proofs.KnownEvents.{small}
-use Rattle.tss_protocol.proofs.RacingProgram.{racing, with_version, reading, reader, start, before_first, after_first, goes_to_first, before_second, after_second, second_task, one, only, at_one, gone_one, at_only, again_only, none_counted, idle_with, first_spawn, o1, o2}
+use Rattle.tss_protocol.proofs.RacingProgram.{racing, with_version, reading, reader, start, before_first, after_first, goes_to_first, before_second, after_second, second_task, one, room_for_one, own_turn, only, at_one, gone_one, at_only, again_only, none_counted, idle_with, first_spawn, o1, o2}
 use Rattle.tss_protocol.proofs.FirstReader.{may_take_first, takes_first, first_entry, may_decode_first, decodes_first, may_ack_first, acks_first, may_open, opens, may_ready, readies, may_start, starts, may_exec, execs, may_finish, finishes, asking, asks, may_release, releases, parted, may_bye, byes}
 
 -- main spawns task 2
@@ -49,7 +49,7 @@ taken_second =
 may_take_second : is_enabled small (parted after_second (Some (reader 2))) event.Take ≡ true
 unfolding is_enabled
 may_take_second = λ i.
-    (len-empty name_cmp (Unit {0}) i == 0)
+    room_for_one i
     && nat_lt (none_counted {X = Flying} (λ task y. station_of small.sizes task == 0) i) 8
 
 takes_second : after_event small (parted after_second (Some (reader 2))) event.Take ≡ taken_second
@@ -68,9 +68,9 @@ decoded_second =
 may_decode_second : is_enabled small taken_second (event.Decode o2) ≡ true
 unfolding is_enabled
 may_decode_second =
-    ap (can_decode_message small taken_second) (at_one o2 reading)
-    ∙ (λ i. is_none
-    (decode_wait small.sizes (fill_of small.sizes (tables_of taken_second) 0) (at_only 0x20000 first_entry i) Input))
+    ap (can_decode_message small taken_second o2) (at_one o2 reading)
+    ∙ (λ i. is_none (wait_or (own_turn o2 i) Turn
+    (decode_wait small.sizes (fill_of small.sizes (tables_of taken_second) 0) (at_only 0x20000 first_entry i) Input)))
 
 decodes_second : after_event small taken_second (event.Decode o2) ≡ decoded_second
 unfolding after_event

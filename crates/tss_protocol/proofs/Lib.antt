@@ -2,6 +2,9 @@ pub mod MessageNames
 pub mod DrainedStates
 pub mod EventOrder
 pub mod EnabledList
+pub mod WindowLemmas
+pub mod TurnLemmas
+pub mod MigrationLemmas
 pub mod SettleCases
 pub mod UnlinkedVersions
 mod KnownEvents

@@ -1,11 +1,12 @@
 -- A program whose main spawns two tasks that read one object: its image, main around each spawn, and states of a run of
 -- it.
-use Rattle.std.proofs.Common.{◌≡◌, ℕ, Bool, true, false, List, [], ◌∷◌, ◌++◌, Option, Some, None, refl, ap}
+use Rattle.std.proofs.Common.{◌≡◌, ℕ, Bool, true, false, List, [], ◌∷◌, ◌++◌, Option, Some, None, refl, sym, ap, ◌∙◌, inl, inr, arith}
 use Rattle.std.specs.Prelude.{replicate, flat_map, unwrap_or, Result, Ok}
 use Rattle.std.specs.Int.{bytes_low_first}
 use Rattle.std.specs.Cmp.{nat_cmp_total}
-use Rattle.std.specs.FinMap.{get, insert, remove, empty, find, get-empty, get-from_entries}
+use Rattle.std.specs.FinMap.{get, insert, remove, empty, find, get-empty, get-from_entries, len-empty}
 use Rattle.std.specs.Ordering.{nat_cmp}
+use Rattle.std.proofs.lemmas.Option.{none-some}
 use Rattle.tss_base.specs.declared.range.Range.{Range}
 use Rattle.tss_base.specs.declared.operand.OpName.{OpName}
 use Rattle.tss_base.specs.declared.operand.Mode.TheVariants.{Input}
@@ -23,13 +24,17 @@ use Rattle.tss_model.specs.TaskRun.{repeated}
 use Rattle.tss_model.specs.MainStep.{MainState, main_step, spawn_call, spawn_on}
 use Rattle.tss_maps.specs.Sums.{count_of, one_if}
 use Rattle.tss_maps.proofs.Keys.{nat_order, name_order}
-use Rattle.tss_maps.proofs.Changes.{at_inserted, remove_inserted, insert_again}
+use Rattle.tss_maps.proofs.Changes.{at_inserted, from_inserted, remove_inserted, insert_again}
 use Rattle.tss_maps.proofs.Sums.{sum_empty}
 use Rattle.tss_protocol.specs.Names.{operand_name}
 use Rattle.tss_protocol.specs.Mail.{Mail, no_mail}
 use Rattle.tss_protocol.specs.State.{State, Flying, Busy, Entry, Version, initial_state}
+use Rattle.tss_protocol.specs.Gateway.{has_window}
+use Rattle.tss_protocol.specs.Renaming.{line_of, has_earlier}
 use Rattle.tss_protocol.specs.MainEvent.{after_call}
 use Rattle.tss_protocol.specs.UnitMachine.{after_event}
+use Rattle.tss_protocol.proofs.WindowLemmas.{window_when_idle}
+use Rattle.tss_protocol.proofs.TurnLemmas.{turn_in_bank}
 use Rattle.tss_protocol.proofs.KnownEvents.{small}
 
 -- ---- the program: main spawns twice a task that reads four bytes at 0x20000
@@ -172,6 +177,20 @@ none_counted p = sum_empty nat_order (λ k x. one_if (p k x))
 
 pub none_held : {X : Type 0} (p : OpName → X → Bool) → count_of p (empty {R = name_cmp}) ≡ 0
 none_held p = sum_empty name_order (λ k x. one_if (p k x))
+
+-- ---- the front of the units
+
+-- an idle gateway has room for a task
+pub room_for_one : has_window small.sizes (empty {R = name_cmp}) ≡ true
+room_for_one = window_when_idle empty small.sizes (omega arith) (len-empty name_cmp (Unit {0}))
+
+-- an operand that alone is to be decoded doesn't wait for its turn
+pub own_turn : (k : OpName) → has_earlier k (line_of small.sizes 0 (one k reading)) ≡ false
+own_turn k = turn_in_bank small.sizes 0 (one k reading) k (λ p y e before same.
+    elim (from_inserted name_order empty k reading p y e) [
+      | inl here ↦ let task = ap (λ (o : OpName). o.task) here.0 in omega (arith, task, before)
+      | inr old ↦ none-some y (sym (get-empty name_cmp p) ∙ old.1)
+    ])
 
 -- ---- states: where main is, and what the units have
 

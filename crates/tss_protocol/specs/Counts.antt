@@ -33,11 +33,13 @@ counts_of m S = record {
 abbrev pub all_slots : Machine → ℕ
 all_slots m = m.sizes.stations * m.sizes.slots
 
--- an upper bound of the messages: a decode or an ack for each operand in the gateway, two messages for each operand in
--- a slot, and one for each place
+-- an upper bound of the messages: a decode or an ack for each operand of a window of tasks, two messages for each
+-- operand in a slot, and one for each place
 abbrev pub message_limit : Machine → ℕ
 message_limit m =
-    m.limits.max_operands + 2 * all_slots m * m.limits.max_operands + m.sizes.banks * m.sizes.versions
+    m.sizes.window * m.limits.max_operands
+    + 2 * all_slots m * m.limits.max_operands
+    + m.sizes.banks * m.sizes.versions
 
 -- the size of each count
 abbrev pub sizes_of : Machine → Counts

@@ -16,5 +16,6 @@ pub mod Counts
 pub mod Needs
 pub mod Text
 pub mod Schedule
+pub mod Migration
 pub mod Codes
 pub mod StateCodes

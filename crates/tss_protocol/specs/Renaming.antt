@@ -1,6 +1,6 @@
 -- The renaming tables, one bank at a time: an object's entry knows its latest version, and places and buffers are held
 -- under the names of the versions for which they were taken.
-use Rattle.std.specs.Prelude.{ℕ, suc, ◌==◌, Bool, true, false, ◌&&◌, nat_le, if◌then◌else◌, List, [], ◌∷◌, Option, Some, None, is_none}
+use Rattle.std.specs.Prelude.{ℕ, suc, ◌==◌, Bool, true, false, ◌&&◌, nat_lt, nat_le, if◌then◌else◌, List, [], ◌∷◌, Option, Some, None, is_none}
 use Rattle.std.specs.FinMap.{get, insert, remove}
 use Rattle.tss_base.specs.declared.operand.OpName.{OpName}
 use Rattle.tss_base.specs.declared.operand.Mode.{Mode}
@@ -12,6 +12,7 @@ use Rattle.tss_base.specs.declared.marks.How.TheVariants.{Beside, Over}
 use Rattle.tss_base.specs.declared.marks.Follow.{Follow}
 use Rattle.tss_base.specs.Names.{Named, Numbered}
 use Rattle.tss_maps.specs.Sums.{count_of}
+use Rattle.tss_maps.specs.Parts.{keys_where}
 use Rattle.tss_protocol.specs.Names.{bank_of, same_name}
 use Rattle.tss_protocol.specs.Mail.{Home, Buffer, Message, Ack, Open, Use, Nack, Retire, GoneContents}
 use Rattle.tss_protocol.specs.State.{Entry, Outcome}
@@ -53,19 +54,21 @@ fill_of sizes t bank = record {
 
 -- ---- decode: an operand finds its object's entry, or makes one
 
--- why a decode waits
+-- why a decode waits: it isn't its turn, its entry is about to leave, or a table of the bank is full
 pub data Wait : Type 0 where
+  Turn : Wait
   Retiring : Wait
   EntriesFull : Wait
   VersionsFull : Wait
   BuffersFull : Wait
 
--- their numbers, in the order in which they are tested
+-- their numbers. Turn is tested first, and then the others in order
 abbrev pub wait_number : Wait → ℕ
 wait_number Retiring = 1
 wait_number EntriesFull = 2
 wait_number VersionsFull = 3
 wait_number BuffersFull = 4
+wait_number Turn = 5
 
 -- the first of two waits
 abbrev pub wait_or : Bool → Wait → Option Wait → Option Wait
@@ -90,19 +93,36 @@ live_wait sizes fill Input = None
 live_wait sizes fill Inout = needs_place sizes fill None
 live_wait sizes fill Output = needs_place sizes fill (needs_buffer sizes fill None)
 
--- the first wait that holds: an object without an entry takes an entry and a place, and a retiring entry is waited for
+-- by the tables: an object without an entry takes an entry and a place, and a retiring entry is waited for
 abbrev pub decode_wait : Sizes → Fill → Option Entry → Mode → Option Wait
 decode_wait sizes fill None mode = needs_entry sizes fill (needs_place sizes fill None)
 decode_wait sizes fill (Some e) mode = wait_or e.retiring Retiring (live_wait sizes fill mode)
 
--- the same in the bank of the operand's object
-abbrev pub operand_wait : Sizes → Tables → Operand → Option Wait
-operand_wait sizes t operand =
-    decode_wait sizes (fill_of sizes t (bank_of sizes operand.object)) (get t.entries operand.object.base) operand.mode
+-- the line of a bank: the names of the operands that are to be decoded there, of all decodes under way
+abbrev pub line_of : Sizes → ℕ → Named Operand → Named (Unit {0})
+line_of sizes bank decodes = keys_where (λ o p. bank_of sizes p.object == bank) decodes
+
+-- an operand of an earlier task is in the line. Operands of one task have no order among themselves
+abbrev pub has_earlier : OpName → Named (Unit {0}) → Bool
+has_earlier o line = nat_le 1 (count_of (λ p x. nat_lt p.task o.task) line)
+
+-- the first wait that holds in a bank, by its line and what it has in use: operands are decoded there in the order of
+-- their tasks
+abbrev pub bank_wait : Sizes → Fill → Named (Unit {0}) → OpName → Option Entry → Mode → Option Wait
+bank_wait sizes fill line o entry mode = wait_or (has_earlier o line) Turn (decode_wait sizes fill entry mode)
+
+-- the same in one of all banks
+abbrev pub wait_in : Sizes → ℕ → Tables → Named Operand → OpName → Operand → Option Wait
+wait_in sizes bank t decodes o operand =
+    bank_wait sizes (fill_of sizes t bank) (line_of sizes bank decodes) o (get t.entries operand.object.base) operand.mode
+
+-- in the bank of the operand's object
+abbrev pub operand_wait : Sizes → Tables → Named Operand → OpName → Operand → Option Wait
+operand_wait sizes t decodes o operand = wait_in sizes (bank_of sizes operand.object) t decodes o operand
 
 -- it waits for nothing
-abbrev pub can_decode : Sizes → Tables → Operand → Bool
-can_decode sizes t operand = is_none (operand_wait sizes t operand)
+abbrev pub can_decode : Sizes → Tables → Named Operand → OpName → Operand → Bool
+can_decode sizes t decodes o operand = is_none (operand_wait sizes t decodes o operand)
 
 -- readers that the version of a new entry has already: an input opens its version as the first of them
 abbrev pub first_readers : Mode → ℕ

@@ -1,6 +1,6 @@
 -- Schedules: the choice of an event by a word, the run that a seed draws, and the run that a log gives, with its first
 -- fault.
-use Rattle.std.specs.Prelude.{ℕ, zero, suc, ◌%◌, if◌then◌else◌, List, [], ◌∷◌, length, slice_get, Option, Some, None}
+use Rattle.std.specs.Prelude.{ℕ, zero, suc, ◌%◌, if◌then◌else◌, List, [], ◌∷◌, length, slice_get, bytes_eq, Option, Some, None}
 use Rattle.rand_core.specs.Pcg32Seed.{pcg32_seed}
 use Rattle.rand_pcg.specs.Lcg.{Lcg}
 use Rattle.rand_pcg.specs.Pcg.{pcg32, pcg32_of_seed}
@@ -11,7 +11,7 @@ use Rattle.tss_protocol.specs.State.{State, initial_state}
 use Rattle.tss_protocol.specs.UnitMachine.{is_enabled, after_event, enabled_events}
 use Rattle.tss_protocol.specs.Result.{is_finished}
 use Rattle.tss_protocol.specs.Counts.{event_bound}
-use Rattle.tss_protocol.specs.Text.{event_of_text, lines_of}
+use Rattle.tss_protocol.specs.Text.{event_of_text, lines_of, log_header}
 
 -- ---- by a seed
 
@@ -41,8 +41,9 @@ seeded_events m i n = seeded_from (event_bound m) m (initial_state i) (seeded n)
 
 -- ---- by a log
 
--- why a log is refused, with the line's number from 1: it is no event's text, the state was finished before it, its
--- event wasn't enabled, or the lines end before the state is finished
+-- why a log is refused, with the number of a line from 1, a header counted: it is no event's text, its event wasn't
+-- enabled, the lines end before the state is finished (the number is then one more than that of the last), or the state
+-- was finished before it
 pub data LogFault : Type 0 where
   BadLine : ℕ → LogFault
   NotEnabled : ℕ → LogFault
@@ -79,6 +80,11 @@ unfoldable pub judged_from : Machine → State → ℕ → List (List ℕ) → J
 judged_from m S n [] = judged_end S n
 judged_from m S n (l ∷ ls) = judged_line m S n (λ T. judged_from m T (suc n) ls) (event_of_text l)
 
+-- all lines, where a header is passed over. A log without one has the older format, and its events begin at line 1
+abbrev pub judged_lines : Machine → State → List (List ℕ) → Judgement
+judged_lines m S [] = judged_from m S 1 []
+judged_lines m S (l ∷ ls) = if bytes_eq l log_header then judged_from m S 2 ls else judged_from m S 1 (l ∷ ls)
+
 -- what a log's bytes give
 abbrev pub judged : Machine → ImageState → List ℕ → Judgement
-judged m i bytes = judged_from m (initial_state i) 1 (lines_of bytes)
+judged m i bytes = judged_lines m (initial_state i) (lines_of bytes)

@@ -76,7 +76,7 @@ pub record HeldTrap : Type 0 where
   pub task : ℕ
   pub trap : Trap
 
--- the state. The gateway has the operands that are still to be acknowledged, and is idle where there are none. A
+-- the state. The gateway has the operands of the tasks that it holds, as far as they are still to be acknowledged. A
 -- worker, or the copy of a bank, is idle where nothing stands under its number. Held places and buffers have the number
 -- of their bank, and a held buffer has contents where it is set
 pub record State : Type 0 where

@@ -1,5 +1,5 @@
 -- The texts of events, their reading, and the text of a log.
-use Rattle.std.specs.Prelude.{ℕ, ◌+◌, ◌-◌, ◌*◌, ◌==◌, Bool, ◌&&◌, if◌then◌else◌, List, [], ◌∷◌, ◌++◌, flat_map, fold, Option, Some, None, codes, decimal, bytes_eq}
+use Rattle.std.specs.Prelude.{ℕ, ◌+◌, ◌-◌, ◌*◌, ◌==◌, Bool, ◌&&◌, if◌then◌else◌, List, [], ◌∷◌, ◌++◌, map, flat_map, fold, Option, Some, None, codes, decimal, bytes_eq}
 use Rattle.std.specs.List.{before_first, after_first, onto_first}
 use Rattle.tss_base.specs.declared.operand.OpName.{OpName}
 use Rattle.tss_base.specs.declared.event.Event.{Event}
@@ -38,9 +38,21 @@ event_text (Gone v) = codes "gone " ++ name_text v
 abbrev pub line_feed : ℕ
 line_feed = 10
 
--- a line for each event
+-- the first line of a log, which names its format
+abbrev pub log_header : List ℕ
+log_header = codes "tss-log 2"
+
+-- a line with its end
+abbrev pub ended_line : List ℕ → List ℕ
+ended_line line = line ++ line_feed ∷ []
+
+-- lines, each with its end
+abbrev pub text_of_lines : List (List ℕ) → List ℕ
+text_of_lines lines = flat_map ended_line lines
+
+-- a log: the header, and a line for each event
 abbrev pub log_text : List Event → List ℕ
-log_text es = flat_map (λ e. event_text e ++ line_feed ∷ []) es
+log_text es = text_of_lines (log_header ∷ map event_text es)
 
 -- ---- reading
 

@@ -15,7 +15,7 @@ use Rattle.tss_base.specs.Names.{Numbered}
 use Rattle.tss_protocol.specs.Names.{bank_of}
 use Rattle.tss_protocol.specs.Mail.{Source, OpenContents, ReleaseContents, IdleContents, GoneContents, Message, posted_all, taken, early_names, late_names, gone_names}
 use Rattle.tss_protocol.specs.State.{State, Flying, Busy, Entry, Version, CopyState, Outcome}
-use Rattle.tss_protocol.specs.Gateway.{is_idle, gateway_after_take, sent_by_take, gateway_after_ack}
+use Rattle.tss_protocol.specs.Gateway.{has_window, gateway_after_take, sent_by_take, gateway_after_ack}
 use Rattle.tss_protocol.specs.Stations.{has_slot, entered, flight_after_take, Woken, after_ready, after_link, flight_after_start, flight_after_finish, after_bye}
 use Rattle.tss_protocol.specs.Renaming.{Tables, can_decode, after_decode, after_idle, after_gone}
 use Rattle.tss_protocol.specs.Versions.{Versioned, can_open, after_open, can_use, after_use, after_release, after_nack, after_retire}
@@ -68,7 +68,7 @@ queue_with queue task false = queue
 -- take may happen, by the inbox's task
 abbrev pub can_take : Machine → State → Option Task → Bool
 can_take m S None = false
-can_take m S (Some t) = is_idle S.gateway && has_slot m.sizes S.flight t.number
+can_take m S (Some t) = has_window m.sizes S.gateway && has_slot m.sizes S.flight t.number
 
 -- the stage is queued
 abbrev pub is_queued : Stage → Bool
@@ -94,9 +94,9 @@ after_take S (Some t) = take_task S t
 -- ---- decode, ack
 
 -- decode may happen, by its message
-abbrev pub can_decode_message : Machine → State → Option Operand → Bool
-can_decode_message m S None = false
-can_decode_message m S (Some operand) = can_decode m.sizes (tables_of S) operand
+abbrev pub can_decode_message : Machine → State → OpName → Option Operand → Bool
+can_decode_message m S o None = false
+can_decode_message m S o (Some operand) = can_decode m.sizes (tables_of S) S.mail.decodes o operand
 
 -- the state with a bank's outcome
 abbrev pub with_decoded : State → Outcome Tables → State
@@ -255,7 +255,7 @@ gone_message_taken S v (Some g) =
 unfoldable pub is_enabled : Machine → State → Event → Bool
 is_enabled m S event.Main = can_main m S
 is_enabled m S event.Take = can_take m S S.inbox
-is_enabled m S (event.Decode o) = can_decode_message m S (get S.mail.decodes o)
+is_enabled m S (event.Decode o) = can_decode_message m S o (get S.mail.decodes o)
 is_enabled m S (event.Ack o) = is_some (get S.mail.acks o)
 is_enabled m S (event.Open o) = can_open_message S (get S.mail.opens o)
 is_enabled m S (event.Use o) = can_use_message S (get S.mail.uses o)
