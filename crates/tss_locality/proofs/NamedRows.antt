@@ -42,9 +42,9 @@ module _ (f : Objects) (m : Machine) (S : State) (named : IsNamed f S) where
   some_there None e = absurd (cc)
   some_there (Some y) e = (y, refl)
 
-  decode_there : (x : Option Operand) → can_decode_message m S x ≡ true → (y : Operand) × (x ≡ Some y)
-  decode_there None e = absurd (cc)
-  decode_there (Some y) e = (y, refl)
+  decode_there : (o : OpName) (x : Option Operand) → can_decode_message m S o x ≡ true → (y : Operand) × (x ≡ Some y)
+  decode_there o None e = absurd (cc)
+  decode_there o (Some y) e = (y, refl)
 
   open_there : (x : Option OpenContents) → can_open_message S x ≡ true → (y : OpenContents) × (x ≡ Some y)
   open_there None e = absurd (cc)
@@ -59,7 +59,7 @@ module _ (f : Objects) (m : Machine) (S : State) (named : IsNamed f S) where
   unfolding is_enabled
   known event.Main on fit = fit
   known event.Take on fit = tt
-  known (event.Decode o) on fit = let t = decode_there (get S.mail.decodes o) on in named.mail.decodes o t.0 t.1
+  known (event.Decode o) on fit = let t = decode_there o (get S.mail.decodes o) on in named.mail.decodes o t.0 t.1
   known (event.Ack o) on fit = let t = some_there (get S.mail.acks o) on in named.mail.acks o t.0 t.1
   known (event.Open o) on fit = let t = open_there (get S.mail.opens o) on in named.mail.opens o t.0 t.1
   known (event.Use o) on fit = let t = use_there (get S.mail.uses o) on in named.mail.uses o t.0 t.1

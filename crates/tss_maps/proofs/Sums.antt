@@ -180,7 +180,7 @@ module _ {K X : Type 0} {R : K → K → Ordering} (order : IsKeyOrder R) where
       let b = ap (λ n. n * w) (len_added order m k v new) in
       omega (arith, here, rest, a, b))
 
-one_if-le-one : (b : Bool) → one_if b ≤ 1
+pub one_if-le-one : (b : Bool) → one_if b ≤ 1
 one_if-le-one true = omega arith
 one_if-le-one false = omega arith
 

@@ -148,7 +148,7 @@ decoded_taken o m ts S T h p =
     )
 
 decoded_beside : (o q : OpName) (m : Machine) (ts : List Task) (S T : State) → HasDecoded o m ts S
-    → DecodesOperand S T q → DecodedBy ts (front_of T) o
+    → DecodesOperand m S T q → DecodedBy ts (front_of T) o
 decoded_beside o q m ts S T h p =
     let d = h.1 in
     let none : get (remove S.mail.decodes q) o ≡ None =

@@ -1,8 +1,9 @@
 -- Bounds on messages and on tasks in flight, from the laws on who holds what.
-use Rattle.std.proofs.Common.{◌≡◌, ℕ, ◌+◌, ◌-◌, ◌*◌, ◌/◌, ◌<◌, ◌≤◌, ◌⊎◌, inl, inr, List, [], Some, refl, sym, ap, ◌∙◌, arith, mod-lt}
-use Rattle.std.specs.Prelude.{nat_lt}
-use Rattle.std.specs.FinMap.{get, len}
-use Rattle.std.proofs.lemmas.Bool.{lt-ltb}
+use Rattle.std.proofs.Common.{◌≡◌, ℕ, zero, suc, ◌+◌, ◌-◌, ◌*◌, ◌/◌, ◌<◌, ◌≤◌, ◌⊎◌, inl, inr, true, List, [], ◌∷◌, length, Some, refl, sym, ap, ◌∙◌, arith, mod-lt}
+use Rattle.std.specs.Prelude.{nat_lt, is_some}
+use Rattle.std.specs.Ordering.{nat_cmp}
+use Rattle.std.specs.FinMap.{get, insert, empty, len, len-empty}
+use Rattle.std.proofs.lemmas.Bool.{and_from, lt-ltb}
 use Rattle.std.proofs.lemmas.Option.{none-some, same_Some, slice_get_within}
 use Rattle.tss_base.specs.declared.range.Range.{Range}
 use Rattle.tss_base.specs.declared.operand.OpName.{OpName}
@@ -11,16 +12,19 @@ use Rattle.tss_base.specs.declared.machine.Sizes.{Sizes}
 use Rattle.tss_base.specs.declared.machine.Machine.{Machine}
 use Rattle.tss_base.specs.declared.machine.Key.TheVariants.{Stations, Banks}
 use Rattle.tss_base.specs.Names.{Numbered}
-use Rattle.tss_maps.proofs.Keys.{nat_order, name_order}
-use Rattle.tss_maps.proofs.Entries.{len_within_places}
-use Rattle.tss_maps.proofs.Sums.{count_all}
+use Rattle.tss_maps.proofs.Keys.{nat_order, name_order, decide_key}
+use Rattle.tss_maps.proofs.Changes.{at_inserted, beside_inserted}
+use Rattle.tss_maps.proofs.Entries.{len_inserted}
+use Rattle.tss_maps.proofs.Sums.{one_if-le-one, count_all}
 use Rattle.tss_model.specs.Access.{operands_of}
 use Rattle.tss_protocol.specs.Names.{bank_of, station_of}
 use Rattle.tss_protocol.specs.State.{State, Flying, Version, initial_state}
 use Rattle.tss_protocol.specs.Stations.{tasks_in}
+use Rattle.tss_protocol.proofs.HeldTasks.{IsAmong, held_numbers, length-held_numbers, operand_held}
 use Rattle.tss_names.specs.Asking.{AsksOnce}
 use Rattle.tss_names.specs.Held.{HoldsPlaces}
 use Rattle.tss_names.specs.MessageCounts.{gateway_messages, version_messages, MessagesLaw}
+use Rattle.tss_names.proofs.NameCounts.{IsMeasure-map, those_in, those_at, those_all, in_tasks, few_in_tasks}
 use Rattle.tss_names.proofs.RunLemmas.{kept_after}
 use Rattle.tss_names.proofs.GatewayLemmas.{IsFrontSound, IsFrontSound-after_event, IsFrontSound-initial_state}
 use Rattle.tss_names.proofs.SlotLemmas.{slots_of_runs}
@@ -49,18 +53,58 @@ flight_few sizes flight some each =
 
 -- ---- the gateway
 
+-- numbers as a map to nothing
+map_of : List ℕ → Numbered (Unit {0})
+map_of [] = empty
+map_of (n ∷ ns) = insert (map_of ns) n tt
+
+len-map_of : (ns : List ℕ) → len (map_of ns) ≤ length ns
+unfolding map_of
+len-map_of [] = let none = len-empty nat_cmp (Unit {0}) in omega (arith, none)
+len-map_of (n ∷ ns) =
+    let rest = len-map_of ns in
+    let more = (len_inserted nat_order (map_of ns) n tt).1 in
+    omega (arith, rest, more)
+
+at_map_of : (ns : List ℕ) (n : ℕ) → IsAmong n ns → get (map_of ns) n ≡ Some tt
+unfolding map_of
+at_map_of [] n h = absurd h
+at_map_of (k ∷ ns) n (inl same) = ap (get (insert (map_of ns) k tt)) (sym same) ∙ at_inserted nat_order (map_of ns) k tt
+at_map_of (k ∷ ns) n (inr h) = elim (decide_key nat_order n k) [
+  | inl same ↦ ap (get (insert (map_of ns) k tt)) same ∙ at_inserted nat_order (map_of ns) k tt
+  | inr other ↦ beside_inserted nat_order (map_of ns) k tt n other ∙ at_map_of ns n h
+]
+
+-- more times a number is more
+pub more_times : (a b n : ℕ) → a ≤ b → a * n ≤ b * n
+more_times a b zero h = omega arith
+more_times a b (suc n) h = let rest = more_times a b n h in omega (arith, rest, h)
+
 module _ (m : Machine) (ts : List Task) (S : State) (h : IsFrontSound m ts S) where
-  gateway_few : len S.gateway ≤ m.limits.max_operands
-  gateway_few =
-      len_within_places name_order (λ (o : OpName) u. o.place) S.gateway m.limits.max_operands
-      (λ o u e.
+  -- an operand in the gateway is at a place of one of the tasks held
+  held_place : (o : OpName) (u : Unit {0}) → get S.gateway o ≡ Some u
+      → in_tasks (map_of (held_numbers S.gateway)) m.limits.max_operands o ≡ true
+  held_place o u e =
       let x = h.1.each o e in
       let within = slice_get_within (operands_of x.1.task) o.place x.0 x.1.place in
       let few = (h.0.each o.task x.1.task x.1.spawned).operands in
-      omega (arith, within, few))
-      (λ o q u w e f same.
-      let one = h.1.last o e ∙ sym (h.1.last q f) in
-      λ i. record { task = one i; place = same i })
+      let there = at_map_of (held_numbers S.gateway) o.task (operand_held S.gateway o e) in
+      and_from (is_some (get (map_of (held_numbers S.gateway)) o.task)) (nat_lt o.place m.limits.max_operands)
+      (ap is_some there) (lt-ltb o.place m.limits.max_operands (omega (arith, within, few)))
+
+  gateway_few : len S.gateway ≤ m.sizes.window * m.limits.max_operands
+  gateway_few =
+      let ns = held_numbers S.gateway in
+      let p = in_tasks (map_of ns) m.limits.max_operands in
+      let all = those_all S.gateway p held_place in
+      let few = few_in_tasks (those_in S.gateway) (IsMeasure-map S.gateway)
+      (λ k. let a = those_at S.gateway k in let one = one_if-le-one (is_some (get S.gateway k)) in omega (arith, a, one))
+      m.limits.max_operands (map_of ns) in
+      let most = len-map_of ns in
+      let many = length-held_numbers S.gateway in
+      let held = h.1.few in
+      let times = more_times (len (map_of ns)) m.sizes.window m.limits.max_operands (omega (arith, most, many, held)) in
+      omega (arith, all, few, times)
 
   gateway_room : gateway_messages S.mail ≤ len S.gateway
   gateway_room =

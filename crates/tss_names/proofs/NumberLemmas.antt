@@ -204,7 +204,7 @@ numbers_same m ts S T h spawned inbox flight = record {
 
 -- decode keeps it
 pub numbers_decode : (m : Machine) (ts : List Task) (S T : State) (o : OpName) → HasTaskNumbers m ts S
-    → DecodesOperand S T o → HasTaskNumbers m ts T
+    → DecodesOperand m S T o → HasTaskNumbers m ts T
 numbers_decode m ts S T o h d =
     numbers_same m ts S T h (ap (λ f. f.spawned) d.front) (ap (λ f. f.inbox) d.front) (ap (λ b. b.flight) d.back)
 

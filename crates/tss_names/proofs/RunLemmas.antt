@@ -62,7 +62,7 @@ module _ (I J : TasksFact)
     (spawns : (m : Machine) (ts us : List Task) (S T : State) → I m ts S → (p : SpawnsOne m ts us S T)
     → J m (p.task ∷ ts) T)
     (takes : (m : Machine) (ts : List Task) (S T : State) → I m ts S → TakesTask m S T → J m ts T)
-    (decodes : (m : Machine) (ts : List Task) (S T : State) (o : OpName) → I m ts S → DecodesOperand S T o → J m ts T)
+    (decodes : (m : Machine) (ts : List Task) (S T : State) (o : OpName) → I m ts S → DecodesOperand m S T o → J m ts T)
     (acknowledges : (m : Machine) (ts : List Task) (S T : State) (o : OpName) → I m ts S → AcknowledgesOperand S T o
     → J m ts T)
     (keeps : (m : Machine) (ts : List Task) (S T : State) → I m ts S → KeepsFront S T → J m ts T) where

@@ -26,7 +26,8 @@ use Rattle.tss_protocol.specs.Names.{bank_of}
 use Rattle.tss_protocol.specs.Mail.{Source, OpenContents, ReleaseContents, IdleContents, GoneContents}
 use Rattle.tss_protocol.specs.State.{State, Flying, Busy, Entry, Version, CopyState, initial_state}
 use Rattle.tss_protocol.specs.Stations.{tasks_in}
-use Rattle.tss_protocol.specs.Renaming.{Fill, Tables, entries_in, places_in, buffers_in, fill_of, Wait, wait_or, EntriesFull, VersionsFull, BuffersFull, Retiring, needs_place, needs_buffer, live_wait, decode_wait, can_decode, live_entry, entry_after_decode, takes_place, takes_buffer, after_decode, may_retire, retiring_entry, idle_by, buffers_after_gone, after_gone}
+use Rattle.tss_protocol.specs.Renaming.{Fill, Tables, entries_in, places_in, buffers_in, fill_of, line_of, has_earlier, Wait, Turn, wait_or, EntriesFull, VersionsFull, BuffersFull, Retiring, needs_place, needs_buffer, live_wait, decode_wait, can_decode, live_entry, entry_after_decode, takes_place, takes_buffer, after_decode, may_retire, retiring_entry, idle_by, buffers_after_gone, after_gone}
+use Rattle.tss_protocol.proofs.TurnLemmas.{waits_for_neither}
 use Rattle.tss_protocol.specs.Counts.{greatest}
 use Rattle.tss_protocol.specs.MainEvent.{call_next, main_by, after_call}
 use Rattle.tss_protocol.specs.UnitMachine.{is_enabled, after_event, tables_of, without, after_take, can_decode_message, decode_message_taken, open_message_taken, use_message_taken, ready_message_taken, link_message_taken, after_start, start_task, after_exec, after_finish, release_message_taken, bye_message_taken, idle_message_taken, retire_version, after_copy, gone_message_taken}
@@ -146,14 +147,16 @@ module _ (sizes : Sizes) (t : Tables) (h : AreWithinBanks sizes t) where
       let within = h.entries b in
       omega (arith, same, within)
 
-  within_decoded : (o : OpName) (operand : Operand) → can_decode sizes t operand ≡ true
+  within_decoded : (decodes : Named Operand) (o : OpName) (operand : Operand) → can_decode sizes t decodes o operand ≡ true
       → AreWithinBanks sizes (after_decode sizes t o operand).part
-  within_decoded o operand on =
+  within_decoded decodes o operand on =
       let bank = bank_of sizes operand.object in
       let entry = get t.entries operand.object.base in
-      let room = room_place sizes (fill_of sizes t bank) entry operand.mode on in
+      let free = (waits_for_neither (has_earlier o (line_of sizes bank decodes)) Turn
+      (decode_wait sizes (fill_of sizes t bank) entry operand.mode) on).1 in
+      let room = room_place sizes (fill_of sizes t bank) entry operand.mode free in
       record {
-        entries = entries_decoded o operand entry refl on;
+        entries = entries_decoded o operand entry refl free;
         places = held_more t.places o bank (takes_place entry operand.mode) sizes.versions h.places room.0;
         buffers = held_more t.buffers o bank (takes_buffer entry operand.mode) sizes.buffers h.buffers room.1;
       }
@@ -216,10 +219,10 @@ module _ (m : Machine) (S : State) (h : AreWithinBanks m.sizes (tables_of S)) wh
   banks_take None = h
   banks_take (Some t) = h
 
-  banks_decode : (o : OpName) (c : Option Operand) → can_decode_message m S c ≡ true
+  banks_decode : (o : OpName) (c : Option Operand) → can_decode_message m S o c ≡ true
       → AreWithinBanks m.sizes (tables_of (decode_message_taken m (without S (event.Decode o)) o c))
   banks_decode o None on = h
-  banks_decode o (Some operand) on = within_decoded m.sizes (tables_of S) h o operand on
+  banks_decode o (Some operand) on = within_decoded m.sizes (tables_of S) h S.mail.decodes o operand on
 
   banks_open : (o : OpName) (c : Option OpenContents)
       → AreWithinBanks m.sizes (tables_of (open_message_taken (without S (event.Open o)) o c))

@@ -1,5 +1,5 @@
 -- What take, decode and ack do to the front, and what stands under the names of a task's operands after its take.
-use Rattle.std.proofs.Common.{◌≡◌, ◌≢◌, ℕ, zero, suc, ◌+◌, ◌<◌, ◌⊎◌, inl, inr, true, List, [], ◌∷◌, Option, Some, None, refl, ap, ◌∙◌, arith}
+use Rattle.std.proofs.Common.{◌≡◌, ◌≢◌, ℕ, zero, suc, ◌+◌, ◌<◌, ◌⊎◌, inl, inr, true, false, List, [], ◌∷◌, Option, Some, None, refl, ap, ◌∙◌, arith}
 use Rattle.std.specs.Prelude.{◌==◌, slice_get}
 use Rattle.std.specs.FinMap.{get, insert, remove, len}
 use Rattle.std.proofs.lemmas.Bool.{and_parts}
@@ -14,13 +14,14 @@ use Rattle.tss_base.specs.Names.{Named}
 use Rattle.tss_maps.proofs.Keys.{name_order}
 use Rattle.tss_maps.proofs.Changes.{at_inserted, beside_inserted, from_inserted}
 use Rattle.tss_model.specs.Access.{operands_of}
-use Rattle.tss_protocol.specs.Names.{operand_name}
+use Rattle.tss_protocol.specs.Names.{bank_of, operand_name}
 use Rattle.tss_protocol.specs.Mail.{Mail, posted, posted_all}
 use Rattle.tss_protocol.specs.State.{State, Entry}
-use Rattle.tss_protocol.specs.Gateway.{names_from, held_with, decodes_from}
+use Rattle.tss_protocol.specs.Gateway.{names_from, held_with, decodes_from, has_window}
 use Rattle.tss_protocol.specs.Stations.{has_slot, entered, flight_after_take}
-use Rattle.tss_protocol.specs.Renaming.{decode_message, live_message}
-use Rattle.tss_protocol.specs.UnitMachine.{IsEnabled, queue_with, is_queued, is_enabled, after_event, can_take, after_take, without, can_decode_message, decode_message_taken}
+use Rattle.tss_protocol.specs.Renaming.{HasTurn, Turn, fill_of, line_of, has_earlier, decode_wait, decode_message, live_message}
+use Rattle.tss_protocol.specs.UnitMachine.{IsEnabled, tables_of, queue_with, is_queued, is_enabled, after_event, can_take, after_take, without, can_decode_message, decode_message_taken}
+use Rattle.tss_protocol.proofs.TurnLemmas.{waits_for_neither}
 use Rattle.tss_names.proofs.FrontLemmas.{front_of, back_of}
 use Rattle.tss_names.proofs.PlainLemmas.{some_unit, zero_from_test}
 
@@ -40,6 +41,15 @@ module _ {X : Type 0} (f : Operand → X) where
       let other : q ≢ operand_name task place = λ same. let p = ap (λ (o : OpName). o.place) same in omega (arith, p) in
       beside_spread (insert m (operand_name task place) (f o)) task (suc place) os q (omega (arith, earlier))
       ∙ beside_inserted name_order m (operand_name task place) (f o) q other
+
+  -- nor under a name of another task
+  pub outside_spread : (m : Named X) (task place : ℕ) (os : List Operand) (q : OpName) → q.task ≢ task
+      → get (spread f m task place os) q ≡ get m q
+  outside_spread m task place [] q apart = refl
+  outside_spread m task place (o ∷ os) q apart =
+      outside_spread (insert m (operand_name task place) (f o)) task (suc place) os q apart
+      ∙ beside_inserted name_order m (operand_name task place) (f o) q
+      (λ same. apart (ap (λ (o : OpName). o.task) same))
 
   -- it stands under the name of each operand
   pub at_spread : (m : Named X) (task place : ℕ) (os : List Operand) (i : ℕ) (x : Operand) → slice_get os i ≡ Some x
@@ -97,7 +107,7 @@ posted_all-decodes m task place (o ∷ os) =
 pub record TakesTask (m : Machine) (S T : State) : Type 0 where
   pub task : Task
   pub there : S.inbox ≡ Some task
-  pub idle : len S.gateway ≡ 0
+  pub window : has_window m.sizes S.gateway ≡ true
   pub slot : has_slot m.sizes S.flight task.number ≡ true
   pub front : front_of T ≡ record (front_of S) {
     inbox = None;
@@ -114,12 +124,12 @@ takes_by : (m : Machine) (S : State) (t : Option Task) → S.inbox ≡ t → can
     → TakesTask m S (after_take S t)
 takes_by m S None e on = absurd (cc)
 takes_by m S (Some t) e on =
-    let may = and_parts (len S.gateway == 0) (has_slot m.sizes S.flight t.number) on in
+    let may = and_parts (has_window m.sizes S.gateway) (has_slot m.sizes S.flight t.number) on in
     let sent = posted_all-decodes S.mail t.number 0 (operands_of t) in
     record {
       task = t;
       there = e;
-      idle = zero_from_test (len S.gateway) may.0;
+      window = may.0;
       slot = may.1;
       front = λ i. record (front_of S) {
         inbox = None;
@@ -130,10 +140,11 @@ takes_by m S (Some t) e on =
       back = refl;
     }
 
--- an operand is decoded
-pub record DecodesOperand (S T : State) (o : OpName) : Type 0 where
+-- an operand is decoded, when it is its turn
+pub record DecodesOperand (m : Machine) (S T : State) (o : OpName) : Type 0 where
   pub operand : Operand
   pub there : get S.mail.decodes o ≡ Some operand
+  pub turn : HasTurn m.sizes S.mail.decodes o operand
   pub front : front_of T
       ≡ record (front_of S) { decodes = remove S.mail.decodes o; acks = insert S.mail.acks o tt }
   pub back : back_of T ≡ back_of S
@@ -154,14 +165,18 @@ decode_message-front m o operand None = (refl, refl)
 decode_message-front m o operand (Some e) = live_message-front m o operand e operand.mode
 
 decodes_by : (m : Machine) (S : State) (o : OpName) (c : Option Operand) → get S.mail.decodes o ≡ c
-    → can_decode_message m S c ≡ true → DecodesOperand S (decode_message_taken m (without S (event.Decode o)) o c) o
+    → can_decode_message m S o c ≡ true → DecodesOperand m S (decode_message_taken m (without S (event.Decode o)) o c) o
 decodes_by m S o None e on = absurd (cc)
 decodes_by m S o (Some operand) e on =
-    let sent = decode_message-front (record (S.mail) { decodes = remove S.mail.decodes o }) o operand
-    (get S.entries operand.object.base) in
+    let entry = get S.entries operand.object.base in
+    let bank = bank_of m.sizes operand.object in
+    let line = line_of m.sizes bank S.mail.decodes in
+    let fill = fill_of m.sizes (tables_of S) bank in
+    let sent = decode_message-front (record (S.mail) { decodes = remove S.mail.decodes o }) o operand entry in
     record {
       operand = operand;
       there = e;
+      turn = (waits_for_neither (has_earlier o line) Turn (decode_wait m.sizes fill entry operand.mode) on).0;
       front = λ i. record (front_of S) { decodes = sent.0 i; acks = insert (sent.1 i) o tt };
       back = refl;
     }
@@ -180,7 +195,7 @@ module _ (m : Machine) (S : State) where
 
   -- decode decodes its operand
   pub decodes_decode : (o : OpName) → IsEnabled m S (event.Decode o)
-      → DecodesOperand S (after_event m S (event.Decode o)) o
+      → DecodesOperand m S (after_event m S (event.Decode o)) o
   unfolding is_enabled after_event
   decodes_decode o on = decodes_by m S o (get S.mail.decodes o) refl on
 

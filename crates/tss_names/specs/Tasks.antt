@@ -124,19 +124,15 @@ pub record AreGatewayTasks (most : ℕ) (S : State) (ns : List ℕ) : Type 0 whe
   pub each : All (IsInGateway S) ns
   pub all : (o : OpName) → get S.gateway o ≡ Some tt → Any (λ n. n ≡ o.task) ns
 
--- how many tasks the gateway may hold
-abbrev pub gateway_room : ℕ
-gateway_room = 1
-
 -- an operand of the gateway: its decode is under way, or else its ack
 abbrev pub IsAcknowledging : State → OpName → Type 0
 IsAcknowledging S o =
     ((operand : Operand) × (get S.mail.decodes o ≡ Some operand)) ⊎ (get S.mail.acks o ≡ Some tt)
 
--- the gateway has operands of few tasks, all of them taken. An operand is in it exactly where its decode or its ack is
+-- the gateway has operands of a window of tasks at most, all of them taken. An operand is in it exactly where its decode or its ack is
 -- under way, and never are both. A decode has the operand of its name
 pub record HasGateway (m : Machine) (ts : List Task) (S : State) : Type 0 where
-  pub tasks : (ns : List ℕ) × AreGatewayTasks gateway_room S ns
+  pub tasks : (ns : List ℕ) × AreGatewayTasks m.sizes.window S ns
   pub each : (o : OpName) → get S.gateway o ≡ Some tt → IsOfTaken ts S o
   pub held : (o : OpName) → get S.gateway o ≡ Some tt → IsAcknowledging S o
   pub decodes : (o : OpName) (operand : Operand) → get S.mail.decodes o ≡ Some operand

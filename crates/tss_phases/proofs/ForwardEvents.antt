@@ -222,7 +222,7 @@ module _ (m : Machine) (S : State) (orderly : AreOrderly S) where
       → GoesOnFrom S (after_event m S (event.Decode o)) q
   unfolding is_enabled
   decode_forward o enabled =
-      let x = something (can_decode_message m S) (get S.mail.decodes o) refl enabled in
+      let x = something (can_decode_message m S o) (get S.mail.decodes o) refl enabled in
       forward-decode o x.0 x.1
 
   open_forward : (o : OpName) → IsEnabled m S (event.Open o) → OpensForWaiting S o → (q : OpName)

@@ -75,7 +75,7 @@ module _ (m : Machine) (S : State) (orderly : AreOrderly S) where
   decode_kept : (o : OpName) → IsEnabled m S (event.Decode o) → AreOrderly (after_event m S (event.Decode o))
   unfolding is_enabled
   decode_kept o enabled =
-      let x = something (can_decode_message m S) (get S.mail.decodes o) refl enabled in
+      let x = something (can_decode_message m S o) (get S.mail.decodes o) refl enabled in
       orderly-decode m S o x.0 x.1 orderly
 
   ready_kept : (o : OpName) → IsEnabled m S (event.Ready o) → ReadiesWaiting S o

@@ -2,6 +2,7 @@ pub mod MessageNames
 pub mod DrainedStates
 pub mod EventOrder
 pub mod EnabledList
+pub mod HeldTasks
 pub mod WindowLemmas
 pub mod TurnLemmas
 pub mod MigrationLemmas

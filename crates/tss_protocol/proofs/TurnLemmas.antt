@@ -7,6 +7,8 @@ use Rattle.std.specs.FinMap.{get}
 use Rattle.tss_base.specs.declared.operand.OpName.{OpName}
 use Rattle.tss_base.specs.declared.operand.Operand.{Operand}
 use Rattle.tss_base.specs.declared.machine.Sizes.{Sizes}
+use Rattle.tss_base.specs.declared.machine.Machine.{Machine}
+use Rattle.tss_base.specs.declared.event.Event.TheVariants as event
 use Rattle.tss_base.specs.Names.{Named}
 use Rattle.tss_maps.specs.Sums.{count_of}
 use Rattle.tss_maps.specs.Parts.{key_where}
@@ -14,7 +16,9 @@ use Rattle.tss_maps.proofs.Keys.{name_order}
 use Rattle.tss_maps.proofs.Sums.{count_none, counted}
 use Rattle.tss_maps.proofs.PartsLemmas.{get-keys_where}
 use Rattle.tss_protocol.specs.Names.{bank_of}
-use Rattle.tss_protocol.specs.Renaming.{Wait, wait_or, line_of, has_earlier}
+use Rattle.tss_protocol.specs.State.{State}
+use Rattle.tss_protocol.specs.Renaming.{HasTurn, Wait, Turn, wait_or, fill_of, line_of, has_earlier, decode_wait}
+use Rattle.tss_protocol.specs.UnitMachine.{tables_of, can_decode_message, is_enabled, IsEnabled}
 
 -- ---- any line
 
@@ -29,7 +33,7 @@ module _ (o : OpName) (line : Named (Unit {0})) where
       not_earlier : (p : OpName) (x : Unit {0}) (b : Bool) → nat_lt p.task o.task ≡ b → get line p ≡ Some x
           → nat_lt p.task o.task ≡ false
       not_earlier p x false is e = is
-      not_earlier p tt true is e =
+      not_earlier p x true is e =
           let before : p.task < o.task = grind (arith, nat_tests, is) in
           absurd (none p e before)
 
@@ -96,6 +100,30 @@ pub waits_for_neither : (b : Bool) (w : Wait) (rest : Option Wait) → is_none (
 waits_for_neither true w rest e = absurd (true≢false (sym e))
 waits_for_neither false w rest e = (refl, e)
 
+-- nor is it where both don't
 pub neither_waits : (b : Bool) (w : Wait) (rest : Option Wait) → b ≡ false → is_none rest ≡ true
     → is_none (wait_or b w rest) ≡ true
 neither_waits b w rest turn e = ap (λ b. is_none (wait_or b w rest)) turn ∙ e
+
+-- ---- an enabled decode
+
+module _ (m : Machine) (S : State) (o : OpName) (p : Operand) (there : get S.mail.decodes o ≡ Some p)
+    (on : IsEnabled m S (event.Decode o)) where
+  both_waits : (HasTurn m.sizes S.mail.decodes o p)
+      × (is_none (decode_wait m.sizes (fill_of m.sizes (tables_of S) (bank_of m.sizes p.object))
+      (get S.entries p.object.base) p.mode) ≡ true)
+  unfolding is_enabled
+  both_waits =
+      let bank = bank_of m.sizes p.object in
+      waits_for_neither (has_earlier o (line_of m.sizes bank S.mail.decodes)) Turn
+      (decode_wait m.sizes (fill_of m.sizes (tables_of S) bank) (get S.entries p.object.base) p.mode)
+      (sym (ap (can_decode_message m S o) there) ∙ on)
+
+  -- it has its turn
+  pub decode_in_turn : HasTurn m.sizes S.mail.decodes o p
+  decode_in_turn = both_waits.0
+
+  -- and waits for no table
+  pub decode_finds_room : is_none (decode_wait m.sizes (fill_of m.sizes (tables_of S) (bank_of m.sizes p.object))
+      (get S.entries p.object.base) p.mode) ≡ true
+  decode_finds_room = both_waits.1

@@ -1,6 +1,6 @@
 -- The renaming tables, one bank at a time: an object's entry knows its latest version, and places and buffers are held
 -- under the names of the versions for which they were taken.
-use Rattle.std.specs.Prelude.{ℕ, suc, ◌==◌, Bool, true, false, ◌&&◌, nat_lt, nat_le, if◌then◌else◌, List, [], ◌∷◌, Option, Some, None, is_none}
+use Rattle.std.specs.Prelude.{◌≡◌, ℕ, suc, ◌==◌, Bool, true, false, ◌&&◌, nat_lt, nat_le, if◌then◌else◌, List, [], ◌∷◌, Option, Some, None, is_none}
 use Rattle.std.specs.FinMap.{get, insert, remove}
 use Rattle.tss_base.specs.declared.operand.OpName.{OpName}
 use Rattle.tss_base.specs.declared.operand.Mode.{Mode}
@@ -105,6 +105,10 @@ line_of sizes bank decodes = keys_where (λ o p. bank_of sizes p.object == bank)
 -- an operand of an earlier task is in the line. Operands of one task have no order among themselves
 abbrev pub has_earlier : OpName → Named (Unit {0}) → Bool
 has_earlier o line = nat_le 1 (count_of (λ p x. nat_lt p.task o.task) line)
+
+-- it is an operand's turn in the bank of its object
+abbrev pub HasTurn : Sizes → Named Operand → OpName → Operand → Type 0
+HasTurn sizes decodes o operand = has_earlier o (line_of sizes (bank_of sizes operand.object) decodes) ≡ false
 
 -- the first wait that holds in a bank, by its line and what it has in use: operands are decoded there in the order of
 -- their tasks

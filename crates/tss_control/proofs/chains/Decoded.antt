@@ -32,6 +32,7 @@ use Rattle.tss_control.proofs.chains.Numbers.{crossed}
 use Rattle.tss_control.proofs.rounds.EntriesNames.{decode_among, no_version, no_open, no_use, object_of_entry}
 use Rattle.tss_control.proofs.rounds.EntriesDecodeOpen.{DecodesOpen}
 use Rattle.tss_control.proofs.rounds.EntriesDecode.{sends_first, sends_beside, sends_over, sends_use, entry_awake}
+use Rattle.tss_protocol.proofs.TurnLemmas.{decode_in_turn}
 use Rattle.tss_control.proofs.rounds.DecodeFacts.{members_earlier, no_writer_since}
 use Rattle.tss_control.proofs.chains.Decode.{KeepsVersions, version_was, versions_were, linked_left, stored_left, chains_opened, opens_behind, opens_nothing, opens_behind_latest}
 
@@ -185,7 +186,8 @@ module _ (m : Machine) (all ts : List Task) (g : Arrivals) (S : State) (ground :
       live = subst (λ x. IsLive S x e) object (k.entries.live p.object.base e at awake)
 
       alone : NoWriterBetween ts p.object e.latest o
-      alone = no_writer_since m all ts S ground k.orderly o p there k.entries p.object.base e at object
+      alone = no_writer_since m all ts S ground k.orderly o p there (decode_in_turn m S o p there on)
+          k.entries p.object.base e at object
 
       -- an operand that writes follows the latest version
       decoded_behind : (c : OpenContents) (n : Entry) (f : Follow) → c.operand ≡ p → c.follows ≡ Some f
@@ -259,5 +261,5 @@ module _ (m : Machine) (all ts : List Task) (g : Arrivals) (S : State) (ground :
   pub HasChains-decode : HasChains ts (after_event m S (event.Decode o))
   unfolding is_enabled
   HasChains-decode =
-      let p = something (can_decode_message m S) (get S.mail.decodes o) refl on in
+      let p = something (can_decode_message m S o) (get S.mail.decodes o) refl on in
       decoded_by p.0 p.1 (get S.entries p.0.object.base) refl

@@ -109,6 +109,6 @@ module _ (m : Machine) (all ts : List Task) (S : State) (ground : HasGroundwork 
   pub HasRetirement-decode : HasRetirement S → HasRetirement T
   unfolding is_enabled
   HasRetirement-decode r =
-      let p = something (can_decode_message m S) (get S.mail.decodes o) refl on in
+      let p = something (can_decode_message m S o) (get S.mail.decodes o) refl on in
       retirement_kept S T (λ i. (Leaves-after_event m S (event.Decode o) i).versions) (decode_nacks p.0 p.1)
       (λ v y count version c. cause_by p.0 p.1 v y count version c (get S.entries p.0.object.base) refl) r

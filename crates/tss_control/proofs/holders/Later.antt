@@ -36,7 +36,7 @@ module _ (m : Machine) (S : State) (orderly : AreOrderly S) where
   unfolding is_enabled
   later-decode o on =
       let T = after_event m S (event.Decode o) in
-      let x = something (can_decode_message m S) (get S.mail.decodes o) refl on in
+      let x = something (can_decode_message m S o) (get S.mail.decodes o) refl on in
       at_and_beside (NoLater S T) o (late_early S T o Sent refl (phase_of-decode m S o x.0 x.1))
       (λ q apart. late_same S T q (phase_of-decode-other m S o x.0 x.1 q apart))
 

@@ -192,7 +192,7 @@ module _ (m : Machine) (all ts : List Task) (g : Arrivals) (S : State) (ground :
       → HasHolders ts g (after_event m S (event.Decode o))
   unfolding is_enabled
   HasHolders-decode o on =
-      let x = something (can_decode_message m S) (get S.mail.decodes o) refl on in
+      let x = something (can_decode_message m S o) (get S.mail.decodes o) refl on in
       holders_decoded o x.0 x.1 on
 
   -- ---- take

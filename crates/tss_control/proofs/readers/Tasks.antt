@@ -100,7 +100,7 @@ module _ (m : Machine) (ts : List Task) (g : Arrivals) (S : State) (h : HasReade
       → HasReaders ts g (after_event m S (event.Decode o))
   unfolding is_enabled
   HasReaders-decode o enabled =
-      let x = something (can_decode_message m S) (get S.mail.decodes o) refl enabled in
+      let x = something (can_decode_message m S o) (get S.mail.decodes o) refl enabled in
       readers_decoded o x.0 x.1
 
   -- ---- take

@@ -1,14 +1,16 @@
 -- What is known of a decode under way: older members of its object, and that earlier writers have been decoded.
-use Rattle.std.proofs.Common.{◌≡◌, ◌≢◌, ℕ, ◌≤◌, ◌<◌, true, List, [], ◌∷◌, length, Some, None, sym, ap, ◌∙◌, subst, inl, inr, arith}
-use Rattle.std.specs.Prelude.{Any, slice_index_or}
+use Rattle.std.proofs.Common.{◌≡◌, ◌≢◌, ℕ, ◌≤◌, ◌<◌, true, false, List, Some, None, sym, ap, ◌∙◌, subst, inl, inr, arith}
 use Rattle.std.specs.FinMap.{get}
-use Rattle.std.proofs.lemmas.Option.{none-some}
+use Rattle.std.proofs.lemmas.Option.{none-some, same_Some}
 use Rattle.tss_base.specs.declared.operand.OpName.{OpName}
 use Rattle.tss_base.specs.declared.operand.Operand.{Operand}
 use Rattle.tss_base.specs.declared.operand.Task.{Task}
 use Rattle.tss_base.specs.declared.machine.Machine.{Machine}
 use Rattle.tss_maps.proofs.Changes.{decide_get}
+use Rattle.tss_protocol.specs.Names.{bank_of}
 use Rattle.tss_protocol.specs.State.{State, Entry}
+use Rattle.tss_protocol.specs.Renaming.{HasTurn, line_of, has_earlier}
+use Rattle.tss_protocol.proofs.TurnLemmas.{none_before_turn}
 use Rattle.tss_phases.specs.Phase.{phase_of, is_decoded}
 use Rattle.tss_phases.specs.Orderly.{AreOrderly}
 use Rattle.tss_control.specs.Members.{operand_among, IsWriterOn, NoWriterBetween, IsMember}
@@ -18,53 +20,28 @@ use Rattle.tss_control.specs.Control.{HasGroundwork}
 use Rattle.tss_names.proofs.NumberLemmas.{number_within}
 use Rattle.tss_control.proofs.rounds.EntriesNames.{name_decoded, decode_among, none_later, member_operand, no_version, no_open}
 
--- ---- the gateway has one task
-
-at_first : (n : ℕ) (ns : List ℕ) (k x : ℕ) → k ≡ 0 → slice_index_or (n ∷ ns) k x ≡ x → n ≡ x
-at_first n ns k x e is = ap (λ j. slice_index_or (n ∷ ns) j x) (sym e) ∙ is
-
-first_of_one : (k l : ℕ) → k < l → l ≤ 1 → k ≡ 0
-first_of_one k l h few = omega (arith, h, few)
-
-nothing_below : (k : ℕ) → k < 0 → ⊥
-nothing_below k h = omega (arith, h)
-
--- of a list of one number at most
-one_number : (ns : List ℕ) (a b : ℕ) → length ns ≤ 1 → Any (λ n. n ≡ a) ns → Any (λ n. n ≡ b) ns → a ≡ b
-one_number [] a b few (k, x, low, is, e) other = absurd (nothing_below k low)
-one_number (n ∷ ns) a b few (k, x, low, is, e) (j, y, lower, its, d) =
-    sym e
-    ∙ sym (at_first n ns k x (first_of_one k (length (n ∷ ns)) low few) is)
-    ∙ at_first n ns j y (first_of_one j (length (n ∷ ns)) lower few) its
-    ∙ d
-
 module _ (m : Machine) (all ts : List Task) (S : State) (ground : HasGroundwork m all ts S) where
-  -- all decodes under way are of one task
-  pub one_decoding : (o q : OpName) (p r : Operand) → get S.mail.decodes o ≡ Some p → get S.mail.decodes q ≡ Some r
-      → o.task ≡ q.task
-  one_decoding o q p r e d =
-      let g = ground.gateway.tasks in
-      one_number g.0 o.task q.task g.1.few (g.1.all o (ground.gateway.decodes o p e).0)
-      (g.1.all q (ground.gateway.decodes q r d).0)
-
-  same_not_below : (a b : ℕ) → a ≡ b → b < a → ⊥
-  same_not_below a b e h = omega (arith, e, h)
-
   module _ (orderly : AreOrderly S) (o : OpName) (p : Operand) (there : get S.mail.decodes o ≡ Some p) where
-    -- an operand of an earlier task of the round has been decoded
-    pub earlier_decoded : (w : OpName) (r : Operand) → operand_among ts w ≡ Some r → w.task < o.task
-        → is_decoded (phase_of S w) ≡ true
-    earlier_decoded w r among older =
+    -- at its turn, an operand of an earlier task of the round on an object of its bank has been decoded
+    pub earlier_decoded : HasTurn m.sizes S.mail.decodes o p
+        → (w : OpName) (r : Operand) → operand_among ts w ≡ Some r → w.task < o.task
+        → bank_of m.sizes r.object ≡ bank_of m.sizes p.object → is_decoded (phase_of S w) ≡ true
+    earlier_decoded turn w r among older bank =
         let of = ground.known.operands w r among in
         let low = (number_within all w.task of.task of.spawned).0 in
         let taken = (ground.gateway.each o (ground.gateway.decodes o p there).0).0.1 in
         name_decoded m all S ground.numbers orderly w
         ((low, omega (arith, older, taken)), (r, of), none)
       where
+        own : (d : Operand) → get S.mail.decodes w ≡ Some d → d ≡ r
+        own d e = same_Some d r (sym (decode_among m all ts S ground orderly w d e) ∙ among)
+
         none : get S.mail.decodes w ≡ None
         none = elim (decide_get S.mail.decodes w) [
           | inl e ↦ e
-          | inr d ↦ absurd (same_not_below o.task w.task (one_decoding o w p d.0 there d.1) older)
+          | inr d ↦
+              absurd (none_before_turn m.sizes (bank_of m.sizes p.object) S.mail.decodes o turn w d.0 d.1 older
+              (ap (λ (d : Operand). bank_of m.sizes d.object) (own d.0 d.1) ∙ bank))
         ]
 
     -- a member of the object is of an earlier task
@@ -84,10 +61,11 @@ module _ (m : Machine) (all ts : List Task) (S : State) (ground : HasGroundwork 
         itself (inr c) = none-some c.0 (sym (no_open m all ts S ground orderly o p there) ∙ c.1)
 
     -- none of a task between the latest version and it writes the object
-    pub no_writer_since : HasEntries ts S → (b : ℕ) (e : Entry) → get S.entries b ≡ Some e → e.object ≡ p.object
+    pub no_writer_since : HasTurn m.sizes S.mail.decodes o p
+        → HasEntries ts S → (b : ℕ) (e : Entry) → get S.entries b ≡ Some e → e.object ≡ p.object
         → NoWriterBetween ts p.object e.latest o
-    no_writer_since h b e at object w late early writer =
-        let decoded = earlier_decoded w writer.operand writer.there early in
+    no_writer_since turn h b e at object w late early writer =
+        let decoded = earlier_decoded turn w writer.operand writer.there early (ap (bank_of m.sizes) writer.object) in
         let low = h.decoded b e w at (subst (λ r. IsWriterOn ts r w) (sym object) writer) decoded in
         crossed e.latest.task w.task late low
       where

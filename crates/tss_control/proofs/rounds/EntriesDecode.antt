@@ -15,6 +15,7 @@ use Rattle.tss_protocol.specs.Mail.{Home, Buffer, OpenContents, Message, Ack, Op
 use Rattle.tss_protocol.specs.State.{State, Entry}
 use Rattle.tss_protocol.specs.Renaming.{Wait, Retiring, live_wait, decode_wait, wait_or, fill_of, first_readers, live_entry, entry_after_decode, follows_latest, live_message, decode_message}
 use Rattle.tss_protocol.specs.UnitMachine.{IsEnabled, is_enabled, after_event, without, can_decode_message, decode_message_taken, tables_of}
+use Rattle.tss_protocol.proofs.TurnLemmas.{decode_finds_room}
 use Rattle.tss_phases.specs.Phase.{phase_of, is_decoded}
 use Rattle.tss_phases.specs.Orderly.{AreOrderly}
 use Rattle.tss_phases.proofs.DecodeEvent.{phase_of-decode-other}
@@ -159,7 +160,7 @@ module _ (m : Machine) (S : State) (o : OpName) (p : Operand) (there : get S.mai
       let sizes = m.sizes in
       let fill = fill_of sizes (tables_of S) (bank_of sizes p.object) in
       not_retiring e (live_wait sizes fill p.mode) e.retiring
-      (sym (ap (λ x. is_none (decode_wait sizes fill x p.mode)) at) ∙ sym (ap (can_decode_message m S) there) ∙ on)
+      (sym (ap (λ x. is_none (decode_wait sizes fill x p.mode)) at) ∙ decode_finds_room m S o p there on)
 
 -- ---- entries
 
@@ -194,5 +195,5 @@ module _ (m : Machine) (all ts : List Task) (S : State) (ground : HasGroundwork 
   pub HasEntries-decode : HasEntries ts (after_event m S (event.Decode o))
   unfolding is_enabled
   HasEntries-decode =
-      let p = something (can_decode_message m S) (get S.mail.decodes o) refl on in
+      let p = something (can_decode_message m S o) (get S.mail.decodes o) refl on in
       decoded_entries p.0 p.1 (get S.entries p.0.object.base) refl

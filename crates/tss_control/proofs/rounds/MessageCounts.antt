@@ -17,6 +17,7 @@ use Rattle.tss_maps.specs.Sums.{one_if}
 use Rattle.tss_maps.proofs.Keys.{nat_order}
 use Rattle.tss_maps.proofs.Changes.{beside_removed}
 use Rattle.tss_maps.proofs.Entries.{len_removed}
+use Rattle.tss_maps.proofs.Sums.{one_if-le-one}
 use Rattle.tss_protocol.specs.Names.{same_name}
 use Rattle.tss_protocol.specs.Mail.{message_count}
 use Rattle.tss_protocol.specs.State.{State, OperandState}
@@ -29,17 +30,10 @@ use Rattle.tss_names.specs.MessageCounts.{BoundsMessages}
 use Rattle.tss_control.specs.Runners.{AreApart}
 use Rattle.tss_control.specs.Readers.{Arrivals}
 use Rattle.tss_control.specs.Control.{HasGroundwork, IsControlled}
+use Rattle.tss_names.proofs.MessageLemmas.{more_times}
 use Rattle.tss_names.proofs.NameCounts.{NameTest, IsMeasure, IsMeasure-map, IsMeasure-both, those_in, those_at, those_all, in_tasks, few_in_tasks}
 
 -- ---- numbers
-
-one_if-le-one : (b : Bool) → one_if b ≤ 1
-one_if-le-one true = omega arith
-one_if-le-one false = omega arith
-
-more_times : (a b n : ℕ) → a ≤ b → a * n ≤ b * n
-more_times a b zero h = omega arith
-more_times a b (suc n) h = let rest = more_times a b n h in omega (arith, rest, h)
 
 two_times : (n k : ℕ) → 2 * n * k ≡ n * k + n * k
 two_times n zero = omega arith

@@ -160,7 +160,7 @@ module _ (m : Machine) (S : State) where
   abbrev pieces : ℕ
   pieces = pieces_of_object m
 
-  decode_less : (o : OpName) (x : Option Operand) → get S.mail.decodes o ≡ x → can_decode_message m S x ≡ true
+  decode_less : (o : OpName) (x : Option Operand) → get S.mail.decodes o ≡ x → can_decode_message m S o x ≡ true
       → IsLowered m S (decode_message_taken m (without S (event.Decode o)) o x)
   decode_less o None e can = absurd (cc)
   decode_less o (Some x) e can =

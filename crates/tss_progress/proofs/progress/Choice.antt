@@ -80,7 +80,7 @@ module _ (m : Machine) (S : State) where
 
   of_decode : Choice m S event.Decode
   unfolding is_enabled
-  of_decode = named event.Decode (by_key name_order S.mail.decodes (λ k x. can_decode_message m S x) (λ k. refl))
+  of_decode = named event.Decode (by_key name_order S.mail.decodes (can_decode_message m S) (λ k. refl))
 
   of_ack : Choice m S event.Ack
   unfolding is_enabled

@@ -11,7 +11,7 @@ use Rattle.tss_base.specs.declared.operand.OpName.{OpName}
 use Rattle.tss_base.specs.declared.operand.Operand.{Operand}
 use Rattle.tss_base.specs.declared.operand.Task.{Task}
 use Rattle.tss_base.specs.declared.machine.Machine.{Machine}
-use Rattle.tss_base.specs.declared.machine.Key.TheVariants.{Slots}
+use Rattle.tss_base.specs.declared.machine.Key.TheVariants.{Slots, Window}
 use Rattle.tss_base.specs.declared.event.Event.TheVariants as event
 use Rattle.tss_base.specs.declared.marks.Follow.{Follow}
 use Rattle.tss_base.specs.Machine.{IsAdmissible}
@@ -23,7 +23,8 @@ use Rattle.tss_protocol.specs.Names.{station_of}
 use Rattle.tss_protocol.specs.Mail.{Buffer, OpenContents, GoneContents, message_count}
 use Rattle.tss_protocol.specs.State.{State, Entry, Version, CopyState}
 use Rattle.tss_protocol.specs.Stations.{operand_at, tasks_in, has_slot}
-use Rattle.tss_protocol.specs.Gateway.{is_idle}
+use Rattle.tss_protocol.specs.Gateway.{has_window, is_idle}
+use Rattle.tss_protocol.proofs.WindowLemmas.{window_when_idle}
 use Rattle.tss_protocol.specs.MainEvent.{has_no_task, has_no_object, is_drained, call_next, may_call}
 use Rattle.tss_protocol.specs.Result.{is_finished}
 use Rattle.tss_protocol.specs.UnitMachine.{is_enabled, can_take}
@@ -171,6 +172,11 @@ module _ (m : Machine) (all ts : List Task) (g : Arrivals) (S : State) (ground :
     idle_gateway : is_idle S.gateway ≡ true
     idle_gateway = zero_test (len S.gateway) (empty_if name_order S.gateway no_gateway)
 
+    room_in_window : IsAdmissible m → has_window m.sizes S.gateway ≡ true
+    room_in_window fit =
+        window_when_idle S.gateway m.sizes (fit.sizes Window m.sizes.window refl).0
+        (empty_if name_order S.gateway no_gateway)
+
     free_slot : IsAdmissible m → (t : Task) → has_slot m.sizes S.flight t.number ≡ true
     free_slot fit t =
         let some = (fit.sizes Slots m.sizes.slots refl).0 in
@@ -187,7 +193,8 @@ module _ (m : Machine) (all ts : List Task) (g : Arrivals) (S : State) (ground :
         by None e = e
         by (Some t) e =
             absurd (true≢false (sym (ap (can_take m S) e
-            ∙ and_from (is_idle S.gateway) (has_slot m.sizes S.flight t.number) idle_gateway (free_slot fit t))
+            ∙ and_from (has_window m.sizes S.gateway) (has_slot m.sizes S.flight t.number) (room_in_window fit)
+            (free_slot fit t))
             ∙ stuck event.Take))
 
     -- ---- the state is drained

@@ -74,7 +74,7 @@ nothing_enabled m S finished e =
     by : IsEmpty S → (is_some S.main.ending || is_some S.trap) ≡ true → (e : Event) → is_enabled m S e ≡ false
     by z over event.Main = main_over (is_some S.main.ending) (is_some S.trap) (may_call S (call_next m S)) over
     by z over event.Take = ap (can_take m S) z.inbox
-    by z over (event.Decode o) = ap (can_decode_message m S) (z.bare.decodes o)
+    by z over (event.Decode o) = ap (can_decode_message m S o) (z.bare.decodes o)
     by z over (event.Ack o) = ap is_some (z.acks o)
     by z over (event.Open o) = ap (can_open_message S) (z.bare.opens o)
     by z over (event.Use o) = ap (can_use_message S) (z.bare.uses o)

@@ -24,9 +24,11 @@ use Rattle.tss_maps.proofs.Entries.{get-all_below, len-all_below, len_removed, m
 use Rattle.tss_maps.proofs.Sums.{sum_empty, sum_added}
 use Rattle.tss_protocol.specs.Names.{operand_name, bank_of}
 use Rattle.tss_protocol.specs.State.{State, OperandState, Flying, Entry, Version}
-use Rattle.tss_protocol.specs.Renaming.{entries_in, places_in, fill_of, EntriesFull, VersionsFull, wait_or, decode_wait}
+use Rattle.tss_protocol.specs.Renaming.{HasTurn, entries_in, places_in, fill_of, EntriesFull, VersionsFull, Turn, wait_or, decode_wait, line_of, has_earlier}
 use Rattle.tss_protocol.specs.UnitMachine.{tables_of, is_enabled, can_decode_message}
-use Rattle.tss_phases.specs.Phase.{look_ups}
+use Rattle.tss_protocol.proofs.TurnLemmas.{turn_in_bank, neither_waits}
+use Rattle.tss_phases.specs.Phase.{Phase, Decoding, Left, look_ups, phase_of}
+use Rattle.tss_phases.proofs.PhaseLemmas.{phase_decoding}
 use Rattle.tss_phases.proofs.OrderlyLemmas.{decoding_stands}
 use Rattle.tss_control.specs.Members.{operand_among}
 use Rattle.tss_control.specs.Readers.{Arrivals}
@@ -34,7 +36,7 @@ use Rattle.tss_control.specs.Control.{HasGroundwork, IsControlled}
 use Rattle.tss_control.proofs.rounds.EntriesNames.{decode_among, object_of_entry, one_object}
 use Rattle.tss_progress.proofs.progress.Stuck.{IsQuiet}
 use Rattle.tss_progress.proofs.progress.Phases.{HasLetGo}
-use Rattle.tss_progress.proofs.progress.Oldest.{own_record}
+use Rattle.tss_progress.proofs.progress.Oldest.{own_record, past}
 use Rattle.tss_progress.proofs.progress.Banks.{record_of, record_among, IsUsedAt, one_version, used_at}
 
 -- a number from a test
@@ -228,6 +230,16 @@ module _ (m : Machine) (all ts : List Task) (g : Arrivals) (S : State) (ground :
         absurd (not_own some.0.object used.0 used.1 (ap (λ (q : OpName). q.place) one))
   ]
 
+  not_left : (h : Phase) → h ≡ Decoding → h ≡ Left → ⊥
+  not_left h decoding left = cc
+
+  -- it is its turn: operands of earlier tasks have left
+  own_turn : HasTurn m.sizes S.mail.decodes o p
+  own_turn = turn_in_bank m.sizes (bank_of m.sizes p.object) S.mail.decodes o (λ q y e before bank.
+      let left = past m all ts g S ground control quiet gone n x flies least q (omega (arith, before, own)) in
+      let decoding = phase_decoding (look_ups S q) y e in
+      not_left (phase_of S q) decoding left)
+
   -- so it is enabled
   pub decode_enabled : IsAdmissible m → is_enabled m S (event.Decode o) ≡ true
   unfolding is_enabled
@@ -241,6 +253,8 @@ module _ (m : Machine) (all ts : List Task) (g : Arrivals) (S : State) (ground :
       let mostly = fit.versions in
       let one = lt-leb m.sizes.entries fill.entries (omega (arith, entries, few, most)) in
       let two = lt-leb m.sizes.versions fill.places (omega (arith, places, few, mostly)) in
-      ap (can_decode_message m S) decode
-      ∙ ap (λ e. is_none (decode_wait m.sizes fill e p.mode)) no_entry
-      ∙ (λ i. is_none (wait_or (one i) EntriesFull (wait_or (two i) VersionsFull None)))
+      ap (can_decode_message m S o) decode
+      ∙ neither_waits (has_earlier o (line_of m.sizes b S.mail.decodes)) Turn
+      (decode_wait m.sizes fill (get S.entries p.object.base) p.mode) own_turn
+      (ap (λ e. is_none (decode_wait m.sizes fill e p.mode)) no_entry
+      ∙ (λ i. is_none (wait_or (one i) EntriesFull (wait_or (two i) VersionsFull None))))

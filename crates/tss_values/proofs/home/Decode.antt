@@ -16,10 +16,12 @@ use Rattle.tss_base.specs.Image.{ImageState}
 use Rattle.tss_maps.proofs.Keys.{name_order, nat_order}
 use Rattle.tss_maps.proofs.Changes.{at_inserted, beside_inserted, from_inserted, decide_get}
 use Rattle.tss_model.specs.Memory.{bytes_of}
+use Rattle.tss_protocol.specs.Names.{bank_of}
 use Rattle.tss_protocol.specs.Mail.{OpenContents, Ack, taken, posted_all}
-use Rattle.tss_protocol.specs.Renaming.{entry_after_decode, live_message, sent_by_decode}
+use Rattle.tss_protocol.specs.Renaming.{HasTurn, entry_after_decode, live_message, sent_by_decode}
 use Rattle.tss_protocol.specs.UnitMachine.{is_enabled, IsEnabled, after_event, without, can_decode_message, decode_message_taken}
 use Rattle.tss_protocol.specs.State.{State, Entry}
+use Rattle.tss_protocol.proofs.TurnLemmas.{decode_in_turn}
 use Rattle.tss_phases.specs.Phase.{is_ahead, is_decoded, look_ups, phase_of}
 use Rattle.tss_phases.specs.Orderly.{AreOrderly}
 use Rattle.tss_names.specs.Tasks.{IsTaken}
@@ -31,59 +33,32 @@ use Rattle.tss_control.specs.Readers.{Arrivals}
 use Rattle.tss_program_order.specs.MainInOrder.{flat_beside}
 use Rattle.tss_control.specs.Control.{HasGroundwork, IsControlled}
 use Rattle.tss_names.proofs.NumberLemmas.{number_within}
-use Rattle.tss_control.proofs.rounds.EntriesQuiet.{decoded_from}
-use Rattle.tss_control.proofs.rounds.EntriesNames.{taken_ahead, decode_among}
+use Rattle.tss_control.proofs.rounds.DecodeFacts.{earlier_decoded}
+use Rattle.tss_control.proofs.rounds.EntriesNames.{decode_among}
 use Rattle.tss_values.proofs.Values.{Starts, bytes_before, IsFirstAhead, HasHome}
 
 below_or_same : (a b : ℕ) → (b < a) ⊎ (a ≤ b)
 below_or_same a b = grind arith
 
--- what is said of the only element
-only : (n a : ℕ) → Any (λ k. k ≡ a) (n ∷ []) → n ≡ a
-only n a (zero, e, within, is, same) = is ∙ same
-only n a (suc i, e, within, is, same) = absurd (omega (arith, within))
-
-none_there : (a : ℕ) → Any (λ k. k ≡ a) [] → ⊥
-none_there a (i, e, within, is, same) = omega (arith, within)
-
--- the gateway has operands of one task
-one_task : (ns : List ℕ) (a b : ℕ) → length ns ≤ 1 → Any (λ n. n ≡ a) ns → Any (λ n. n ≡ b) ns → a ≡ b
-one_task [] a b few x y = absurd (none_there a x)
-one_task (n ∷ []) a b few x y = sym (only n a x) ∙ only n b y
-one_task (n ∷ k ∷ ns) a b few x y = absurd (omega (arith, few))
-
 module _ (m : Machine) (all ts : List Task) (S : State) (ground : HasGroundwork m all ts S) (orderly : AreOrderly S)
     (o : OpName) (p : Operand) (there : get S.mail.decodes o ≡ Some p) where
-  -- an operand of an older task has been decoded
-  older_decoded : (q : OpName) (r : Operand) → operand_among ts q ≡ Some r → is_decoded (phase_of S q) ≡ false
+  -- at its turn, an operand of an older task on its object has been decoded
+  older_decoded : HasTurn m.sizes S.mail.decodes o p → (q : OpName)
+      (r : Operand) → operand_among ts q ≡ Some r → r.object ≡ p.object → is_decoded (phase_of S q) ≡ false
       → q.task < o.task → ⊥
-  older_decoded q r at early older = elim (decide_get S.mail.decodes q) [
-    | inl none ↦ true≢false (sym (decoded_from (look_ups S q) (orderly q) none not_ahead) ∙ early)
-    | inr d ↦
-        let t = ground.gateway.tasks in
-        let a = one_task t.0 q.task o.task t.1.few (t.1.all q (ground.gateway.decodes q d.0 d.1).0)
-        (t.1.all o (ground.gateway.decodes o p there).0) in
-        omega (arith, a, older)
-  ]
-    where
-      taken : IsTaken S o.task
-      taken = (ground.gateway.each o (ground.gateway.decodes o p there).0).0
-
-      not_ahead : is_ahead S q.task ≡ false
-      not_ahead =
-          let k = ground.known.operands q r at in
-          let low = taken.1 in
-          taken_ahead m all S ground.numbers q.task
-          ((number_within all q.task k.task k.spawned).0, omega (arith, older, low))
+  older_decoded turn q r at object early older =
+      true≢false (sym (earlier_decoded m all ts S ground orderly o p there turn q r at older
+      (ap (bank_of m.sizes) object)) ∙ early)
 
   -- so it is the first of its object that hasn't
-  pub decode_first : is_decoded (phase_of S o) ≡ false → IsFirstAhead ts S p.object o p
-  decode_first early = record {
+  pub decode_first : HasTurn m.sizes S.mail.decodes o p
+      → is_decoded (phase_of S o) ≡ false → IsFirstAhead ts S p.object o p
+  decode_first turn early = record {
     operand = decode_among m all ts S ground orderly o p there;
     object = refl;
     ahead = early;
     first = λ q r at same undecoded. elim (below_or_same o.task q.task) [
-      | inl older ↦ absurd (older_decoded q r at undecoded older)
+      | inl older ↦ absurd (older_decoded turn q r at same undecoded older)
       | inr fine ↦ fine
     ];
   }
@@ -92,7 +67,8 @@ module _ (m : Machine) (all ts : List Task) (S : State) (ground : HasGroundwork 
 
 module _ (m : Machine) (i : ImageState) (all ts : List Task) (S : State) (ground : HasGroundwork m all ts S)
     (orderly : AreOrderly S) (values : HasHome m i ts S) (o : OpName) (p : Operand)
-    (there : get S.mail.decodes o ≡ Some p) where
+    (there : get S.mail.decodes o ≡ Some p)
+    (turn : HasTurn m.sizes S.mail.decodes o p) where
   abbrev T : State
   T = after_event m S (event.Decode o)
 
@@ -196,7 +172,7 @@ module _ (m : Machine) (i : ImageState) (all ts : List Task) (S : State) (ground
               | inl old ↦ values.opening q c s old first reads starts
               | inr (inl new) ↦
                   subst (λ p. bytes_of S.home p.object ≡ bytes_before s p) (sym new.2)
-                  (values.ahead p.object o p s new.1 (decode_first m all ts S ground orderly o p there was_early)
+                  (values.ahead p.object o p s new.1 (decode_first m all ts S ground orderly o p there turn was_early)
                   (subst (λ q. Starts m i q.task s) new.0 starts))
               | inr (inr follows) ↦ absurd (follows first)
             ]);
@@ -208,5 +184,5 @@ pub HasHome-decode : (m : Machine) (i : ImageState) (all ts : List Task) (g : Ar
     → IsEnabled m S (event.Decode o) → HasHome m i ts (after_event m S (event.Decode o))
 unfolding is_enabled
 HasHome-decode m i all ts g S ground h values o on =
-    let p = something (can_decode_message m S) (get S.mail.decodes o) refl on in
-    home_decoded m i all ts S ground h.orderly values o p.0 p.1
+    let p = something (can_decode_message m S o) (get S.mail.decodes o) refl on in
+    home_decoded m i all ts S ground h.orderly values o p.0 p.1 (decode_in_turn m S o p.0 p.1 on)
