@@ -6,17 +6,19 @@ use Rattle.std.specs.List.{list_any, starts_with}
 use Rattle.tss_base.specs.declared.addresses.TheConstants.{SEGMENTS_END}
 use Rattle.tss_base.specs.declared.bounds.TheConstants.{MAX_SEGMENTS, MAX_IMAGE_BYTES}
 use Rattle.tss_base.specs.Range.{end_of, meets, contains}
+use Rattle.tss_elf.specs.declared.checking.TheConstants.{FILE_HEADER_LEN}
+use Rattle.tss_elf.specs.declared.header.TheConstants.{HEADER_LEN}
 use Rattle.tss_elf.specs.declared.header.ProgramHeader.{ProgramHeader}
 use Rattle.tss_elf.specs.declared.refusal.Refusal.{Refusal}
 use Rattle.tss_elf.specs.declared.refusal.Refusal.TheVariants as check
-use Rattle.tss_elf.specs.Fields.{half_at, word_at, file_header_len, program_header_len, entry_of, headers_place}
+use Rattle.tss_elf.specs.Fields.{half_at, word_at, entry_of, headers_place}
 use Rattle.tss_elf.specs.Fields.{header_size, header_count, headers, is_loaded, kept_headers, is_code, range_of}
 
 -- The tests, each of which says that its check fails.
 
 -- of the file header: it isn't there whole
 abbrev pub is_short : List ℕ → Bool
-is_short bytes = nat_lt (length bytes) file_header_len
+is_short bytes = nat_lt (length bytes) FILE_HEADER_LEN
 
 -- it doesn't begin with 7F 45 4C 46
 abbrev pub has_other_magic : List ℕ → Bool
@@ -53,13 +55,13 @@ has_float_abi bytes = names_float_abi (word_at bytes 36)
 abbrev pub has_bad_header_size : List ℕ → Bool
 has_bad_header_size bytes =
     nat_lt MAX_SEGMENTS (header_count bytes)
-    || nat_lt 0 (header_count bytes) && not (header_size bytes == program_header_len)
+    || nat_lt 0 (header_count bytes) && not (header_size bytes == HEADER_LEN)
 
 -- it has program headers that pass the end of the file
 abbrev pub has_misplaced_headers : List ℕ → Bool
 has_misplaced_headers bytes =
     nat_lt 0 (header_count bytes)
-    && nat_lt (length bytes) (headers_place bytes + program_header_len * header_count bytes)
+    && nat_lt (length bytes) (headers_place bytes + HEADER_LEN * header_count bytes)
 
 -- of a program header: it asks for a dynamic linker
 abbrev pub is_dynamic : ProgramHeader → Bool

@@ -4,6 +4,7 @@ use Rattle.std.specs.Int.{bit_at}
 use Rattle.std.specs.List.{range_with_len}
 use Rattle.byteorder.specs.Endian.{little_number}
 use Rattle.tss_base.specs.declared.range.Range.{Range}
+use Rattle.tss_elf.specs.declared.header.TheConstants.{HEADER_LEN}
 use Rattle.tss_elf.specs.declared.header.ProgramHeader.{ProgramHeader}
 
 -- the number in two bytes, the lower first
@@ -13,13 +14,6 @@ half_at bytes at = little_number 2 (drop at bytes)
 -- the number in four bytes, the lowest first
 unfoldable pub word_at : List ℕ → ℕ → ℕ
 word_at bytes at = little_number 4 (drop at bytes)
-
--- how many bytes a file header has, and a program header
-abbrev pub file_header_len : ℕ
-file_header_len = 52
-
-abbrev pub program_header_len : ℕ
-program_header_len = 32
 
 -- the address of the first instruction
 abbrev pub entry_of : List ℕ → ℕ
@@ -48,7 +42,7 @@ header_at bytes at = record {
 
 -- where the program header of a number stands
 abbrev pub place_of : List ℕ → ℕ → ℕ
-place_of bytes i = headers_place bytes + program_header_len * i
+place_of bytes i = headers_place bytes + HEADER_LEN * i
 
 -- the program headers, in the order of the file
 unfoldable pub headers : List ℕ → List ProgramHeader

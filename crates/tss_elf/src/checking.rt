@@ -4,6 +4,8 @@ ghost use Rattle.std.specs.List.{list_any};
 ghost use Rattle.std.specs.List.Sorted.{IsNonDecreasingBy};
 ghost use Rattle.std.specs.Result.{result_err};
 ghost use Rattle.tss_base.specs.declared.bounds.TheConstants.{MAX_SEGMENTS};
+ghost use Rattle.tss_elf.specs.declared.checking.TheConstants.{FILE_HEADER_LEN};
+ghost use Rattle.tss_elf.specs.declared.header.TheConstants.{HEADER_LEN};
 ghost use Rattle.tss_elf.specs.Fields.{header_count, headers_place, is_code};
 ghost use Rattle.tss_elf.specs.Checks.{first_failing, file_checks, names_float_abi, kept_checks, has_overlap, has_code_at};
 
@@ -31,10 +33,10 @@ fn has_float_abi(flags: u32) -> bool
 /// Whether the file header passes its checks. If it does, the program headers are few and lie in the file.
 pub fn check_file(bytes: &[u8]) -> Result<(), Refusal>
     ensures first { result_err result ≡ first_failing (file_checks bytes.now) }
-    ensures whole { OnOk result (52 ≤ length bytes.now) }
+    ensures whole { OnOk result (FILE_HEADER_LEN ≤ length bytes.now) }
     ensures few { OnOk result (header_count bytes.now ≤ MAX_SEGMENTS) }
     ensures placed { OnOk result (0 < header_count bytes.now
-        → headers_place bytes.now + 32 * header_count bytes.now ≤ length bytes.now) }
+        → headers_place bytes.now + HEADER_LEN * header_count bytes.now ≤ length bytes.now) }
 {
     if bytes.len() < FILE_HEADER_LEN {
         return Err(Refusal::Short);

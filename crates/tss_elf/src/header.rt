@@ -1,6 +1,7 @@
 // Program headers.
 ghost use Rattle.std.specs.Prelude.{◌≡◌, ◌+◌, ◌≤◌, length};
 ghost use Rattle.std.specs.Result.{result_err};
+ghost use Rattle.tss_elf.specs.declared.header.TheConstants.{HEADER_LEN};
 ghost use Rattle.tss_elf.specs.Fields.{header_at, range_of, is_kept, is_code, is_writable};
 ghost use Rattle.tss_elf.specs.Checks.{first_failing, header_checks, has_code_at};
 
@@ -37,7 +38,7 @@ impl ProgramHeader {
     /// The program header that stands at a place.
     #[tactic(auto, unfolding(crate::specs::Fields::header_at))]
     pub fn read(bytes: &[u8], at: usize) -> ProgramHeader
-        requires { at + 32 ≤ length bytes.now }
+        requires { at + HEADER_LEN ≤ length bytes.now }
         ensures { result ≡ header_at bytes.now at }
     {
         ProgramHeader {

@@ -2,6 +2,8 @@
 ghost use Rattle.std.specs.Prelude.{◌≡◌, ◌+◌, ◌*◌, ◌<◌, ◌≤◌, length, All, IfOk, IfErr, map, None};
 ghost use Rattle.std.specs.List.Sorted.{IsNonDecreasingBy, IsPermutation};
 ghost use Rattle.tss_base.specs.Image.{IsAccepted};
+ghost use Rattle.tss_elf.specs.declared.checking.TheConstants.{FILE_HEADER_LEN};
+ghost use Rattle.tss_elf.specs.declared.header.TheConstants.{HEADER_LEN};
 ghost use Rattle.tss_elf.specs.Fields.{headers_place, header_count, kept_headers as kept_of};
 ghost use Rattle.tss_elf.specs.Checks.{each_header_checks, first_failing, file_checks};
 ghost use Rattle.tss_elf.specs.Elf.{CanLoad, Passes, segment_of, image_of, Gives, IfAccepted};
@@ -15,9 +17,9 @@ use tss_base::{Image, Segment};
 
 /// The headers of the kept segments, in the order of the file, where every header passes its checks.
 fn kept_headers(alloc: Global, bytes: &[u8]) -> Result<Vec<ProgramHeader>, ImageFault>
-    requires whole { 52 ≤ length bytes.now }
+    requires whole { FILE_HEADER_LEN ≤ length bytes.now }
     requires placed { 0 < header_count bytes.now
-        → headers_place bytes.now + 32 * header_count bytes.now ≤ length bytes.now }
+        → headers_place bytes.now + HEADER_LEN * header_count bytes.now ≤ length bytes.now }
     ensures { Passes result (first_failing (each_header_checks bytes.now))
         (λ kept. kept.items ≡ kept_of bytes.now) }
 {
