@@ -1,0 +1,4 @@
+mod Naming
+mod NamingLemmas
+mod TableLemmas
+mod KeptLemmas

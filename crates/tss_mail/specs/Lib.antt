@@ -1,0 +1,4 @@
+pub mod Letters
+pub mod Codes
+pub mod Kinds
+pub mod Kept
