@@ -17,8 +17,9 @@ use Rattle.tss_control.proofs.chains.Open.{HasChains-open}
 use Rattle.tss_control.proofs.chains.Use.{HasChains-use}
 use Rattle.tss_control.proofs.chains.Released.{HasChains-release, HasChains-nack}
 use Rattle.tss_control.proofs.chains.Retired.{HasChains-retire}
-use Rattle.tss_control.proofs.GroundworkJoin.{IsGroupKept}
+use Rattle.tss_control.proofs.GroundworkJoin.{IsKept}
 use Rattle.tss_control.proofs.GroundworkMain.{keeps_main}
+use Rattle.tss_control.proofs.rounds.Facts.{Facts}
 
 -- a retire that may happen has its message
 pub retire_sent : (m : Machine) (S : State) (v : OpName) → IsEnabled m S (event.Retire v)
@@ -28,24 +29,27 @@ retire_sent m S v on =
     some_unit (get S.mail.retires v)
     (and_parts (is_some (get S.mail.retires v)) (can_retire m S (get S.versions v)) on).0
 
--- every event leaves the chains
-pub keeps_chains : (e : Event) → IsGroupKept e (λ ts g S. HasChains ts S)
-keeps_chains event.Main m all ts g S ground k on order = keeps_main.chains m all ts g S ground k on order
-keeps_chains event.Take m all ts g S ground k on order = HasChains-quiet m S ts k.chains event.Take tt
-keeps_chains (event.Decode o) m all ts g S ground k on order = HasChains-decode m all ts g S ground k o on
-keeps_chains (event.Ack o) m all ts g S ground k on order = HasChains-quiet m S ts k.chains (event.Ack o) tt
-keeps_chains (event.Open o) m all ts g S ground k on order = HasChains-open m all ts g S ground k o on
-keeps_chains (event.Use o) m all ts g S ground k on order = HasChains-use m ts S k.chains o on
-keeps_chains (event.Ready o) m all ts g S ground k on order = HasChains-quiet m S ts k.chains (event.Ready o) tt
-keeps_chains (event.Link o) m all ts g S ground k on order = HasChains-quiet m S ts k.chains (event.Link o) tt
-keeps_chains (event.Start w) m all ts g S ground k on order = HasChains-quiet m S ts k.chains (event.Start w) tt
-keeps_chains (event.Exec w) m all ts g S ground k on order = HasChains-quiet m S ts k.chains (event.Exec w) tt
-keeps_chains (event.Finish w) m all ts g S ground k on order = HasChains-quiet m S ts k.chains (event.Finish w) tt
-keeps_chains (event.Release o) m all ts g S ground k on order = HasChains-release m all ts g S ground k o
-keeps_chains (event.Bye o) m all ts g S ground k on order = HasChains-quiet m S ts k.chains (event.Bye o) tt
-keeps_chains (event.Idle v) m all ts g S ground k on order = HasChains-idle m S ts k.chains v
-keeps_chains (event.Nack v) m all ts g S ground k on order = HasChains-nack m all ts g S ground k v
-keeps_chains (event.Retire v) m all ts g S ground k on order =
-    HasChains-retire m all ts g S ground k v (retire_sent m S v on)
-keeps_chains (event.Copy b) m all ts g S ground k on order = HasChains-copy m S ts k.chains b
-keeps_chains (event.Gone v) m all ts g S ground k on order = HasChains-gone m S ts k.chains v
+module _ (m : Machine) (S : State) (facts : Facts m S) where
+  open facts use {ts, control as h}
+
+  -- every event leaves the chains
+  pub keeps_chains : (e : Event) → IsKept m S facts e (λ ts g S. HasChains ts S)
+  keeps_chains event.Main on order = keeps_main.chains m S facts on order
+  keeps_chains event.Take on order = HasChains-quiet m S ts h.chains event.Take tt
+  keeps_chains (event.Decode o) on order = HasChains-decode m S facts o on
+  keeps_chains (event.Ack o) on order = HasChains-quiet m S ts h.chains (event.Ack o) tt
+  keeps_chains (event.Open o) on order = HasChains-open m S facts o on
+  keeps_chains (event.Use o) on order = HasChains-use m ts S h.chains o on
+  keeps_chains (event.Ready o) on order = HasChains-quiet m S ts h.chains (event.Ready o) tt
+  keeps_chains (event.Link o) on order = HasChains-quiet m S ts h.chains (event.Link o) tt
+  keeps_chains (event.Start w) on order = HasChains-quiet m S ts h.chains (event.Start w) tt
+  keeps_chains (event.Exec w) on order = HasChains-quiet m S ts h.chains (event.Exec w) tt
+  keeps_chains (event.Finish w) on order = HasChains-quiet m S ts h.chains (event.Finish w) tt
+  keeps_chains (event.Release o) on order = HasChains-release m S facts o
+  keeps_chains (event.Bye o) on order = HasChains-quiet m S ts h.chains (event.Bye o) tt
+  keeps_chains (event.Idle v) on order = HasChains-idle m S ts h.chains v
+  keeps_chains (event.Nack v) on order = HasChains-nack m S facts v
+  keeps_chains (event.Retire v) on order =
+      HasChains-retire m S facts v (retire_sent m S v on)
+  keeps_chains (event.Copy b) on order = HasChains-copy m S ts h.chains b
+  keeps_chains (event.Gone v) on order = HasChains-gone m S ts h.chains v

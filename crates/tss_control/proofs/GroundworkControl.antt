@@ -21,22 +21,30 @@ use Rattle.tss_control.proofs.EntriesEvents.{keeps_entries, keeps_retirement}
 use Rattle.tss_control.proofs.ReadersEvents.{keeps_readers}
 use Rattle.tss_control.proofs.HoldersEvents.{keeps_holders}
 use Rattle.tss_control.proofs.GroundworkJoin.{AreGroupsKept, controlled_of_runs}
+use Rattle.tss_control.proofs.rounds.Facts.{Facts, facts_of}
 
 -- each event keeps each group
 pub keeps_groups : (e : Event) → AreGroupsKept e
 keeps_groups e = record {
-  order = λ m all ts g S ground h on. keeps_order m all ts g S ground h e;
-  chains = keeps_chains e;
-  entries = keeps_entries e;
-  retirement = keeps_retirement e;
-  readers = keeps_readers e;
-  holders = keeps_holders e;
+  order = λ m S facts on. keeps_order m S facts e;
+  chains = λ m S facts. keeps_chains m S facts e;
+  entries = λ m S facts. keeps_entries m S facts e;
+  retirement = λ m S facts. keeps_retirement m S facts e;
+  readers = λ m S facts. keeps_readers m S facts e;
+  holders = λ m S facts. keeps_holders m S facts e;
 }
 
 -- so every run is controlled
 pub IsControlled-Run : (m : Machine) (i : ImageState) (es : List Event) (S : State) → IsRun m i es S
     → IsControlled (round_of m (initial_state i) es) (arrivals_from m (initial_state i) no_arrivals es) S
 IsControlled-Run = controlled_of_runs keeps_groups
+
+-- what lemmas need of its state
+abbrev pub Facts-Run : (m : Machine) (i : ImageState) (es : List Event) (S : State) → IsRun m i es S → Facts m S
+Facts-Run m i es S run =
+    facts_of m (spawned_tasks m i es) (round_of m (initial_state i) es)
+    (arrivals_from m (initial_state i) no_arrivals es) S (HasGroundwork-Run m i es S run)
+    (IsControlled-Run m i es S run)
 
 -- ---- laws
 
@@ -55,17 +63,13 @@ one_message_of_runs m i es S accepted admissible run o = ((IsControlled-Run m i 
 -- the counts stay within their sizes
 pub sizes_of_runs : SizesLaw
 sizes_of_runs m i es S accepted admissible run =
-    let all = spawned_tasks m i es in
-    let ts = round_of m (initial_state i) es in
-    let g = arrivals_from m (initial_state i) no_arrivals es in
-    let ground = HasGroundwork-Run m i es S run in
-    let h = IsControlled-Run m i es S run in
+    let facts = Facts-Run m i es S run in
     let tables = tables_of_runs m i es S accepted admissible run in
     let bounds = messages_of_runs m i es S accepted admissible run in
     record {
-      messages = few_messages m i es all ts g S ground h bounds;
+      messages = few_messages m i es S facts bounds;
       slots = tables.slots;
-      ready = few_ready m i es all ts g S ground h bounds;
+      ready = few_ready m i es S facts bounds;
       workers = tables.workers;
       entries = tables.entries;
       versions = tables.versions;

@@ -17,25 +17,26 @@ use Rattle.tss_control.specs.Holders.{HasHolders}
 use Rattle.tss_control.specs.Control.{HasGroundwork, IsControlled}
 use Rattle.tss_control.proofs.GroundworkRuns.{ground_of_runs}
 use Rattle.tss_control.proofs.GroundworkEmpty.{IsControlled-bare, IsBare-initial_state}
+use Rattle.tss_control.proofs.rounds.Facts.{Facts, facts_of}
 
 -- what a group says of a round, of those that have come, and of a state
 abbrev pub GroupFact : Type 1
 GroupFact = List Task → Arrivals → State → Type 0
 
--- the event keeps the group in a controlled state, where it keeps operands in order
-abbrev pub IsGroupKept : Event → GroupFact → Type 0
-IsGroupKept e X =
-    (m : Machine) (all ts : List Task) (g : Arrivals) (S : State)
-    → HasGroundwork m all ts S
-    → IsControlled ts g S
-    → IsEnabled m S e
+-- the event keeps the group in this state, where it keeps operands in order
+abbrev pub IsKept : (m : Machine) (S : State) → Facts m S → Event → GroupFact → Type 0
+IsKept m S facts e X =
+    IsEnabled m S e
     → KeepsOrder S e
-    → X (round_after_event m S ts e) (arrivals_after_event S g e) (after_event m S e)
+    → X (round_after_event m S facts.ts e) (arrivals_after_event S facts.g e) (after_event m S e)
+
+-- and in each controlled state
+abbrev pub IsGroupKept : Event → GroupFact → Type 0
+IsGroupKept e X = (m : Machine) (S : State) (facts : Facts m S) → IsKept m S facts e X
 
 -- the event keeps each group, and operands in order
 pub record AreGroupsKept (e : Event) : Type 0 where
-  pub order : (m : Machine) (all ts : List Task) (g : Arrivals) (S : State) → HasGroundwork m all ts S
-      → IsControlled ts g S → IsEnabled m S e → KeepsOrder S e
+  pub order : (m : Machine) (S : State) → Facts m S → IsEnabled m S e → KeepsOrder S e
   pub chains : IsGroupKept e (λ ts g S. HasChains ts S)
   pub entries : IsGroupKept e (λ ts g S. HasEntries ts S)
   pub retirement : IsGroupKept e (λ ts g S. HasRetirement S)
@@ -44,13 +45,13 @@ pub record AreGroupsKept (e : Event) : Type 0 where
 
 -- then the state after it is controlled
 pub IsControlled-event : (e : Event) → AreGroupsKept e → IsGroupKept e IsControlled
-IsControlled-event e k m all ts g S ground h on order = record {
-  orderly = orderly-after_event m S h.orderly e on order;
-  chains = k.chains m all ts g S ground h on order;
-  entries = k.entries m all ts g S ground h on order;
-  retirement = k.retirement m all ts g S ground h on order;
-  readers = k.readers m all ts g S ground h on order;
-  holders = k.holders m all ts g S ground h on order;
+IsControlled-event e k m S facts on order = record {
+  orderly = orderly-after_event m S facts.control.orderly e on order;
+  chains = k.chains m S facts on order;
+  entries = k.entries m S facts on order;
+  retirement = k.retirement m S facts on order;
+  readers = k.readers m S facts on order;
+  holders = k.holders m S facts on order;
 }
 
 -- so where each event does, every run is controlled
@@ -59,6 +60,7 @@ pub controlled_of_runs : ((e : Event) → AreGroupsKept e)
     → IsControlled (round_of m (initial_state i) es) (arrivals_from m (initial_state i) no_arrivals es) S
 controlled_of_runs kept m i es S run =
     (ground_of_runs (λ m all ts g S. IsControlled ts g S) (λ m all ts g S e ground h on.
-    IsControlled-event e (kept e) m all ts g S ground h on ((kept e).order m all ts g S ground h on))
+    let facts = facts_of m all ts g S ground h in
+    IsControlled-event e (kept e) m S facts on ((kept e).order m S facts on))
     (λ m i. IsControlled-bare (initial_state i) (IsBare-initial_state i) no_arrivals (orderly_at_first i))
     m i es S run).1

@@ -175,12 +175,13 @@ module _ (m : Machine) (ts : List Task) (g : Arrivals) (S : State) (round : IsRo
 -- all groups
 pub keeps_main : AreGroupsKept event.Main
 keeps_main = record {
-  order = λ m all ts g S ground h on. tt;
-  chains = λ m all ts g S ground h on order. HasChains-main m ts g S ground.round h on;
-  entries = λ m all ts g S ground h on order. HasEntries-main m ts g S ground.round h on;
-  retirement = λ m all ts g S ground h on order. HasRetirement-main m ts g S ground.round h on;
-  readers = λ m all ts g S ground h on order. HasReaders-main m ts g S ground.round h on;
-  holders = λ m all ts g S ground h on order.
-      HasHolders-main m ts g S ground.round h on
-      (HasRunners-after_event m all S ground.numbers ground.stages h.orderly h.holders.runners event.Main on order);
+  order = λ m S f on. tt;
+  chains = λ m S f on order. HasChains-main m f.ts f.g S f.ground.round f.control on;
+  entries = λ m S f on order. HasEntries-main m f.ts f.g S f.ground.round f.control on;
+  retirement = λ m S f on order. HasRetirement-main m f.ts f.g S f.ground.round f.control on;
+  readers = λ m S f on order. HasReaders-main m f.ts f.g S f.ground.round f.control on;
+  holders = λ m S f on order.
+      HasHolders-main m f.ts f.g S f.ground.round f.control on
+      (HasRunners-after_event m f.all S f.ground.numbers f.ground.stages f.control.orderly f.control.holders.runners
+      event.Main on order);
 }

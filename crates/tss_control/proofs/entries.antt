@@ -1,4 +1,4 @@
--- Entries know the latest version and its readers, and a version that asks may retire but for a cause, after each event.
+-- After each event entries know the latest version and its readers, and a version that asks may retire but for a cause.
 pub mod Decoded
 pub mod QuietEvents
 pub mod RetirementDecode

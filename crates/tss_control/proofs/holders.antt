@@ -27,6 +27,7 @@ pub mod Settled
 pub mod Promises
 pub mod Sent
 pub mod Nacked
+pub mod Release
 pub mod Releases
 pub mod First
 pub mod Opened

@@ -1,4 +1,5 @@
 -- The round of tasks since the last barrier, and what the parts of control cite of one another.
+pub mod Facts
 pub mod Rounds
 pub mod EntriesFrames
 pub mod ReadersLists

@@ -23,6 +23,7 @@ use Rattle.tss_model.specs.MainStep.{MainState, Flat, Call, ExitCall, Spawn, Bar
 use Rattle.tss_protocol.specs.State.{State}
 use Rattle.tss_protocol.specs.MainEvent.{flat_of, call_next, may_call, main_by, after_call}
 use Rattle.tss_protocol.specs.UnitMachine.{IsEnabled, is_enabled, after_event}
+use Rattle.tss_phases.proofs.MainEvent.{spawned-main_stretch, spawned-print}
 use Rattle.tss_names.proofs.PlainLemmas.{none_from_test}
 use Rattle.tss_names.specs.Tasks.{with_spawned, spawned_by_main}
 use Rattle.tss_names.proofs.FrontLemmas.{front_of, back_of}
@@ -123,56 +124,6 @@ module _ (call : SpawnCall) (m : Memory) (named : List Range) (limits : Limits) 
 
 -- ---- steps and calls that spawn nothing
 
-spawned-main_on : (f : Flat) (s : Stepped) → (main_on f s).main.spawned ≡ f.main.spawned
-spawned-main_on f (Executed r w) = refl
-spawned-main_on f Called = refl
-spawned-main_on f Ended = refl
-spawned-main_on f (Trapped t) = refl
-spawned-main_on f Touched = refl
-
-spawned-main_step : (code : List SegmentState) (limits : Limits) (f : Flat)
-    → (main_step code limits f).main.spawned ≡ f.main.spawned
-unfolding main_step
-spawned-main_step code limits f = by (is_some f.main.ending) (has_spent limits f.main)
-  where
-    by : (a b : Bool)
-        → (if a then f else if b then record f { main = main_refused f.main MAIN_BUDGET_SPENT }
-        else main_on f (main_core code f)).main.spawned ≡ f.main.spawned
-    by true b = refl
-    by false true = refl
-    by false false = spawned-main_on f (main_core code f)
-
-spawned-repeated : (code : List SegmentState) (limits : Limits) (n : ℕ) (f : Flat)
-    → (repeated (main_step code limits) n f).main.spawned ≡ f.main.spawned
-unfolding repeated
-spawned-repeated code limits zero f = refl
-spawned-repeated code limits (suc n) f =
-    spawned-repeated code limits n (main_step code limits f) ∙ spawned-main_step code limits f
-
-spawned-print_some : (limits : Limits) (memory : Memory) (m : MainState) (r : Range)
-    → (print_some limits memory m r).spawned ≡ m.spawned
-spawned-print_some limits memory m r =
-    by (is_none (range_of memory.ranges r)) (touches m.epoch r)
-    (nat_lt limits.output_bytes (length (output_of m.pieces) + r.len))
-  where
-    by : (a b c : Bool)
-        → (if a then main_trapped m (trap_of m.registers LOAD_DENIED r.base)
-        else if b then main_refused m MAIN_TOUCH
-        else if c then main_refused m OUTPUT_FULL
-        else print_done m (bytes_of memory r)).spawned ≡ m.spawned
-    by true b c = refl
-    by false true c = refl
-    by false false true = refl
-    by false false false = refl
-
-spawned-print_call : (limits : Limits) (memory : Memory) (m : MainState) (r : Range)
-    → (print_call limits memory m r).spawned ≡ m.spawned
-spawned-print_call limits memory m r =
-    elim (r.len == 0) as (λ b. (if b then call_done m else print_some limits memory m r).spawned ≡ m.spawned) [
-      | true ↦ refl
-      | false ↦ spawned-print_some limits memory m r
-    ]
-
 -- ---- main's event
 
 -- no task is spawned
@@ -214,7 +165,7 @@ module _ (m : Machine) (ts : List Task) (S : State) where
   spawns_by None may = inl (record {
     list = refl;
     front = λ i. record (front_of S) {
-      spawned = spawned-repeated S.code m.limits m.sizes.quantum (flat_of S) i;
+      spawned = spawned-main_stretch S.code m.limits m.sizes.quantum (flat_of S) i;
     };
     back = refl;
   })
@@ -226,7 +177,7 @@ module _ (m : Machine) (ts : List Task) (S : State) where
   spawns_by (Some Print) may = inl (record {
     list = refl;
     front = λ i. record (front_of S) {
-      spawned = spawned-print_call m.limits S.home S.main (print_range S.main.registers) i;
+      spawned = spawned-print m.limits S.home S.main (print_range S.main.registers) i;
     };
     back = refl;
   })

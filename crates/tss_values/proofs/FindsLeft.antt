@@ -15,9 +15,12 @@ use Rattle.tss_names.proofs.NumberLemmas.{number_within}
 use Rattle.tss_values.proofs.Values.{Starts, HasMain, HasNaming}
 use Rattle.tss_values.proofs.stored.Settled.{FindsLeft}
 use Rattle.tss_values.proofs.NamingLemmas.{runs_on, found_between}
+use Rattle.tss_control.proofs.rounds.Facts.{Basis}
 
-module _ (m : Machine) (i : ImageState) (all ts : List Task) (S : State) (ground : HasGroundwork m all ts S)
-    (main : HasMain m i all S) (naming : HasNaming m i all ts S) where
+module _ (m : Machine) (i : ImageState) (S : State) (basis : Basis m S) (main : HasMain m i basis.all S)
+    (naming : HasNaming m i basis.all basis.ts S) where
+  open basis use {all, ts, ground}
+
   -- where program order starts a task of the round, it has started each older one before
   started_older : (v w : OpName) (q : Operand) (s : Started) → operand_among ts v ≡ Some q
       → (starts : Starts m i w.task s) → v.task < w.task
@@ -36,7 +39,7 @@ module _ (m : Machine) (i : ImageState) (all ts : List Task) (S : State) (ground
       let t = started_older v w q s from known.starts less in (
         t.0,
         t.1,
-        λ writer. runs_on m i all ts S ground main naming v t.0 known.starts.0 s t.1 known.starts.1 t.2,
-        sym (found_between m i all ts S ground main naming v w q p t.0 s from known.operand same less
+        λ writer. runs_on m i S basis main naming v t.0 known.starts.0 s t.1 known.starts.1 t.2,
+        sym (found_between m i S basis main naming v w q p t.0 s from known.operand same less
             (subst (λ x. NoWriterBetween ts x v w) (sym same) none) t.1 known.starts),
       )

@@ -6,6 +6,7 @@ pub mod workers
 pub mod home
 pub mod returns
 pub mod Values
+pub mod WorkerFacts
 pub mod ValuesRetire
 pub mod ValuesGone
 pub mod ValuesMain

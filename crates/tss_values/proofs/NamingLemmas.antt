@@ -32,6 +32,7 @@ use Rattle.tss_control.proofs.rounds.Spawned.{of_spawned}
 use Rattle.tss_names.proofs.ListLemmas.{from_any}
 use Rattle.tss_control.proofs.rounds.RoundTasks.{among_tasks}
 use Rattle.tss_values.proofs.Values.{Starts, RunsOut, bytes_before, bytes_after, HasMain, HasNaming}
+use Rattle.tss_control.proofs.rounds.Facts.{Basis}
 
 -- each number up to those spawned is that of a task
 pub task_there : (ts : List Task) (n : ℕ) → 1 ≤ n → n ≤ length ts → (t : Task) × (task_at ts n ≡ Some t)
@@ -49,8 +50,10 @@ done_taken s = by (is_executed s.ending)
     by true = omega arith
     by false = omega arith
 
-module _ (m : Machine) (i : ImageState) (all ts : List Task) (S : State) (ground : HasGroundwork m all ts S)
-    (main : HasMain m i all S) (naming : HasNaming m i all ts S) where
+module _ (m : Machine) (i : ImageState) (S : State) (basis : Basis m S) (main : HasMain m i basis.all S)
+    (naming : HasNaming m i basis.all basis.ts S) where
+  open basis use {all, ts, ground}
+
   -- ---- where tasks of the round are started
 
   taken_by : (q : OpName) (l : ℕ) (t : Started) → started_at i m.limits l ≡ Some t → t.task.number ≡ q.task

@@ -43,11 +43,14 @@ use Rattle.tss_program_order.proofs.RunKeeps.{HasGround, is_main, after_event-ke
 use Rattle.tss_names.proofs.SpawnLemmas.{IsNext-spawn_of, spawns_main}
 use Rattle.tss_values.proofs.Values.{HasHome, HasMain, HasNaming}
 use Rattle.tss_values.proofs.ValuesMain.{in_has, follows_home}
+use Rattle.tss_control.proofs.rounds.Facts.{Basis}
 
 -- ---- the round
 
-module _ (m : Machine) (i : ImageState) (all ts : List Task) (S : State) (ground : HasGroundwork m all ts S)
-    (naming : HasNaming m i all ts S) where
+module _ (m : Machine) (i : ImageState) (S : State) (basis : Basis m S)
+    (naming : HasNaming m i basis.all basis.ts S) where
+  open basis use {all, ts, ground}
+
   -- the round has each spawned task from its oldest on
   abbrev pub AreAmong : List Task → List Task → Type 0
   AreAmong all ts =
@@ -147,9 +150,11 @@ module _ (m : Machine) (i : ImageState) (all ts : List Task) (S : State) (ground
 
 -- ---- main's event
 
-module _ (m : Machine) (i : ImageState) (all ts : List Task) (g : Arrivals) (S : State)
-    (ground : HasGroundwork m all ts S) (code : HasGround i S) (few : NoneAfter S.main.spawned S.main.pieces)
-    (home : HasHome m i ts S) (main : HasMain m i all S) (naming : HasNaming m i all ts S) where
+module _ (m : Machine) (i : ImageState) (S : State) (basis : Basis m S) (code : HasGround i S)
+    (few : NoneAfter S.main.spawned S.main.pieces) (home : HasHome m i basis.ts S)
+    (main : HasMain m i basis.all S) (naming : HasNaming m i basis.all basis.ts S) where
+  open basis use {all, ts, ground}
+
   module _ (on : IsEnabled m S event.Main) where
     abbrev T : State
     T = after_event m S event.Main
@@ -157,9 +162,9 @@ module _ (m : Machine) (i : ImageState) (all ts : List Task) (g : Arrivals) (S :
     abbrev us : List Task
     us = round_after_event m S ts event.Main
 
-    after : AreAmong m i all ts S ground naming (spawned_after_event m S all event.Main) us
-        × WasBefore m i all ts S ground naming us
-    after = round_by_call m i all ts S ground naming (call_next m S)
+    after : AreAmong m i S basis naming (spawned_after_event m S all event.Main) us
+        × WasBefore m i S basis naming us
+    after = round_by_call m i S basis naming (call_next m S)
 
     -- what is said of the objects of the new round
     abbrev AreNamed : Type 0
@@ -177,14 +182,14 @@ module _ (m : Machine) (i : ImageState) (all ts : List Task) (g : Arrivals) (S :
         let done = done_taken S.main in
         let before : cut.place < steps_taken S.main = omega (arith, cut.before, done) in
         let early =
-        number_before m i all ts S ground naming cut.place cut.started cut.trap before cut.start cut.trapped k s
+        number_before m i S basis naming cut.place cut.started cut.trap before cut.start cut.trapped k s
         start in
-        stays_cut m i all ts S ground naming cut.place cut.started cut.trap before cut.start cut.trapped o p k j s
+        stays_cut m i S basis naming cut.place cut.started cut.trap before cut.start cut.trapped o p k j s
         (after.1 o p among (omega (arith, early, cut.number, number))) start number less
 
     module _ (same : S.main ≡ (flat_beside i m.limits S.main).main) where
       follows : FollowsInOrder m i S
-      follows = follows_home m i all ts g S ground code few home main same
+      follows = follows_home m i S basis code few home main same
 
       still_on : is_some S.main.ending ≡ false
       still_on = main_on-enabled m S on

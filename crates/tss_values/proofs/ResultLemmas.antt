@@ -40,6 +40,7 @@ use Rattle.tss_program_order.proofs.RunKeeps.{HasGround}
 use Rattle.tss_control.proofs.rounds.Spawned.{of_spawned}
 use Rattle.tss_control.proofs.GroundworkEmpty.{IsBare, IsBare-drained}
 use Rattle.tss_values.proofs.Values.{Starts, HasHome, HasMain, IsUnfinished, HoldsTrapBy}
+use Rattle.tss_control.proofs.rounds.Facts.{Facts}
 
 -- ---- program order
 
@@ -121,10 +122,11 @@ result_there S finished =
     by None = refl
     by (Some e) = refl
 
-module _ (m : Machine) (i : ImageState) (all ts : List Task) (g : Arrivals) (S : State)
-    (ground : HasGroundwork m all ts S) (h : IsControlled ts g S) (home : HasHome m i ts S) (main : HasMain m i all S)
-    (from : HasGround i S) (own : (n : ℕ) (trap : Trap) → S.main.ending ≡ Some (TaskTrap n trap) → ⊥)
-    (drained : is_drained S ≡ true) where
+module _ (m : Machine) (i : ImageState) (S : State) (facts : Facts m S) (home : HasHome m i facts.ts S)
+    (main : HasMain m i facts.all S) (from : HasGround i S)
+    (own : (n : ℕ) (trap : Trap) → S.main.ending ≡ Some (TaskTrap n trap) → ⊥) (drained : is_drained S ≡ true) where
+  open facts use {ts, ground, control as h}
+
   bare : IsBare S
   bare = IsBare-drained S drained
 

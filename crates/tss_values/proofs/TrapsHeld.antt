@@ -29,6 +29,7 @@ use Rattle.tss_names.proofs.NumberLemmas.{taken_newest, last_taken_now, last_tak
 use Rattle.tss_program_order.proofs.StoreFollows.{runs-end}
 use Rattle.tss_values.proofs.UnfinishedTasks.{StayUnder, entered_under, stay-finish, StayUnder-after_event}
 use Rattle.tss_values.proofs.Values.{Starts, HasWorkers, IsUnfinished, HoldsTrapBy}
+use Rattle.tss_control.proofs.rounds.Facts.{Basis}
 
 -- what is to be shown
 pub record HasTraps (m : Machine) (i : ImageState) (S : State) : Type 0 where
@@ -89,8 +90,9 @@ traps_kept m i S T h same more taken stay = record {
     le_after : (a b c : ℕ) → a ≤ b → b ≤ c → a ≤ c
     le_after a b c p q = omega (arith, p, q)
 
-module _ (m : Machine) (i : ImageState) (all ts : List Task) (S : State) (ground : HasGroundwork m all ts S)
-    (h : HasTraps m i S) where
+module _ (m : Machine) (i : ImageState) (S : State) (basis : Basis m S) (h : HasTraps m i S) where
+  open basis use {all, ground}
+
   -- main
   taken_after_main : (us : List Task) (T : State) → SpawnsAtMostOne m all us S T
       → (S.main.spawned ≤ T.main.spawned) × ((n : ℕ) → IsTaken T n → IsTaken S n)

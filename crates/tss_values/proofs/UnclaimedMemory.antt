@@ -24,6 +24,7 @@ use Rattle.tss_program_order.specs.Refinement.{inbox_claims, is_claimed}
 use Rattle.tss_control.specs.Control.{HasGroundwork, IsControlled}
 use Rattle.tss_values.proofs.UndecodedOperands.{undecoded}
 use Rattle.tss_values.proofs.home.Beside.{IsInside, inside_covers, one_inside, operand_named}
+use Rattle.tss_control.proofs.rounds.Facts.{Facts}
 
 -- an element that passes a test is found
 any_from : {X : Type 0} (test : X → Bool) (xs : List X) (k : ℕ) (x : X) → slice_get xs k ≡ Some x → test x ≡ true
@@ -41,9 +42,10 @@ any_value {K} {X} order test m k x at passes =
     any_from test (values m) p.0 x
     (slice_get-map (λ (e : K × X). e.1) (entries m) p.0 ∙ ap (option_map (λ (e : K × X). e.1)) p.1) passes
 
-module _ (m : Machine) (all ts : List Task) (g : Arrivals) (S : State) (ground : HasGroundwork m all ts S)
-    (control : IsControlled ts g S) (a : ℕ) (free : is_claimed S a ≡ false) (o : OpName) (p : Operand)
-    (among : operand_among ts o ≡ Some p) (inside : IsInside p.object a) where
+module _ (m : Machine) (S : State) (facts : Facts m S) (a : ℕ) (free : is_claimed S a ≡ false) (o : OpName)
+    (p : Operand) (among : operand_among facts.ts o ≡ Some p) (inside : IsInside p.object a) where
+  open facts use {basis, all, ts, ground, control}
+
   covered : covers p.object a ≡ true
   covered = inside_covers p.object a inside
 
@@ -94,7 +96,7 @@ module _ (m : Machine) (all ts : List Task) (g : Arrivals) (S : State) (ground :
     where
       by : (b : Bool) → is_decoded (phase_of S o) ≡ b → is_decoded (phase_of S o) ≡ true
       by true e = e
-      by false e = elim (undecoded m all ts S ground control.orderly o p among e) [
+      by false e = elim (undecoded m S basis control.orderly o p among e) [
         | inl arriving ↦ absurd (not_arriving S.inbox refl arriving)
         | inr decoding ↦
             absurd (both_ways (list_any (λ (o : Operand). covers o.object a) (values S.mail.decodes)) parts.1

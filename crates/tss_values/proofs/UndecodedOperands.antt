@@ -24,6 +24,7 @@ use Rattle.tss_control.proofs.rounds.Spawned.{of_spawned}
 use Rattle.tss_control.proofs.rounds.EntriesQuiet.{decoded_from}
 use Rattle.tss_control.proofs.rounds.EntriesNames.{one_operand, decoded_apart}
 use Rattle.tss_values.proofs.home.Beside.{IsInside}
+use Rattle.tss_control.proofs.rounds.Facts.{Basis}
 
 -- ---- bytes
 
@@ -65,35 +66,36 @@ in_inbox_by spawned n inbox few ahead =
     by None e = absurd (true≢false (sym e))
     by (Some t) e = e
 
-module _ (m : Machine) (all ts : List Task) (S : State) (ground : HasGroundwork m all ts S) (orderly : AreOrderly S)
-  where
-    -- an operand of the round that isn't decoded is in the inbox, or its decode is under way
-    pub undecoded : (o : OpName) (p : Operand) → operand_among ts o ≡ Some p → is_decoded (phase_of S o) ≡ false
-        → IsUndecoded S o p
-    undecoded o p among early = by (get S.mail.decodes o) refl
-      where
-        by : (d : Option Operand) → get S.mail.decodes o ≡ d → IsUndecoded S o p
-        by (Some d) at =
-            let of = (ground.gateway.decodes o d at).2 in
-            inr (at ∙ ap Some (one_operand all o d p of (ground.known.operands o p among)))
-        by None none = by_ahead (is_ahead S o.task) refl
-          where
-            by_ahead : (b : Bool) → is_ahead S o.task ≡ b → IsUndecoded S o p
-            by_ahead true e =
-                inl (in_inbox_by S.main.spawned o.task S.inbox (of_spawned S ts ground.round o p among) e)
-            by_ahead false e = absurd (true≢false (sym (decoded_from (look_ups S o) (orderly o) none e) ∙ early))
+module _ (m : Machine) (S : State) (basis : Basis m S) (orderly : AreOrderly S) where
+  open basis use {all, ts, ground}
 
-    -- it comes behind each operand on its object that is decoded
-    pub decoded_older : (v o : OpName) (q p : Operand) → operand_among ts v ≡ Some q → operand_among ts o ≡ Some p
-        → q.object ≡ p.object → is_decoded (phase_of S v) ≡ true → is_decoded (phase_of S o) ≡ false → v.task < o.task
-    decoded_older v o q p from to same done early =
-        elim (cases_order v.task o.task) [
-          | inl one ↦
-              let is = ground.known.single v o q p from to same one in
-              absurd (true≢false (sym done ∙ ap (λ o. is_decoded (phase_of S o)) is ∙ early))
-          | inr (inl before) ↦ before
-          | inr (inr after) ↦
-              let still = ground.decodes o v p q (ground.known.operands o p to) (ground.known.operands v q from)
-              (undecoded o p to early) after (ap (λ (x : Range). bank_of m.sizes x) (sym same)) in
-              absurd (decoded_apart S orderly v q done still)
-        ]
+  -- an operand of the round that isn't decoded is in the inbox, or its decode is under way
+  pub undecoded : (o : OpName) (p : Operand) → operand_among ts o ≡ Some p → is_decoded (phase_of S o) ≡ false
+      → IsUndecoded S o p
+  undecoded o p among early = by (get S.mail.decodes o) refl
+    where
+      by : (d : Option Operand) → get S.mail.decodes o ≡ d → IsUndecoded S o p
+      by (Some d) at =
+          let of = (ground.gateway.decodes o d at).2 in
+          inr (at ∙ ap Some (one_operand all o d p of (ground.known.operands o p among)))
+      by None none = by_ahead (is_ahead S o.task) refl
+        where
+          by_ahead : (b : Bool) → is_ahead S o.task ≡ b → IsUndecoded S o p
+          by_ahead true e =
+              inl (in_inbox_by S.main.spawned o.task S.inbox (of_spawned S ts ground.round o p among) e)
+          by_ahead false e = absurd (true≢false (sym (decoded_from (look_ups S o) (orderly o) none e) ∙ early))
+
+  -- it comes behind each operand on its object that is decoded
+  pub decoded_older : (v o : OpName) (q p : Operand) → operand_among ts v ≡ Some q → operand_among ts o ≡ Some p
+      → q.object ≡ p.object → is_decoded (phase_of S v) ≡ true → is_decoded (phase_of S o) ≡ false → v.task < o.task
+  decoded_older v o q p from to same done early =
+      elim (cases_order v.task o.task) [
+        | inl one ↦
+            let is = ground.known.single v o q p from to same one in
+            absurd (true≢false (sym done ∙ ap (λ o. is_decoded (phase_of S o)) is ∙ early))
+        | inr (inl before) ↦ before
+        | inr (inr after) ↦
+            let still = ground.decodes o v p q (ground.known.operands o p to) (ground.known.operands v q from)
+            (undecoded o p to early) after (ap (λ (x : Range). bank_of m.sizes x) (sym same)) in
+            absurd (decoded_apart S orderly v q done still)
+      ]

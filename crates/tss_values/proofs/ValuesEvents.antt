@@ -45,6 +45,7 @@ use Rattle.tss_values.proofs.workers.Events.{HasWorkers-after_event}
 use Rattle.tss_values.proofs.ValuesFirst.{HasValues-initial_state}
 use Rattle.tss_values.proofs.ValuesFinds.{IsPartKept, fit_run, bytes_run, placed_run, operands_run, outputs_run}
 use Rattle.tss_program_order.specs.Refinement.{ResultLaw}
+use Rattle.tss_control.proofs.GroundworkControl.{Facts-Run}
 
 -- the values, and what can't be written as loaded
 record HasCarried (m : Machine) (i : ImageState) (all ts : List Task) (S : State) : Type 0 where
@@ -54,127 +55,127 @@ record HasCarried (m : Machine) (i : ImageState) (all ts : List Task) (S : State
 -- ---- storages
 
 keeps_stored : (e : Event) → IsPartKept e (λ m i all ts S. HasStored m i ts S)
-keeps_stored event.Main m i all ts g S f on =
-    HasStored-main m i all ts S f.ground f.control.chains f.values.stored on
-keeps_stored event.Take m i all ts g S f on = HasStored-take m i all ts g S f.ground f.values.stored on
-keeps_stored (event.Decode o) m i all ts g S f on = HasStored-decode m i ts g S f.control f.values.stored o on
-keeps_stored (event.Ack o) m i all ts g S f on = HasStored-ack m i ts g S f.control f.values.stored o on
-keeps_stored (event.Open o) m i all ts g S f on =
-    HasStored-open m i all ts g S f.ground f.control f.values.stored f.values.home
-    (finds_left m i all ts S f.ground f.values.main f.values.naming) o on
-    (keeps_order m all ts g S f.ground f.control (event.Open o))
-keeps_stored (event.Use o) m i all ts g S f on = HasStored-use m i ts g S f.control f.values.stored o on
-keeps_stored (event.Ready o) m i all ts g S f on =
-    HasStored-ready m i ts g S f.control f.values.stored o on
-    (keeps_order m all ts g S f.ground f.control (event.Ready o))
-keeps_stored (event.Link o) m i all ts g S f on =
-    HasStored-link m i ts g S f.control f.values.stored o on
-    (keeps_order m all ts g S f.ground f.control (event.Link o))
-keeps_stored (event.Start w) m i all ts g S f on =
-    HasStored-start m i all ts g S f.ground f.control f.buffers f.values.stored w on
-keeps_stored (event.Exec w) m i all ts g S f on =
-    HasStored-exec m i all ts g S f.ground f.control f.buffers f.code f.values.workers f.values.stored w
-keeps_stored (event.Finish w) m i all ts g S f on =
-    HasStored-finish m i all ts g S f.ground f.control f.values.stored f.values.workers w on
-keeps_stored (event.Release o) m i all ts g S f on =
-    HasStored-release m i all ts g S f.ground f.control f.values.stored
-    (finds_left m i all ts S f.ground f.values.main f.values.naming) o on
-    (keeps_order m all ts g S f.ground f.control (event.Release o))
-keeps_stored (event.Bye o) m i all ts g S f on = HasStored-bye m i ts g S f.control f.values.stored o on
-keeps_stored (event.Idle v) m i all ts g S f on = HasStored-idle m i ts g S f.control f.values.stored v on
-keeps_stored (event.Nack v) m i all ts g S f on =
-    HasStored-nack m i all ts g S f.ground f.control f.values.stored
-    (finds_left m i all ts S f.ground f.values.main f.values.naming) v on
-    (keeps_order m all ts g S f.ground f.control (event.Nack v))
-keeps_stored (event.Retire v) m i all ts g S f on = HasStored-retire m i ts g S f.control f.values.stored v on
-keeps_stored (event.Copy b) m i all ts g S f on =
-    HasStored-copy m i all ts g S f.ground f.control f.values.stored f.values.returns b
-    (λ c at. copied_room m i all ts g S f.ground f.control f.fit f.values.room b c at) on
-keeps_stored (event.Gone v) m i all ts g S f on =
-    HasStored-gone m i all ts g S f.ground f.values.stored f.buffers v
+keeps_stored event.Main m i S f on =
+    HasStored-main m i S f.basis f.control.chains f.values.stored on
+keeps_stored event.Take m i S f on = HasStored-take m i S f.basis f.values.stored on
+keeps_stored (event.Decode o) m i S f on = HasStored-decode m i f.ts f.g S f.control f.values.stored o on
+keeps_stored (event.Ack o) m i S f on = HasStored-ack m i f.ts f.g S f.control f.values.stored o on
+keeps_stored (event.Open o) m i S f on =
+    HasStored-open m i S f.facts f.values.stored f.values.home
+    (finds_left m i S f.basis f.values.main f.values.naming) o on
+    (keeps_order m S f.facts (event.Open o))
+keeps_stored (event.Use o) m i S f on = HasStored-use m i f.ts f.g S f.control f.values.stored o on
+keeps_stored (event.Ready o) m i S f on =
+    HasStored-ready m i f.ts f.g S f.control f.values.stored o on
+    (keeps_order m S f.facts (event.Ready o))
+keeps_stored (event.Link o) m i S f on =
+    HasStored-link m i f.ts f.g S f.control f.values.stored o on
+    (keeps_order m S f.facts (event.Link o))
+keeps_stored (event.Start w) m i S f on =
+    HasStored-start m i S f.facts f.buffers f.values.stored w on
+keeps_stored (event.Exec w) m i S f on =
+    HasStored-exec m i S f.work f.values.stored w
+keeps_stored (event.Finish w) m i S f on =
+    HasStored-finish m i S f.facts f.values.stored f.values.workers w on
+keeps_stored (event.Release o) m i S f on =
+    HasStored-release m i S f.facts f.values.stored
+    (finds_left m i S f.basis f.values.main f.values.naming) o on
+    (keeps_order m S f.facts (event.Release o))
+keeps_stored (event.Bye o) m i S f on = HasStored-bye m i f.ts f.g S f.control f.values.stored o on
+keeps_stored (event.Idle v) m i S f on = HasStored-idle m i f.ts f.g S f.control f.values.stored v on
+keeps_stored (event.Nack v) m i S f on =
+    HasStored-nack m i S f.facts f.values.stored
+    (finds_left m i S f.basis f.values.main f.values.naming) v on
+    (keeps_order m S f.facts (event.Nack v))
+keeps_stored (event.Retire v) m i S f on = HasStored-retire m i f.ts f.g S f.control f.values.stored v on
+keeps_stored (event.Copy b) m i S f on =
+    HasStored-copy m i S f.facts f.values.stored f.values.returns b
+    (λ c at. copied_room m i S f.facts f.fit f.values.room b c at) on
+keeps_stored (event.Gone v) m i S f on =
+    HasStored-gone m i S f.basis f.values.stored f.buffers v
 
 -- ---- what comes home
 
 keeps_returns : (e : Event) → IsPartKept e (λ m i all ts S. HasReturns m i ts S)
-keeps_returns (event.Start w) m i all ts g S f on =
-    HasReturns-start m i all ts g S f.ground f.control f.buffers f.code f.values.workers f.values.returns w
-keeps_returns (event.Exec w) m i all ts g S f on =
-    HasReturns-exec m i all ts g S f.ground f.control f.buffers f.code f.values.workers f.values.returns w
-keeps_returns event.Main m i all ts g S f on =
-    HasReturns-beside m i all ts g S f.ground f.control f.fit f.values.stored f.buffers f.values.room f.values.returns
+keeps_returns (event.Start w) m i S f on =
+    HasReturns-start m i S f.work f.values.returns w
+keeps_returns (event.Exec w) m i S f on =
+    HasReturns-exec m i S f.work f.values.returns w
+keeps_returns event.Main m i S f on =
+    HasReturns-beside m i S f.facts f.fit f.values.stored f.buffers f.values.room f.values.returns
     event.Main tt on
-keeps_returns event.Take m i all ts g S f on =
-    HasReturns-beside m i all ts g S f.ground f.control f.fit f.values.stored f.buffers f.values.room f.values.returns
+keeps_returns event.Take m i S f on =
+    HasReturns-beside m i S f.facts f.fit f.values.stored f.buffers f.values.room f.values.returns
     event.Take tt on
-keeps_returns (event.Decode o) m i all ts g S f on =
-    HasReturns-beside m i all ts g S f.ground f.control f.fit f.values.stored f.buffers f.values.room f.values.returns
+keeps_returns (event.Decode o) m i S f on =
+    HasReturns-beside m i S f.facts f.fit f.values.stored f.buffers f.values.room f.values.returns
     (event.Decode o) tt on
-keeps_returns (event.Ack o) m i all ts g S f on =
-    HasReturns-beside m i all ts g S f.ground f.control f.fit f.values.stored f.buffers f.values.room f.values.returns
+keeps_returns (event.Ack o) m i S f on =
+    HasReturns-beside m i S f.facts f.fit f.values.stored f.buffers f.values.room f.values.returns
     (event.Ack o) tt on
-keeps_returns (event.Open o) m i all ts g S f on =
-    HasReturns-beside m i all ts g S f.ground f.control f.fit f.values.stored f.buffers f.values.room f.values.returns
+keeps_returns (event.Open o) m i S f on =
+    HasReturns-beside m i S f.facts f.fit f.values.stored f.buffers f.values.room f.values.returns
     (event.Open o) tt on
-keeps_returns (event.Use o) m i all ts g S f on =
-    HasReturns-beside m i all ts g S f.ground f.control f.fit f.values.stored f.buffers f.values.room f.values.returns
+keeps_returns (event.Use o) m i S f on =
+    HasReturns-beside m i S f.facts f.fit f.values.stored f.buffers f.values.room f.values.returns
     (event.Use o) tt on
-keeps_returns (event.Ready o) m i all ts g S f on =
-    HasReturns-beside m i all ts g S f.ground f.control f.fit f.values.stored f.buffers f.values.room f.values.returns
+keeps_returns (event.Ready o) m i S f on =
+    HasReturns-beside m i S f.facts f.fit f.values.stored f.buffers f.values.room f.values.returns
     (event.Ready o) tt on
-keeps_returns (event.Link o) m i all ts g S f on =
-    HasReturns-beside m i all ts g S f.ground f.control f.fit f.values.stored f.buffers f.values.room f.values.returns
+keeps_returns (event.Link o) m i S f on =
+    HasReturns-beside m i S f.facts f.fit f.values.stored f.buffers f.values.room f.values.returns
     (event.Link o) tt on
-keeps_returns (event.Finish w) m i all ts g S f on =
-    HasReturns-beside m i all ts g S f.ground f.control f.fit f.values.stored f.buffers f.values.room f.values.returns
+keeps_returns (event.Finish w) m i S f on =
+    HasReturns-beside m i S f.facts f.fit f.values.stored f.buffers f.values.room f.values.returns
     (event.Finish w) tt on
-keeps_returns (event.Release o) m i all ts g S f on =
-    HasReturns-beside m i all ts g S f.ground f.control f.fit f.values.stored f.buffers f.values.room f.values.returns
+keeps_returns (event.Release o) m i S f on =
+    HasReturns-beside m i S f.facts f.fit f.values.stored f.buffers f.values.room f.values.returns
     (event.Release o) tt on
-keeps_returns (event.Bye o) m i all ts g S f on =
-    HasReturns-beside m i all ts g S f.ground f.control f.fit f.values.stored f.buffers f.values.room f.values.returns
+keeps_returns (event.Bye o) m i S f on =
+    HasReturns-beside m i S f.facts f.fit f.values.stored f.buffers f.values.room f.values.returns
     (event.Bye o) tt on
-keeps_returns (event.Idle v) m i all ts g S f on =
-    HasReturns-beside m i all ts g S f.ground f.control f.fit f.values.stored f.buffers f.values.room f.values.returns
+keeps_returns (event.Idle v) m i S f on =
+    HasReturns-beside m i S f.facts f.fit f.values.stored f.buffers f.values.room f.values.returns
     (event.Idle v) tt on
-keeps_returns (event.Nack v) m i all ts g S f on =
-    HasReturns-beside m i all ts g S f.ground f.control f.fit f.values.stored f.buffers f.values.room f.values.returns
+keeps_returns (event.Nack v) m i S f on =
+    HasReturns-beside m i S f.facts f.fit f.values.stored f.buffers f.values.room f.values.returns
     (event.Nack v) tt on
-keeps_returns (event.Retire v) m i all ts g S f on =
-    HasReturns-beside m i all ts g S f.ground f.control f.fit f.values.stored f.buffers f.values.room f.values.returns
+keeps_returns (event.Retire v) m i S f on =
+    HasReturns-beside m i S f.facts f.fit f.values.stored f.buffers f.values.room f.values.returns
     (event.Retire v) tt on
-keeps_returns (event.Copy b) m i all ts g S f on =
-    HasReturns-beside m i all ts g S f.ground f.control f.fit f.values.stored f.buffers f.values.room f.values.returns
+keeps_returns (event.Copy b) m i S f on =
+    HasReturns-beside m i S f.facts f.fit f.values.stored f.buffers f.values.room f.values.returns
     (event.Copy b) tt on
-keeps_returns (event.Gone v) m i all ts g S f on =
-    HasReturns-beside m i all ts g S f.ground f.control f.fit f.values.stored f.buffers f.values.room f.values.returns
+keeps_returns (event.Gone v) m i S f on =
+    HasReturns-beside m i S f.facts f.fit f.values.stored f.buffers f.values.room f.values.returns
     (event.Gone v) tt on
 
 -- ---- home
 
 keeps_home : (e : Event) → IsPartKept e (λ m i all ts S. HasHome m i ts S)
-keeps_home event.Main m i all ts g S f on =
-    HasHome-main m i all ts g S f.ground f.control f.code f.pieces f.values.home f.values.main on f.own
-keeps_home event.Take m i all ts g S f on = HasHome-take m i all ts g S f.ground f.control f.values.home on
-keeps_home (event.Decode o) m i all ts g S f on = HasHome-decode m i all ts g S f.ground f.control f.values.home o on
-keeps_home (event.Ack o) m i all ts g S f on = HasHome-ack m i all ts g S f.ground f.control f.values.home o
-keeps_home (event.Open o) m i all ts g S f on = HasHome-open m i all ts g S f.ground f.control f.values.home o on
-keeps_home (event.Use o) m i all ts g S f on = HasHome-use m i all ts g S f.ground f.control f.values.home o on
-keeps_home (event.Ready o) m i all ts g S f on = HasHome-ready m i all ts g S f.ground f.control f.values.home o on
-keeps_home (event.Link o) m i all ts g S f on = HasHome-link m i all ts g S f.ground f.control f.values.home o on
-keeps_home (event.Start w) m i all ts g S f on =
-    HasHome-start m i all ts g S f.ground f.control f.values.home f.buffers f.code f.values.workers w on
-keeps_home (event.Exec w) m i all ts g S f on =
-    HasHome-exec m i all ts g S f.ground f.control f.values.home f.buffers f.code f.values.workers w on
-keeps_home (event.Finish w) m i all ts g S f on = HasHome-finish m i all ts g S f.ground f.control f.values.home w on
-keeps_home (event.Release o) m i all ts g S f on = HasHome-release m i all ts g S f.ground f.control f.values.home o on
-keeps_home (event.Bye o) m i all ts g S f on = HasHome-bye m i all ts g S f.ground f.control f.values.home o on
-keeps_home (event.Idle v) m i all ts g S f on = HasHome-idle m i all ts g S f.ground f.control f.values.home v on
-keeps_home (event.Nack v) m i all ts g S f on = HasHome-nack m i all ts g S f.ground f.control f.values.home v on
-keeps_home (event.Retire v) m i all ts g S f on = HasHome-retire m i all ts g S f.ground f.control f.values.home v on
-keeps_home (event.Copy b) m i all ts g S f on =
-    HasHome-copy m i all ts g S f.ground f.control f.values.returns f.values.home b on
-keeps_home (event.Gone v) m i all ts g S f on =
-    HasHome-gone m i all ts g S f.ground f.control f.values.main f.values.naming f.values.returns f.values.home f.bytes
+keeps_home event.Main m i S f on =
+    HasHome-main m i S f.facts f.image f.pieces f.values.home f.values.main on f.own
+keeps_home event.Take m i S f on = HasHome-take m i S f.facts f.values.home on
+keeps_home (event.Decode o) m i S f on = HasHome-decode m i S f.facts f.values.home o on
+keeps_home (event.Ack o) m i S f on = HasHome-ack m i S f.facts f.values.home o
+keeps_home (event.Open o) m i S f on = HasHome-open m i S f.facts f.values.home o on
+keeps_home (event.Use o) m i S f on = HasHome-use m i S f.facts f.values.home o on
+keeps_home (event.Ready o) m i S f on = HasHome-ready m i S f.facts f.values.home o on
+keeps_home (event.Link o) m i S f on = HasHome-link m i S f.facts f.values.home o on
+keeps_home (event.Start w) m i S f on =
+    HasHome-start m i S f.work f.values.home w on
+keeps_home (event.Exec w) m i S f on =
+    HasHome-exec m i S f.work f.values.home w on
+keeps_home (event.Finish w) m i S f on = HasHome-finish m i S f.facts f.values.home w on
+keeps_home (event.Release o) m i S f on = HasHome-release m i S f.facts f.values.home o on
+keeps_home (event.Bye o) m i S f on = HasHome-bye m i S f.facts f.values.home o on
+keeps_home (event.Idle v) m i S f on = HasHome-idle m i S f.facts f.values.home v on
+keeps_home (event.Nack v) m i S f on = HasHome-nack m i S f.facts f.values.home v on
+keeps_home (event.Retire v) m i S f on = HasHome-retire m i S f.facts f.values.home v on
+keeps_home (event.Copy b) m i S f on =
+    HasHome-copy m i S f.facts f.values.returns f.values.home b on
+keeps_home (event.Gone v) m i S f on =
+    HasHome-gone m i S f.facts f.values.main f.values.naming f.values.returns f.values.home f.bytes
     f.placed f.own v on
 
 -- ---- main and the whole
@@ -183,54 +184,53 @@ traps_of : (m : Machine) (i : ImageState) (all : List Task) (S : State) → HasM
 traps_of m i all S h = record { held = h.held; trap = h.trap; judged = h.judged }
 
 keeps_main : (e : Event) → IsPartKept e (λ m i all ts S. HasMain m i all S)
-keeps_main e m i all ts g S f on =
+keeps_main e m i S f on =
     let v = f.values in
-    let traps = HasTraps-after_event m i all ts S f.ground (traps_of m i all S v.main) v.workers e on in
+    let traps = HasTraps-after_event m i S f.basis (traps_of m i f.all S v.main) v.workers e on in
     record {
-      follows = follows-after_event m i all ts g S f.ground f.code f.pieces v.home v.main e on;
-      same = same-after_event m i all ts g S f.ground f.code f.pieces v.home v.main e on;
+      follows = follows-after_event m i S f.basis f.image f.pieces v.home v.main e on;
+      same = same-after_event m i S f.basis f.image f.pieces v.home v.main e on;
       held = traps.held;
       trap = traps.trap;
       judged = traps.judged;
     }
 
 keeps_workers : (e : Event) → IsPartKept e (λ m i all ts S. HasWorkers m i S)
-keeps_workers e m i all ts g S f on =
-    HasWorkers-after_event m i all ts g S f.ground f.control f.buffers f.code f.accepted f.fixed
-    (λ e a fixed. same_fixed m i f.accepted all ts g S f.ground f.control f.buffers f.code f.values.workers
+keeps_workers e m i S f on =
+    HasWorkers-after_event m i S f.work f.accepted f.fixed
+    (λ e a fixed. same_fixed m i f.accepted S f.work
     f.values.returns f.operands f.outputs a fixed e)
-    (finds_left m i all ts S f.ground f.values.main f.values.naming) f.values e on
+    (finds_left m i S f.basis f.values.main f.values.naming) f.values e on
 
 carried_after : (e : Event) → IsPartKept e HasCarried
-carried_after e m i all ts g S f on = record {
+carried_after e m i S f on = record {
   values = record {
-    stored = keeps_stored e m i all ts g S f on;
-    workers = keeps_workers e m i all ts g S f on;
-    returns = keeps_returns e m i all ts g S f on;
-    home = keeps_home e m i all ts g S f on;
-    room = HasRoom-after_event m all ts g S f.ground f.control f.values.room f.buffers e on;
-    main = keeps_main e m i all ts g S f on;
+    stored = keeps_stored e m i S f on;
+    workers = keeps_workers e m i S f on;
+    returns = keeps_returns e m i S f on;
+    home = keeps_home e m i S f on;
+    room = HasRoom-after_event m S f.facts f.values.room f.buffers e on;
+    main = keeps_main e m i S f on;
     naming =
-        HasNaming-after_event m i all ts g S f.ground f.code f.pieces f.values.home f.values.main f.values.naming e on;
+        HasNaming-after_event m i S f.basis f.image f.pieces f.values.home f.values.main f.values.naming e on;
   };
   fixed =
-      λ a fixed. same_fixed m i f.accepted all ts g S f.ground f.control f.buffers f.code f.values.workers
+      λ a fixed. same_fixed m i f.accepted S f.work
       f.values.returns f.operands f.outputs a fixed e ∙ f.fixed a fixed;
 }
 
 -- every event keeps the values
 keeps_carried : IsValueKept HasCarried
 keeps_carried m i es S e accepted admissible run h on =
-    let all = spawned_tasks m i es in
-    let ts = round_of m (initial_state i) es in
-    let g = arrivals_from m (initial_state i) no_arrivals es in
-    carried_after e m i all ts g S (record {
+    carried_after e m i S (record {
       accepted = accepted;
       admissible = admissible;
-      ground = HasGroundwork-Run m i es S run;
-      control = IsControlled-Run m i es S run;
-      buffers = HasBuffers-Run m i es S run;
-      code = HasGround-run m i es S run;
+      work = record {
+        facts = Facts-Run m i es S run;
+        buffers = HasBuffers-Run m i es S run;
+        image = HasGround-run m i es S run;
+        workers = h.values.workers;
+      };
       pieces = pieces-run m i es S run;
       fit = fit_run m i es S run;
       own = EndsItself-Run m i es S run;

@@ -26,15 +26,16 @@ use Rattle.tss_values.proofs.storages.FixedBytes.{HaveFitOperands, no_operands, 
 use Rattle.tss_model.specs.Memory.{memory_ranges}
 use Rattle.tss_values.proofs.Values.{HasValues}
 use Rattle.tss_values.proofs.storages.FixedOutputs.{HasOutputs, HasOutputs-initial_state, HasOutputs-after_event}
+use Rattle.tss_control.proofs.rounds.Facts.{Facts}
+use Rattle.tss_control.proofs.GroundworkControl.{Facts-Run}
+use Rattle.tss_values.proofs.WorkerFacts.{WorkerFacts}
 
 -- what an event that may happen finds in a state that a run leaves
-pub record Finds (m : Machine) (i : ImageState) (all ts : List Task) (g : Arrivals) (S : State) : Type 0 where
+pub record Finds (m : Machine) (i : ImageState) (S : State) : Type 0 where
   pub accepted : IsAccepted i
   pub admissible : IsAdmissible m
-  pub ground : HasGroundwork m all ts S
-  pub control : IsControlled ts g S
-  pub buffers : HasBuffers ts S
-  pub code : HasGround i S
+  pub work : WorkerFacts m i S
+  pub open work use *
   pub pieces : NoneAfter S.main.spawned S.main.pieces
   pub fit : HaveFitObjects m.limits all
   pub own : EndsItself S.main
@@ -48,10 +49,9 @@ pub record Finds (m : Machine) (i : ImageState) (all ts : List Task) (g : Arriva
 -- it keeps a part of the values
 abbrev pub IsPartKept : Event → ValueFact → Type 0
 IsPartKept e P =
-    (m : Machine) (i : ImageState) (all ts : List Task) (g : Arrivals) (S : State)
-    → Finds m i all ts g S
+    (m : Machine) (i : ImageState) (S : State) (f : Finds m i S)
     → IsEnabled m S e
-    → P m i (spawned_after_event m S all e) (round_after_event m S ts e) (after_event m S e)
+    → P m i (spawned_after_event m S f.all e) (round_after_event m S f.ts e) (after_event m S e)
 
 -- objects of spawned tasks are fit in every run
 pub fit_run : (m : Machine) (i : ImageState) (es : List Event) (S : State) → IsRun m i es S
@@ -90,8 +90,6 @@ module _ (m : Machine) (i : ImageState) (accepted : IsAccepted i) (admissible : 
   outputs_run =
       values_of_run (λ m i all ts S. HasOutputs ts S)
       (λ m i es S e accepted admissible run outputs on.
-      let k = IsControlled-Run m i es S run in
-      HasOutputs-after_event m (spawned_tasks m i es) (round_of m (initial_state i) es) S
-      (HasGroundwork-Run m i es S run)
-      k.orderly outputs e on)
+      let facts = Facts-Run m i es S run in
+      HasOutputs-after_event m S facts.basis facts.control.orderly outputs e on)
       m i accepted admissible (HasOutputs-initial_state [] i) es S run

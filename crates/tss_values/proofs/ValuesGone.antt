@@ -20,9 +20,12 @@ use Rattle.tss_values.specs.Buffers.{HasBuffers}
 use Rattle.tss_control.specs.Control.{HasGroundwork}
 use Rattle.tss_values.proofs.Values.{HasReturns}
 use Rattle.tss_values.proofs.returns.Returns.{KeepsReturns, returns_kept}
+use Rattle.tss_control.proofs.rounds.Facts.{Basis}
 
-module _ (m : Machine) (all ts : List Task) (S : State) (ground : HasGroundwork m all ts S) (buffers : HasBuffers ts S)
-    (v : OpName) (g : GoneContents) (there : get S.mail.gones v ≡ Some g) where
+module _ (m : Machine) (S : State) (basis : Basis m S) (buffers : HasBuffers basis.ts S) (v : OpName)
+    (g : GoneContents) (there : get S.mail.gones v ≡ Some g) where
+  open basis use {ground}
+
   abbrev T : State
   T = after_event m S (event.Gone v)
 
@@ -62,10 +65,10 @@ module _ (m : Machine) (all ts : List Task) (S : State) (ground : HasGroundwork 
       }
 
 -- what is brought home after a gone
-pub HasReturns-gone : (m : Machine) (i : ImageState) (all ts : List Task) (S : State) → HasGroundwork m all ts S
-    → HasBuffers ts S → HasReturns m i ts S → (v : OpName) → IsEnabled m S (event.Gone v)
-    → HasReturns m i ts (after_event m S (event.Gone v))
+pub HasReturns-gone : (m : Machine) (i : ImageState) (S : State) (basis : Basis m S) → HasBuffers basis.ts S
+    → HasReturns m i basis.ts S → (v : OpName) → IsEnabled m S (event.Gone v)
+    → HasReturns m i basis.ts (after_event m S (event.Gone v))
 unfolding is_enabled
-HasReturns-gone m i all ts S ground buffers h v on =
+HasReturns-gone m i S basis buffers h v on =
     let g = something is_some (get S.mail.gones v) refl on in
-    returns_kept m i ts S (after_event m S (event.Gone v)) (keeps_gone m all ts S ground buffers v g.0 g.1) h
+    returns_kept m i basis.ts S (after_event m S (event.Gone v)) (keeps_gone m S basis buffers v g.0 g.1) h

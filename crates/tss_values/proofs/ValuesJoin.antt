@@ -23,6 +23,7 @@ use Rattle.tss_control.proofs.GroundworkRuns.{HasGroundwork-Run}
 use Rattle.tss_control.proofs.GroundworkControl.{IsControlled-Run}
 use Rattle.tss_values.proofs.ResultLemmas.{finished_result}
 use Rattle.tss_values.proofs.Values.{HasValues}
+use Rattle.tss_control.proofs.GroundworkControl.{Facts-Run}
 
 -- ---- one more event
 
@@ -131,11 +132,8 @@ HaveValues =
 -- then a finished run has the result of program order
 pub result_of_values : HaveValues → ResultLaw
 result_of_values have m i es S accepted admissible run finished =
-    let all = spawned_tasks m i es in
-    let ts = round_of m (initial_state i) es in
-    let g = arrivals_from m (initial_state i) no_arrivals es in
     let values = have m i es S accepted admissible run in
-    finished_result m i all ts g S (HasGroundwork-Run m i es S run) (IsControlled-Run m i es S run) values.home
+    finished_result m i S (Facts-Run m i es S run) values.home
     values.main
     (HasGround-run m i es S run) (no_task_trap S.main (EndsItself-Run m i es S run))
     (and_parts (is_drained S) (is_some S.main.ending || is_some S.trap) finished).0 finished

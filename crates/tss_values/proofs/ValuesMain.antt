@@ -35,6 +35,7 @@ use Rattle.tss_program_order.proofs.MainEvent.{main_on-enabled, follows_main, ma
 use Rattle.tss_program_order.proofs.RunKeeps.{HasGround, is_main, after_event-kept}
 use Rattle.tss_names.proofs.SpawnLemmas.{SpawnsAtMostOne, SpawnsOne, spawns_main}
 use Rattle.tss_values.proofs.Values.{Starts, HasHome, HasMain}
+use Rattle.tss_control.proofs.rounds.Facts.{Basis}
 
 -- a member of a list is had by it
 pub in_has : (x : Range) (xs : List Range) → IsIn x xs → Has xs x
@@ -43,9 +44,11 @@ in_has x (y ∷ ys) (inl same) =
     or_left (same_range x y) _ (subst (λ z. same_range x z ≡ true) (sym same) (same_range-refl x))
 in_has x (y ∷ ys) (inr later) = or_right (same_range x y) _ (in_has x ys later)
 
-module _ (m : Machine) (i : ImageState) (all ts : List Task) (g : Arrivals) (S : State)
-    (ground : HasGroundwork m all ts S) (code : HasGround i S) (few : NoneAfter S.main.spawned S.main.pieces)
-    (home : HasHome m i ts S) (main : HasMain m i all S) where
+module _ (m : Machine) (i : ImageState) (S : State) (basis : Basis m S) (code : HasGround i S)
+    (few : NoneAfter S.main.spawned S.main.pieces) (home : HasHome m i basis.ts S)
+    (main : HasMain m i basis.all S) where
+  open basis use {all, ts, ground}
+
   -- ---- main in program order
 
   -- main may load at no address of an operand of the round

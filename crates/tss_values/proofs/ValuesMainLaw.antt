@@ -25,6 +25,8 @@ use Rattle.tss_control.proofs.GroundworkControl.{IsControlled-Run}
 use Rattle.tss_values.proofs.UnclaimedMemory.{no_entry, decoded}
 use Rattle.tss_values.proofs.Values.{HasHome}
 use Rattle.tss_values.proofs.ValuesJoin.{HaveValues}
+use Rattle.tss_control.proofs.rounds.Facts.{Facts}
+use Rattle.tss_control.proofs.GroundworkControl.{Facts-Run}
 
 -- the state after so many instructions has completed as many
 after_done : (i : ImageState) (limits : Limits) (k : ℕ) (f : Flat) → main_after i limits k ≡ Some f
@@ -59,9 +61,8 @@ stands_still i limits s f same after = by (is_executed s.ending) refl
         (ap (λ (x : Flat). x.main.registers.done) (sym at) ∙ ap (λ (x : MainState). x.registers.done) (sym same)
         ∙ sym (after_done i limits s.registers.done f after)))
 
-module _ (m : Machine) (i : ImageState) (all ts : List Task) (g : Arrivals) (S : State)
-    (ground : HasGroundwork m all ts S) (control : IsControlled ts g S) (home : HasHome m i ts S) (f : Flat)
-    (after : main_after i m.limits S.main.registers.done ≡ Some f) where
+module _ (m : Machine) (i : ImageState) (S : State) (facts : Facts m S) (home : HasHome m i facts.ts S)
+    (f : Flat) (after : main_after i m.limits S.main.registers.done ≡ Some f) where
   follows_by : (S.main ≡ (flat_beside i m.limits S.main).main) ⊎ IsCutOff i m.limits S.main → FollowsMain S f
   follows_by (inr cut) = absurd (none-some f (sym cut.none ∙ after))
   follows_by (inl same) =
@@ -73,8 +74,8 @@ module _ (m : Machine) (i : ImageState) (all ts : List Task) (g : Arrivals) (S :
         pieces = ap (λ (x : MainState). x.pieces) same ∙ still.0.pieces;
         home = λ a free.
             home.beside a same (λ o p among inside. (
-              no_entry m all ts g S ground control a free o p among inside,
-              decoded m all ts g S ground control a free o p among inside,
+              no_entry m S facts a free o p among inside,
+              decoded m S facts a free o p among inside,
             ))
             ∙ ap (λ (x : Memory). get x.bytes a) still.1;
       }
@@ -82,9 +83,6 @@ module _ (m : Machine) (i : ImageState) (all ts : List Task) (g : Arrivals) (S :
 -- main follows program order
 pub main_of_values : HaveValues → MainStateLaw
 main_of_values have m i es S accepted admissible run f after =
-    let all = spawned_tasks m i es in
-    let ts = round_of m (initial_state i) es in
-    let g = arrivals_from m (initial_state i) no_arrivals es in
     let values = have m i es S accepted admissible run in
-    follows_by m i all ts g S (HasGroundwork-Run m i es S run) (IsControlled-Run m i es S run) values.home f after
+    follows_by m i S (Facts-Run m i es S run) values.home f after
     values.main.follows

@@ -15,6 +15,7 @@ use Rattle.tss_control.proofs.GroundworkRuns.{HasGroundwork-Run}
 use Rattle.tss_control.proofs.GroundworkControl.{IsControlled-Run}
 use Rattle.tss_values.proofs.NamingLemmas.{end_bytes}
 use Rattle.tss_values.proofs.ValuesJoin.{HaveValues}
+use Rattle.tss_control.proofs.GroundworkControl.{Facts-Run}
 
 -- they do
 pub produced_of_values : HaveValues → ProducedBytesLaw
@@ -28,13 +29,10 @@ produced_of_values have m i es S accepted admissible run v x k s there made star
         let control = IsControlled-Run m i es S run in
         absurd (true≢false (sym made ∙ ((control.chains.storages v x there).waits e).0))
     by (Some st) e =
-        let all = spawned_tasks m i es in
-        let ts = round_of m (initial_state i) es in
         let values = have m i es S accepted admissible run in
-        let ground = HasGroundwork-Run m i es S run in
-        let control = IsControlled-Run m i es S run in
-        let p = control.chains.opener v x there in
+        let facts = Facts-Run m i es S run in
+        let p = facts.control.chains.opener v x there in
         ap Some (values.stored.produced v x st p.0 s there made e
         (record { operand = p.1; starts = (k, start, number) }) (λ writer. ends)
-        ∙ sym (end_bytes m i all ts S ground values.main values.naming v p.0 s p.1 (k, start, number))
+        ∙ sym (end_bytes m i S facts.basis values.main values.naming v p.0 s p.1 (k, start, number))
         ∙ ap (λ (r : Range). bytes_of (end_of_started i m.limits s).memory r) p.2)

@@ -24,6 +24,7 @@ use Rattle.tss_control.specs.Readers.{Arrivals}
 use Rattle.tss_control.specs.Control.{HasGroundwork, IsControlled}
 use Rattle.tss_names.proofs.PlainLemmas.{some_unit}
 use Rattle.tss_values.proofs.Values.{IsKnown, IsGood, bytes_after, content, HasStored, HasReturns}
+use Rattle.tss_control.proofs.rounds.Facts.{Facts}
 
 none_moved : (a n : ℕ) → a ≡ 0 → a ≤ n
 none_moved a n e = omega (arith, e)
@@ -136,8 +137,9 @@ module _ (m : Machine) (i : ImageState) (ts : List Task) (S : State) (stored : H
       ])
       (λ w g there. inl (ap (λ m. get m w) (sym (gones (Some (Buffer n)) lies)) ∙ there))
 
-module _ (m : Machine) (i : ImageState) (all ts : List Task) (g : Arrivals) (S : State)
-    (ground : HasGroundwork m all ts S) (k : IsControlled ts g S) where
+module _ (m : Machine) (i : ImageState) (S : State) (facts : Facts m S) where
+  open facts use {ts, ground, control as k}
+
   -- what is brought home after a retire
   pub HasReturns-retire : HasStored m i ts S → HasReturns m i ts S → (v : OpName) → IsEnabled m S (event.Retire v)
       → HasReturns m i ts (after_event m S (event.Retire v))

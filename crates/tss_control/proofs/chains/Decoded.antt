@@ -35,6 +35,7 @@ use Rattle.tss_control.proofs.rounds.EntriesDecode.{sends_first, sends_beside, s
 use Rattle.tss_protocol.proofs.TurnLemmas.{decode_in_turn}
 use Rattle.tss_control.proofs.rounds.DecodeFacts.{members_earlier, no_writer_since}
 use Rattle.tss_control.proofs.chains.Decode.{KeepsVersions, version_was, versions_were, linked_left, stored_left, chains_opened, opens_behind, opens_nothing, opens_behind_latest}
+use Rattle.tss_control.proofs.rounds.Facts.{Facts}
 
 plus_none : (a b : ℕ) → a ≡ b + 0 → a ≡ b
 plus_none a b e = omega (arith, e)
@@ -135,24 +136,25 @@ module _ (ts : List Task) (S T : State) (h : HasChains ts S) (o : OpName) (x : R
 
 -- ---- decode
 
-module _ (m : Machine) (all ts : List Task) (g : Arrivals) (S : State) (ground : HasGroundwork m all ts S)
-    (k : IsControlled ts g S) (o : OpName) (on : IsEnabled m S (event.Decode o)) where
+module _ (m : Machine) (S : State) (facts : Facts m S) (o : OpName) (on : IsEnabled m S (event.Decode o)) where
+  open facts use {basis, ts, g, control as k}
+
   module _ (p : Operand) (there : get S.mail.decodes o ≡ Some p) where
     abbrev T : State
     T = after_event m S (event.Decode o)
 
     among : operand_among ts o ≡ Some p
-    among = decode_among m all ts S ground k.orderly o p there
+    among = decode_among m S basis k.orderly o p there
 
     earlier : (q : OpName) → IsMember S p.object q → q.task < o.task
-    earlier = members_earlier m all ts S ground k.orderly o p there k.chains
+    earlier = members_earlier m S basis k.orderly o p there k.chains
 
     opened : (c : OpenContents) (n : Entry) → c.operand ≡ p → DecodesOpen S T o p c n
         → (IsOpenInOrder ts T o c) → HasChains ts T
     opened c n is d new =
         chains_opened ts S T k.chains o c
         (subst (λ (z : Operand). (q : OpName) → IsMember S z.object q → q.task < o.task) (sym is) earlier)
-        (no_version m all ts S ground k.orderly o p there) (no_open m all ts S ground k.orderly o p there)
+        (no_version m S basis k.orderly o p there) (no_open m S basis k.orderly o p there)
         d.leaving.versions d.opens d.uses new
 
     -- an object without an entry
@@ -161,8 +163,8 @@ module _ (m : Machine) (all ts : List Task) (g : Arrivals) (S : State) (ground :
         let c : OpenContents = record { operand = p; storage = Some Home; follows = None } in
         let d = sends_first m S o p there none in
         let a = k.entries.absent o p among none in
-        let fresh = no_version m all ts S ground k.orderly o p there in
-        let closed = no_open m all ts S ground k.orderly o p there in
+        let fresh = no_version m S basis k.orderly o p there in
+        let closed = no_open m S basis k.orderly o p there in
         opened c _ refl d
         (record {
           operand = among;
@@ -177,7 +179,7 @@ module _ (m : Machine) (all ts : List Task) (g : Arrivals) (S : State) (ground :
 
     module _ (e : Entry) (at : get S.entries p.object.base ≡ Some e) where
       object : e.object ≡ p.object
-      object = object_of_entry m all ts S ground k.orderly k.entries o p there e at
+      object = object_of_entry m S basis k.orderly k.entries o p there e at
 
       awake : e.retiring ≡ false
       awake = entry_awake m S o p there on e at
@@ -186,15 +188,15 @@ module _ (m : Machine) (all ts : List Task) (g : Arrivals) (S : State) (ground :
       live = subst (λ x. IsLive S x e) object (k.entries.live p.object.base e at awake)
 
       alone : NoWriterBetween ts p.object e.latest o
-      alone = no_writer_since m all ts S ground k.orderly o p there (decode_in_turn m S o p there on)
+      alone = no_writer_since m S basis k.orderly o p there (decode_in_turn m S o p there on)
           k.entries p.object.base e at object
 
       -- an operand that writes follows the latest version
       decoded_behind : (c : OpenContents) (n : Entry) (f : Follow) → c.operand ≡ p → c.follows ≡ Some f
           → f.version ≡ e.latest → f.last ≡ e.sent → FollowsAs o c f → DecodesOpen S T o p c n → HasChains ts T
       decoded_behind c n f is to version last way d =
-          let fresh = no_version m all ts S ground k.orderly o p there in
-          let closed = no_open m all ts S ground k.orderly o p there in
+          let fresh = no_version m S basis k.orderly o p there in
+          let closed = no_open m S basis k.orderly o p there in
           let early =
           subst (λ (z : Operand). (q : OpName) → IsMember S z.object q → q.task < o.task) (sym is) earlier in
           opened c n is d
@@ -232,7 +234,7 @@ module _ (m : Machine) (all ts : List Task) (g : Arrivals) (S : State) (ground :
       decoded_input is =
           let d = sends_use m S o p there e at object awake is in
           chains_directed ts S T k.chains o p.object e live latest_object
-          (no_use m all ts S ground k.orderly o p there) d.leaving.versions d.opens d.uses
+          (no_use m S basis k.orderly o p there) d.leaving.versions d.opens d.uses
           (record {
             operand = p;
             there = among;

@@ -30,6 +30,7 @@ use Rattle.tss_control.proofs.chains.Settled.{HasChains-settled}
 use Rattle.tss_control.proofs.chains.Registered.{followed_version, linked_to, Registers}
 use Rattle.tss_control.proofs.chains.Opened.{HasChains-registered}
 use Rattle.tss_control.proofs.rounds.ReleaseFacts.{released_few}
+use Rattle.tss_control.proofs.rounds.Facts.{Facts}
 
 -- ---- the first version of an object
 
@@ -109,8 +110,10 @@ module _ (vs : Named Version) (o : OpName) (c : OpenContents) (f : Follow) (apar
 
 -- ---- open
 
-module _ (m : Machine) (all ts : List Task) (g : Arrivals) (S : State) (ground : HasGroundwork m all ts S)
-    (k : IsControlled ts g S) (o : OpName) (c : OpenContents) (opening : get S.mail.opens o ≡ Some c) where
+module _ (m : Machine) (S : State) (facts : Facts m S) (o : OpName) (c : OpenContents)
+    (opening : get S.mail.opens o ≡ Some c) where
+  open facts use {ts, g, ground, control as k}
+
   -- no version has the name yet
   pub fresh : get S.versions o ≡ None
   fresh = (ground.openings.opens o c opening).no_version
@@ -211,15 +214,16 @@ module _ (m : Machine) (all ts : List Task) (g : Arrivals) (S : State) (ground :
   chains_by T (Some f) to on part opens uses =
       chains_front T f to (get S.versions f.version) refl on part opens uses
 
-module _ (m : Machine) (all ts : List Task) (g : Arrivals) (S : State) (ground : HasGroundwork m all ts S)
-    (k : IsControlled ts g S) where
+module _ (m : Machine) (S : State) (facts : Facts m S) where
+  open facts use {ts}
+
   chains_open : (o : OpName) (c : Option OpenContents) → get S.mail.opens o ≡ c → can_open_message S c ≡ true
       → HasChains ts (open_message_taken (without S (event.Open o)) o c)
   chains_open o None e on = absurd (true≢false (sym on))
   chains_open o (Some c) e on =
       let d = after_open S.versions o c in
       let same = posted_all-later (taken S.mail (event.Open o)) d.sent (after_open-later S.versions o c) in
-      chains_by m all ts g S ground k o c e (with_versioned (without S (event.Open o)) d) c.follows refl on refl
+      chains_by m S facts o c e (with_versioned (without S (event.Open o)) d) c.follows refl on refl
       same.opens same.uses
 
   -- open

@@ -25,6 +25,7 @@ use Rattle.tss_control.proofs.chains.Alike.{AreAlike}
 use Rattle.tss_control.proofs.chains.Frames.{HasChains-same}
 use Rattle.tss_control.proofs.chains.Settled.{with_versions, HasChains-written, HasChains-settled}
 use Rattle.tss_control.proofs.rounds.ReleaseFacts.{Releases, releases_facts, released_few, released_fewer}
+use Rattle.tss_control.proofs.rounds.Facts.{Facts}
 
 -- ---- a version is written over, and then settled
 
@@ -107,8 +108,9 @@ module _ (ts : List Task) (g : Arrivals) (S T : State) (k : IsControlled ts g S)
   chains_by true e part = chains_produced part
   chains_by false e part = chains_released (subst (λ b. IsOwnOrRead g o b c.version) e f.own) part
 
-module _ (m : Machine) (all ts : List Task) (g : Arrivals) (S : State) (ground : HasGroundwork m all ts S)
-    (k : IsControlled ts g S) where
+module _ (m : Machine) (S : State) (facts : Facts m S) where
+  open facts use {ts, g, ground, control as k}
+
   chains_release : (o : OpName) (c : Option ReleaseContents) → get S.mail.releases o ≡ c
       → HasChains ts (release_message_taken (without S (event.Release o)) o c)
   chains_release o None e =

@@ -23,6 +23,7 @@ use Rattle.tss_names.proofs.SentLemmas.{posted_all-later, sent_by_retire-later}
 use Rattle.tss_control.proofs.rounds.EntriesNames.{one_object}
 use Rattle.tss_control.proofs.chains.Alike.{object_of_member}
 use Rattle.tss_control.proofs.chains.Frames.{HasChains-same}
+use Rattle.tss_control.proofs.rounds.Facts.{Facts}
 
 -- ---- a version that may retire
 
@@ -42,9 +43,10 @@ pub record HasRetiringEntry (ts : List Task) (S : State) (v : OpName) (x : Versi
   pub retiring : IsRetiring ts S x.object entry
   pub last : IsLastVersion S x.object entry x
 
-module _ (m : Machine) (all ts : List Task) (g : Arrivals) (S : State) (ground : HasGroundwork m all ts S)
-    (k : IsControlled ts g S) (v : OpName) (x : Version) (there : get S.versions v ≡ Some x)
-    (may : get S.mail.retires v ≡ Some tt) where
+module _ (m : Machine) (S : State) (facts : Facts m S) (v : OpName) (x : Version)
+    (there : get S.versions v ≡ Some x) (may : get S.mail.retires v ≡ Some tt) where
+  open facts use {basis, ts, control as k}
+
   retiring_by : (e : Entry) → get S.entries x.object.base ≡ Some e → e.object ≡ x.object → (b : Bool) → e.retiring ≡ b
       → HasRetiringEntry ts S v x
   retiring_by e at object false on =
@@ -75,7 +77,7 @@ module _ (m : Machine) (all ts : List Task) (g : Arrivals) (S : State) (ground :
             let q = k.entries.operand x.object.base e.0 e.1 in
             retiring_by e.0 e.1
             (sym q.1.2
-            ∙ one_object m all ts S ground k.orderly e.0.latest v q.1.0 p.0 q.1.1 p.1
+            ∙ one_object m S basis k.orderly e.0.latest v q.1.0 p.0 q.1.1 p.1
             (ap (λ (r : Range). r.base) q.1.2 ∙ q.0 ∙ ap (λ (r : Range). r.base) (sym p.2))
             ∙ p.2)
             e.0.retiring refl
@@ -260,8 +262,9 @@ module _ (ts : List Task) (S T : State) (h : HasChains ts S) (v : OpName) (x : V
 
 -- ---- retire
 
-module _ (m : Machine) (all ts : List Task) (g : Arrivals) (S : State) (ground : HasGroundwork m all ts S)
-    (k : IsControlled ts g S) where
+module _ (m : Machine) (S : State) (facts : Facts m S) where
+  open facts use {ts, control as k}
+
   chains_retire : (v : OpName) → get S.mail.retires v ≡ Some tt → (x : Option Version) → get S.versions v ≡ x
       → HasChains ts (retire_version m (without S (event.Retire v)) v x)
   chains_retire v may None e =
@@ -271,7 +274,7 @@ module _ (m : Machine) (all ts : List Task) (g : Arrivals) (S : State) (ground :
       posted_all-later (taken S.mail (event.Retire v)) (sent_by_retire v x.object x.storage)
       (sent_by_retire-later v x.object x.storage) in
       HasChains-alone ts S (retire_version m (without S (event.Retire v)) v (Some x)) k.chains v x e
-      (retires_alone m all ts g S ground k v x e may) refl same.opens same.uses
+      (retires_alone m S facts v x e may) refl same.opens same.uses
 
   -- retire
   pub HasChains-retire : (v : OpName) → get S.mail.retires v ≡ Some tt → HasChains ts (after_event m S (event.Retire v))

@@ -24,6 +24,7 @@ use Rattle.tss_control.specs.Control.{HasGroundwork}
 use Rattle.tss_control.proofs.rounds.EntriesFrames.{KeepsEntries, DecodesNoMore, entries_kept}
 use Rattle.tss_control.proofs.entries.Decoded.{later_decodes_none}
 use Rattle.tss_control.proofs.rounds.RetirementFrames.{HasRetirement-same}
+use Rattle.tss_control.proofs.rounds.Facts.{Basis}
 
 -- ---- where the same versions go home
 
@@ -104,8 +105,9 @@ going_entries ts S T s es decoded = record {
 
 -- ---- a piece is copied
 
-module _ (m : Machine) (all ts : List Task) (S : State) (ground : HasGroundwork m all ts S) (b : ℕ) (c : CopyState)
-    (there : get S.copies b ≡ Some c) where
+module _ (m : Machine) (S : State) (basis : Basis m S) (b : ℕ) (c : CopyState) (there : get S.copies b ≡ Some c) where
+  open basis use {ground}
+
   abbrev T : State
   T = after_event m S (event.Copy b)
 
@@ -243,8 +245,9 @@ module _ (m : Machine) (all ts : List Task) (S : State) (ground : HasGroundwork 
   copied_nacks true is = ap (λ (m : Mail). m.nacks) (copied_mail true is)
   copied_nacks false is = ap (λ (m : Mail). m.nacks) (copied_mail false is)
 
-module _ (m : Machine) (all ts : List Task) (S : State) (ground : HasGroundwork m all ts S) (b : ℕ)
-    (on : IsEnabled m S (event.Copy b)) where
+module _ (m : Machine) (S : State) (basis : Basis m S) (b : ℕ) (on : IsEnabled m S (event.Copy b)) where
+  open basis use {all, ts}
+
   -- entries after a copy
   pub HasEntries-copy : AreOrderly S → AreOrderly (after_event m S (event.Copy b)) → HasEntries ts S
       → HasEntries ts (after_event m S (event.Copy b))
@@ -253,7 +256,7 @@ module _ (m : Machine) (all ts : List Task) (S : State) (ground : HasGroundwork 
       let c = something is_some (get S.copies b) refl on in
       entries_kept ts S (after_event m S (event.Copy b)) h
       (going_entries ts S (after_event m S (event.Copy b))
-      (copied_going m all ts S ground b c.0 c.1 (is_last_piece c.0) refl)
+      (copied_going m S basis b c.0 c.1 (is_last_piece c.0) refl)
       (λ i. (Leaves-after_event m S (event.Copy b) i).entries)
       (λ o p at. later_decodes_none m all S before (event.Copy b) refl after o))
 
@@ -264,4 +267,4 @@ module _ (m : Machine) (all ts : List Task) (S : State) (ground : HasGroundwork 
       let c = something is_some (get S.copies b) refl on in
       HasRetirement-same S (after_event m S (event.Copy b)) (λ i. (Leaves-after_event m S (event.Copy b) i).versions)
       (λ i. (Leaves-after_event m S (event.Copy b) i).entries)
-      (copied_nacks m all ts S ground b c.0 c.1 (is_last_piece c.0) refl) h
+      (copied_nacks m S basis b c.0 c.1 (is_last_piece c.0) refl) h

@@ -26,6 +26,7 @@ use Rattle.tss_control.proofs.entries.Decoded.{later_decodes_none}
 use Rattle.tss_control.proofs.rounds.EntriesNames.{HasOperandOn, operand_of_object, one_object}
 use Rattle.tss_control.proofs.entries.Copy.{going_entries}
 use Rattle.tss_control.proofs.rounds.RetirementFrames.{HasRetirement-same, retirement_kept}
+use Rattle.tss_control.proofs.rounds.Facts.{Basis}
 
 -- the entry of an object whose last version is gone: that version is its latest
 pub record GoneEntry (ts : List Task) (S : State) (v : OpName) (g : GoneContents) : Type 0 where
@@ -37,9 +38,10 @@ pub record GoneEntry (ts : List Task) (S : State) (v : OpName) (g : GoneContents
   pub object : entry.object ≡ g.object
   pub latest : v ≡ entry.latest
 
-module _ (m : Machine) (all ts : List Task) (S : State) (ground : HasGroundwork m all ts S) (orderly : AreOrderly S)
-    (chains : HasChains ts S) (h : HasEntries ts S) (v : OpName) (g : GoneContents)
-    (there : get S.mail.gones v ≡ Some g) where
+module _ (m : Machine) (S : State) (basis : Basis m S) (orderly : AreOrderly S) (chains : HasChains basis.ts S)
+    (h : HasEntries basis.ts S) (v : OpName) (g : GoneContents) (there : get S.mail.gones v ≡ Some g) where
+  open basis use {all, ts, ground}
+
   abbrev T : State
   T = after_event m S (event.Gone v)
 
@@ -124,7 +126,7 @@ module _ (m : Machine) (all ts : List Task) (S : State) (ground : HasGroundwork 
     object =
         let q = h.operand g.object.base e at in
         sym q.1.2
-        ∙ one_object m all ts S ground orderly e.latest v q.1.0 operand.0 q.1.1 operand.1
+        ∙ one_object m S basis orderly e.latest v q.1.0 operand.0 q.1.1 operand.1
         (ap (λ (x : Range). x.base) q.1.2 ∙ q.0 ∙ ap (λ (x : Range). x.base) (sym operand.2))
         ∙ operand.2
 
@@ -222,7 +224,7 @@ module _ (m : Machine) (all ts : List Task) (S : State) (ground : HasGroundwork 
         → IsAbsent ts T p.object
     absent_by o p among none = elim (decide_key nat_order p.object.base g.object.base) [
       | inl same ↦
-          let is = one_object m all ts S ground orderly o v p operand.0 among operand.1
+          let is = one_object m S basis orderly o v p operand.0 among operand.1
           (same ∙ ap (λ (x : Range). x.base) (sym operand.2)) ∙ operand.2 in
           subst (IsAbsent ts T) (sym is) absent_gone
       | inr other ↦
@@ -285,7 +287,7 @@ module _ (m : Machine) (all ts : List Task) (S : State) (ground : HasGroundwork 
     retired_cause w y count version c =
         let p = chains.opener w y version in
         let other : y.object.base ≢ g.object.base = λ same.
-        let is = one_object m all ts S ground orderly w v p.0 operand.0 p.1 operand.1
+        let is = one_object m S basis orderly w v p.0 operand.0 p.1 operand.1
         (ap (λ (x : Range). x.base) p.2 ∙ same ∙ ap (λ (x : Range). x.base) (sym operand.2)) in
         no_version w (y, version, sym p.2 ∙ is ∙ operand.2) in (
           c.0,
@@ -303,18 +305,20 @@ module _ (m : Machine) (all ts : List Task) (S : State) (ground : HasGroundwork 
   retirement_by false died r =
       HasRetirement-same S T versions (gone_entries false died) (ap (λ (m : Mail). m.nacks) gone_mail) r
 
-module _ (m : Machine) (all ts : List Task) (S : State) (ground : HasGroundwork m all ts S) (orderly : AreOrderly S)
-    (chains : HasChains ts S) (h : HasEntries ts S) (v : OpName) (on : IsEnabled m S (event.Gone v)) where
+module _ (m : Machine) (S : State) (basis : Basis m S) (orderly : AreOrderly S) (chains : HasChains basis.ts S)
+    (h : HasEntries basis.ts S) (v : OpName) (on : IsEnabled m S (event.Gone v)) where
+  open basis use {ts}
+
   -- entries after a gone
   pub HasEntries-gone : AreOrderly (after_event m S (event.Gone v)) → HasEntries ts (after_event m S (event.Gone v))
   unfolding is_enabled
   HasEntries-gone after =
       let g = something is_some (get S.mail.gones v) refl on in
-      gone_by m all ts S ground orderly chains h v g.0 g.1 g.0.retired refl after
+      gone_by m S basis orderly chains h v g.0 g.1 g.0.retired refl after
 
   -- asking and refusing after a gone
   pub HasRetirement-gone : HasRetirement S → HasRetirement (after_event m S (event.Gone v))
   unfolding is_enabled
   HasRetirement-gone r =
       let g = something is_some (get S.mail.gones v) refl on in
-      retirement_by m all ts S ground orderly chains h v g.0 g.1 g.0.retired refl r
+      retirement_by m S basis orderly chains h v g.0 g.1 g.0.retired refl r

@@ -20,6 +20,7 @@ use Rattle.tss_control.specs.Readers.{Arrivals}
 use Rattle.tss_control.specs.Control.{HasGroundwork, IsControlled}
 use Rattle.tss_control.proofs.rounds.EntriesFrames.{DecodesNoMore}
 use Rattle.tss_control.proofs.entries.OfVersions.{HasEntryOf, entry_awake_of, released_within, registered_within}
+use Rattle.tss_control.proofs.rounds.Facts.{Facts}
 
 -- what such an answer leaves
 pub record Grants (ts : List Task) (S T : State) (v : OpName) (e : Entry) : Type 0 where
@@ -32,10 +33,11 @@ pub record Grants (ts : List Task) (S T : State) (v : OpName) (e : Entry) : Type
   pub entries : T.entries ≡ insert S.entries e.object.base (record e { retiring = true })
   pub decoded : DecodesNoMore ts S T
 
-module _ (m : Machine) (all ts : List Task) (g : Arrivals) (S : State) (ground : HasGroundwork m all ts S)
-    (h : IsControlled ts g S) (v : OpName) (x : Version) (at : get S.versions v ≡ Some x)
-    (quiet : get S.mail.retires v ≡ None) (f : HasEntryOf S x.object) (latest : f.entry.latest ≡ v)
-    (asked : x.asked ≡ Some f.entry.sent) where
+module _ (m : Machine) (S : State) (facts : Facts m S) (v : OpName) (x : Version)
+    (at : get S.versions v ≡ Some x) (quiet : get S.mail.retires v ≡ None) (f : HasEntryOf S x.object)
+    (latest : f.entry.latest ≡ v) (asked : x.asked ≡ Some f.entry.sent) where
+  open facts use {all, ts, control as h}
+
   -- the entry
   abbrev e : Entry
   e = f.entry
@@ -44,7 +46,7 @@ module _ (m : Machine) (all ts : List Task) (g : Arrivals) (S : State) (ground :
   entry_at = ap (λ (x : Range). get S.entries x.base) f.object ∙ f.there
 
   live : IsLive S e.object e
-  live = h.entries.live e.object.base e entry_at (entry_awake_of m all ts g S ground h v x at f quiet)
+  live = h.entries.live e.object.base e entry_at (entry_awake_of m S facts v x at f quiet)
 
   -- ---- v is the only version, with all its readers back
 
@@ -57,8 +59,8 @@ module _ (m : Machine) (all ts : List Task) (g : Arrivals) (S : State) (ground :
   counts : (x.registered ≡ e.sent) × (x.released ≡ e.sent)
   counts =
       let a = asks.0 in
-      let b = released_within m all ts g S ground h v x at in
-      let c = registered_within m all ts g S ground h v x at in
+      let b = released_within m S facts v x at in
+      let c = registered_within m S facts v x at in
       let d = sent_total in
       (omega (arith, a, b, c, d), omega (arith, a, b, c, d))
 

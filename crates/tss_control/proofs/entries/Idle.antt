@@ -32,6 +32,7 @@ use Rattle.tss_control.proofs.entries.OfVersions.{HasEntryOf, entry_of_version, 
 use Rattle.tss_control.proofs.entries.Granted.{Grants, entries_granted}
 use Rattle.tss_control.proofs.rounds.RetirementFrames.{retirement_kept, cause_same}
 use Rattle.tss_control.proofs.entries.RetirementDecode.{cause_written}
+use Rattle.tss_control.proofs.rounds.Facts.{Facts}
 
 same_count : (a b : ℕ) → (a == b) ≡ true → a ≡ b
 same_count a b e = grind (arith, nat_tests)
@@ -39,8 +40,9 @@ same_count a b e = grind (arith, nat_tests)
 other_count : (a b : ℕ) → (a == b) ≡ false → b ≤ a → b < a
 other_count a b e h = grind (arith, nat_tests)
 
-module _ (m : Machine) (all ts : List Task) (g : Arrivals) (S : State) (ground : HasGroundwork m all ts S)
-    (h : IsControlled ts g S) (v : OpName) where
+module _ (m : Machine) (S : State) (facts : Facts m S) (v : OpName) where
+  open facts use {all, ts, ground, control as h}
+
   abbrev T : State
   T = after_event m S (event.Idle v)
 
@@ -62,10 +64,10 @@ module _ (m : Machine) (all ts : List Task) (g : Arrivals) (S : State) (ground :
     quiet = (ground.asking.idles v i there).2
 
     f : HasEntryOf S x.object
-    f = entry_of_version m all ts g S ground h v x at
+    f = entry_of_version m S facts v x at
 
     awake : f.entry.retiring ≡ false
-    awake = entry_awake_of m all ts g S ground h v x at f quiet
+    awake = entry_awake_of m S facts v x at f quiet
 
     -- what is left, by the answer
     module _ (b : Bool) (answer : may_retire v i.count (Some f.entry) ≡ b) where
@@ -112,7 +114,7 @@ module _ (m : Machine) (all ts : List Task) (g : Arrivals) (S : State) (ground :
 
       granted : AreOrderly T → HasEntries ts T
       granted after =
-          entries_granted m all ts g S ground h v x at quiet f tests.0 (asked ∙ ap Some (sym tests.1)) T (grants after)
+          entries_granted m S facts v x at quiet f tests.0 (asked ∙ ap Some (sym tests.1)) T (grants after)
 
       granted_retirement : HasRetirement T
       granted_retirement =
@@ -144,8 +146,8 @@ module _ (m : Machine) (all ts : List Task) (g : Arrivals) (S : State) (ground :
       few latest =
           let live = h.entries.live x.object.base f.entry f.there awake in
           let a = (h.retirement.asked v x i.count at asked).released in
-          let b = released_within m all ts g S ground h v x at in
-          let c = registered_within m all ts g S ground h v x at in
+          let b = released_within m S facts v x at in
+          let c = registered_within m S facts v x at in
           let d = live.sent ∙ ap (total S) latest in
           omega (arith, a, b, c, d)
 

@@ -28,9 +28,11 @@ use Rattle.tss_control.proofs.entries.Written.{total_written, entries_written}
 use Rattle.tss_control.proofs.entries.SettleCases.{KeepsSettled, posted_all_settled, settles_with}
 use Rattle.tss_control.proofs.entries.Settled.{AsksSoundly}
 use Rattle.tss_control.proofs.entries.RetirementWritten.{cause_alike, AfterSettle, entries_then, retirement_then}
+use Rattle.tss_control.proofs.rounds.Facts.{Facts}
 
-module _ (m : Machine) (all ts : List Task) (g : Arrivals) (S : State) (ground : HasGroundwork m all ts S)
-    (h : IsControlled ts g S) (v : OpName) where
+module _ (m : Machine) (S : State) (facts : Facts m S) (v : OpName) where
+  open facts use {all, ts, ground, control as h}
+
   abbrev T : State
   T = after_event m S (event.Nack v)
 
@@ -72,7 +74,7 @@ module _ (m : Machine) (all ts : List Task) (g : Arrivals) (S : State) (ground :
           decoded = λ o p among d. d;
         })
         (λ e entry object.
-        entry_awake_of m all ts g S ground h v x at (record { entry = e; there = entry; object = object }) quiet)
+        entry_awake_of m S facts v x at (record { entry = e; there = entry; object = object }) quiet)
 
     sound : AsksSoundly U
     sound =

@@ -15,6 +15,7 @@ use Rattle.tss_control.specs.Readers.{Arrivals}
 use Rattle.tss_control.specs.Control.{HasGroundwork, IsControlled}
 use Rattle.tss_control.proofs.rounds.ReadersCounts.{few_released}
 use Rattle.tss_control.proofs.rounds.EntriesNames.{one_object}
+use Rattle.tss_control.proofs.rounds.Facts.{Facts}
 
 -- the entry of an object
 pub record HasEntryOf (S : State) (x : Range) : Type 0 where
@@ -22,8 +23,9 @@ pub record HasEntryOf (S : State) (x : Range) : Type 0 where
   pub there : get S.entries x.base ≡ Some entry
   pub object : entry.object ≡ x
 
-module _ (m : Machine) (all ts : List Task) (g : Arrivals) (S : State) (ground : HasGroundwork m all ts S)
-    (h : IsControlled ts g S) where
+module _ (m : Machine) (S : State) (facts : Facts m S) where
+  open facts use {basis, ts, g, control as h}
+
   -- an operand of a member's object has an entry there
   pub entry_of_member : (o : OpName) (p : Operand) → operand_among ts o ≡ Some p → (v : OpName) → IsMember S p.object v
       → HasEntryOf S p.object
@@ -36,7 +38,7 @@ module _ (m : Machine) (all ts : List Task) (g : Arrivals) (S : State) (ground :
           there = e.1;
           object =
               sym q.1.2
-              ∙ one_object m all ts S ground h.orderly e.0.latest o q.1.0 p q.1.1 among
+              ∙ one_object m S basis h.orderly e.0.latest o q.1.0 p q.1.1 among
               (ap (λ (x : Range). x.base) q.1.2 ∙ q.0);
         }
   ]

@@ -35,9 +35,12 @@ use Rattle.tss_control.proofs.entries.Use.{ready_quiet}
 use Rattle.tss_control.proofs.entries.SettleCases.{IsOfSettle, KeepsSettled, posted_all_settled, ready_of_settle, settles_with}
 use Rattle.tss_control.proofs.entries.RetirementWritten.{AfterSettle, entries_then, retirement_then}
 use Rattle.tss_control.proofs.entries.RetirementOpen.{nacks_ready, quiet_first, retires_added, sound_opened}
+use Rattle.tss_control.proofs.rounds.Facts.{Facts}
 
-module _ (m : Machine) (all ts : List Task) (g : Arrivals) (S : State) (ground : HasGroundwork m all ts S)
-    (h : IsControlled ts g S) (o : OpName) (c : OpenContents) (opening : get S.mail.opens o ≡ Some c) where
+module _ (m : Machine) (S : State) (facts : Facts m S) (o : OpName) (c : OpenContents)
+    (opening : get S.mail.opens o ≡ Some c) where
+  open facts use {all, ts, ground, control as h}
+
   abbrev T : State
   T = after_event m S (event.Open o)
 
@@ -76,7 +79,7 @@ module _ (m : Machine) (all ts : List Task) (g : Arrivals) (S : State) (ground :
         let q = mail_posted_all left (ready_with o o c.storage) (ready_quiet o o c.storage) in
         let mail : T.mail ≡ posted_all left (ready_with o o c.storage) = λ i. (first_state i).mail in
         let registers : Registers S T o c first =
-        registers_first m all ts g S ground h o c opening T to (λ i. (first_state i).versions)
+        registers_first m S facts o c opening T to (λ i. (first_state i).versions)
         (ap (λ (m : Mail). m.opens) mail ∙ q.opens) (ap (λ (m : Mail). m.uses) mail ∙ q.uses) in
         let quiet = quiet_first o c c.operand.mode in (
           entries_registered ts S T h.chains h.entries o c first registers
@@ -96,10 +99,10 @@ module _ (m : Machine) (all ts : List Task) (g : Arrivals) (S : State) (ground :
   module _ (f : Follow) (to : c.follows ≡ Some f) (u : Version) (at : get S.versions f.version ≡ Some u) where
     -- the state before that is settled
     abbrev U : State
-    U = registered_state m all ts g S ground h o c opening f to u at
+    U = registered_state m S facts o c opening f to u at
 
     registers : Registers S U o c (following c f)
-    registers = registers_behind m all ts g S ground h o c opening f to u at
+    registers = registers_behind m S facts o c opening f to u at
 
     u_chains : HasChains ts U
     u_chains = HasChains-registered ts S U h.chains o c (following c f) registers
@@ -115,7 +118,7 @@ module _ (m : Machine) (all ts : List Task) (g : Arrivals) (S : State) (ground :
 
     others : OthersSettled U.versions f.version
     others =
-        others_followed S.versions o c f (front_apart m all ts g S ground h o c opening f to u at)
+        others_followed S.versions o c f (front_apart m S facts o c opening f to u at)
         (λ q y e. h.retirement.settled q y e)
 
     u_decodes_none : AreOrderly T → DecodesNoMore ts U T
@@ -142,7 +145,7 @@ module _ (m : Machine) (all ts : List Task) (g : Arrivals) (S : State) (ground :
         } in (
           entries_then ts U T f.version settles u_chains others u_entries,
           retirement_then ts U T f.version settles u_chains others
-              (sound_opened m all ts g S ground h o c opening f to u at),
+              (sound_opened m S facts o c opening f to u at),
         )
 
     how_state : T ≡ with_versioned (without S (event.Open o)) (opened_how S.versions o c f f.how)
@@ -163,15 +166,16 @@ module _ (m : Machine) (all ts : List Task) (g : Arrivals) (S : State) (ground :
       let u = something is_some (get S.versions f.version) refl on in
       by_how f to u.0 u.1 after f.how refl
 
-module _ (m : Machine) (all ts : List Task) (g : Arrivals) (S : State) (ground : HasGroundwork m all ts S)
-    (h : IsControlled ts g S) (o : OpName) where
+module _ (m : Machine) (S : State) (facts : Facts m S) (o : OpName) where
+  open facts use {ts}
+
   -- entries after an open
   pub HasEntries-open : IsEnabled m S (event.Open o) → AreOrderly (after_event m S (event.Open o))
       → HasEntries ts (after_event m S (event.Open o))
   unfolding is_enabled
   HasEntries-open on after =
       let c = something (can_open_message S) (get S.mail.opens o) refl on in
-      (by_follow m all ts g S ground h o c.0 c.1 after c.0.follows refl (sym (ap (can_open_message S) c.1) ∙ on)).0
+      (by_follow m S facts o c.0 c.1 after c.0.follows refl (sym (ap (can_open_message S) c.1) ∙ on)).0
 
   -- asking and refusing after an open
   pub HasRetirement-open : IsEnabled m S (event.Open o) → AreOrderly (after_event m S (event.Open o))
@@ -179,4 +183,4 @@ module _ (m : Machine) (all ts : List Task) (g : Arrivals) (S : State) (ground :
   unfolding is_enabled
   HasRetirement-open on after =
       let c = something (can_open_message S) (get S.mail.opens o) refl on in
-      (by_follow m all ts g S ground h o c.0 c.1 after c.0.follows refl (sym (ap (can_open_message S) c.1) ∙ on)).1
+      (by_follow m S facts o c.0 c.1 after c.0.follows refl (sym (ap (can_open_message S) c.1) ∙ on)).1

@@ -19,11 +19,13 @@ use Rattle.tss_control.proofs.rounds.EntriesFrames.{DecodesNoMore, HasEntries-sa
 use Rattle.tss_control.proofs.rounds.EntriesQuiet.{IsQuietEvent, quiet_objects, quiet_entries}
 use Rattle.tss_control.proofs.entries.Decoded.{later_decodes_none, ack_decodes_none, take_decodes_none}
 use Rattle.tss_control.proofs.rounds.RetirementFrames.{HasRetirement-same}
+use Rattle.tss_control.proofs.rounds.Facts.{Basis}
 
 -- ---- entries
 
-module _ (m : Machine) (all ts : List Task) (S : State) (ground : HasGroundwork m all ts S)
-    (before : AreOrderly S) where
+module _ (m : Machine) (S : State) (basis : Basis m S) (before : AreOrderly S) where
+  open basis use {all, ts, ground}
+
   quiet_decodes_none : (e : Event) → IsQuietEvent e → IsEnabled m S e → AreOrderly (after_event m S e)
       → DecodesNoMore ts S (after_event m S e)
   quiet_decodes_none event.Take q on after =

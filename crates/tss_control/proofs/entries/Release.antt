@@ -35,6 +35,7 @@ use Rattle.tss_control.proofs.entries.Written.{total_written, entries_written}
 use Rattle.tss_control.proofs.entries.SettleCases.{IsOfSettle, KeepsSettled, posted_all_settled, ready_of_settle, settles_with}
 use Rattle.tss_control.proofs.entries.Settled.{AsksSoundly}
 use Rattle.tss_control.proofs.entries.RetirementWritten.{AsksAlike, sound_written, AfterSettle, entries_then, retirement_then}
+use Rattle.tss_control.proofs.rounds.Facts.{Facts}
 
 -- what an event leaves that writes a version over and then settles it
 pub record WritesAndSettles (ts : List Task) (S T : State) (v : OpName) (y : Version) : Type 0 where
@@ -44,12 +45,13 @@ pub record WritesAndSettles (ts : List Task) (S T : State) (v : OpName) (y : Ver
   pub mail : KeepsSettled v S.mail T.mail
   pub decoded : DecodesNoMore ts S T
 
-module _ (m : Machine) (all ts : List Task) (g : Arrivals) (S : State) (ground : HasGroundwork m all ts S)
-    (h : IsControlled ts g S) (v : OpName) (x y : Version) (at : get S.versions v ≡ Some x) (like : AreAlike x y)
-    (registered : y.registered ≡ x.registered)
+module _ (m : Machine) (S : State) (facts : Facts m S) (v : OpName) (x y : Version)
+    (at : get S.versions v ≡ Some x) (like : AreAlike x y) (registered : y.registered ≡ x.registered)
     (asks : AsksAlike x y)
     (awake : (e : Entry) → get S.entries x.object.base ≡ Some e → e.object ≡ x.object → e.retiring ≡ false)
-    (T : State) (d : WritesAndSettles ts S T v y) where
+    (T : State) (d : WritesAndSettles facts.ts S T v y) where
+  open facts use {ts, ground, control as h}
+
   -- the state before the settle
   abbrev U : State
   U = record S { versions = put_version S.versions v y }
@@ -140,8 +142,10 @@ writer_open Inout w e = true≢false (sym e)
 too_many : (a b c : ℕ) → suc a ≤ b → b ≡ c → a ≡ c → ⊥
 too_many a b c p q r = omega (arith, p, q, r)
 
-module _ (m : Machine) (all ts : List Task) (g : Arrivals) (S : State) (ground : HasGroundwork m all ts S)
-    (h : IsControlled ts g S) (o : OpName) (c : ReleaseContents) (there : get S.mail.releases o ≡ Some c) where
+module _ (m : Machine) (S : State) (facts : Facts m S) (o : OpName) (c : ReleaseContents)
+    (there : get S.mail.releases o ≡ Some c) where
+  open facts use {all, ts, g, ground, control as h}
+
   abbrev T : State
   T = after_event m S (event.Release o)
 
@@ -218,7 +222,7 @@ module _ (m : Machine) (all ts : List Task) (g : Arrivals) (S : State) (ground :
 
     released : HasEntries ts T × HasRetirement T
     released =
-        written_settled m all ts g S ground h v x y f.there like registered asks awake T (record {
+        written_settled m S facts v x y f.there like registered asks awake T (record {
           versions = λ i. (is i).versions;
           copies = λ i. (is i).copies;
           entries = λ i. (is i).entries;
@@ -244,15 +248,16 @@ module _ (m : Machine) (all ts : List Task) (g : Arrivals) (S : State) (ground :
       (released_asks x o)
       (release_state ∙ ap (λ b. with_versioned (without S (event.Release o)) (released_by S.versions o v x b)) is)
 
-module _ (m : Machine) (all ts : List Task) (g : Arrivals) (S : State) (ground : HasGroundwork m all ts S)
-    (h : IsControlled ts g S) (o : OpName) where
+module _ (m : Machine) (S : State) (facts : Facts m S) (o : OpName) where
+  open facts use {ts}
+
   -- entries after a release
   pub HasEntries-release : IsEnabled m S (event.Release o) → AreOrderly (after_event m S (event.Release o))
       → HasEntries ts (after_event m S (event.Release o))
   unfolding is_enabled
   HasEntries-release on after =
       let c = something is_some (get S.mail.releases o) refl on in
-      (release_by m all ts g S ground h o c.0 c.1 after c.0.producer refl).0
+      (release_by m S facts o c.0 c.1 after c.0.producer refl).0
 
   -- asking and refusing after a release
   pub HasRetirement-release : IsEnabled m S (event.Release o) → AreOrderly (after_event m S (event.Release o))
@@ -260,4 +265,4 @@ module _ (m : Machine) (all ts : List Task) (g : Arrivals) (S : State) (ground :
   unfolding is_enabled
   HasRetirement-release on after =
       let c = something is_some (get S.mail.releases o) refl on in
-      (release_by m all ts g S ground h o c.0 c.1 after c.0.producer refl).1
+      (release_by m S facts o c.0 c.1 after c.0.producer refl).1

@@ -16,6 +16,7 @@ use Rattle.tss_control.specs.Readers.{Arrivals}
 use Rattle.tss_control.specs.Control.{HasGroundwork, IsControlled}
 use Rattle.tss_control.proofs.rounds.EntriesFrames.{DecodesNoMore, KeepsLatest, KeepsLeaving, entries_kept}
 use Rattle.tss_control.proofs.rounds.RetirementFrames.{cause_same}
+use Rattle.tss_control.proofs.rounds.Facts.{Facts}
 
 -- what a retire leaves
 pub record Retires (ts : List Task) (S T : State) (v : OpName) (x : Version) : Type 0 where
@@ -30,9 +31,11 @@ pub record Retires (ts : List Task) (S T : State) (v : OpName) (x : Version) : T
   pub goes : IsGoingHome T x.object v
   pub decoded : DecodesNoMore ts S T
 
-module _ (m : Machine) (all ts : List Task) (g : Arrivals) (S : State) (ground : HasGroundwork m all ts S)
-    (h : IsControlled ts g S) (v : OpName) (x : Version) (at : get S.versions v ≡ Some x)
-    (may : get S.mail.retires v ≡ Some tt) (T : State) (d : Retires ts S T v x) where
+module _ (m : Machine) (S : State) (facts : Facts m S) (v : OpName) (x : Version)
+    (at : get S.versions v ≡ Some x) (may : get S.mail.retires v ≡ Some tt) (T : State)
+    (d : Retires facts.ts S T v x) where
+  open facts use {ts, control as h}
+
   here : IsVersionOf S x.object v
   here = (x, at, refl)
 

@@ -26,9 +26,12 @@ use Rattle.tss_control.specs.Control.{HasGroundwork, IsControlled}
 use Rattle.tss_control.proofs.rounds.EntriesFrames.{DecodesNoMore}
 use Rattle.tss_control.proofs.entries.Decoded.{later_decodes_none}
 use Rattle.tss_control.proofs.entries.Retire.{Retires, entries_retired, retirement_retired}
+use Rattle.tss_control.proofs.rounds.Facts.{Basis, Facts}
 
-module _ (m : Machine) (all ts : List Task) (S : State) (ground : HasGroundwork m all ts S) (orderly : AreOrderly S)
-    (v : OpName) (x : Version) (at : get S.versions v ≡ Some x) where
+module _ (m : Machine) (S : State) (basis : Basis m S) (orderly : AreOrderly S) (v : OpName) (x : Version)
+    (at : get S.versions v ≡ Some x) where
+  open basis use {all, ts, ground}
+
   abbrev U : State
   U = after_event m S (event.Retire v)
 
@@ -161,8 +164,9 @@ module _ (m : Machine) (all ts : List Task) (S : State) (ground : HasGroundwork 
     retires_by (Some Home) lies on = retires_home lies
     retires_by (Some (Buffer n)) lies on = retires_buffer n lies (none_by (get S.copies bank) on)
 
-module _ (m : Machine) (all ts : List Task) (g : Arrivals) (S : State) (ground : HasGroundwork m all ts S)
-    (h : IsControlled ts g S) (v : OpName) (on : IsEnabled m S (event.Retire v)) where
+module _ (m : Machine) (S : State) (facts : Facts m S) (v : OpName) (on : IsEnabled m S (event.Retire v)) where
+  open facts use {basis, ts, control as h}
+
   -- what may retire is there
   pub record Finds : Type 0 where
     pub version : Version
@@ -189,18 +193,18 @@ module _ (m : Machine) (all ts : List Task) (g : Arrivals) (S : State) (ground :
   retires_then : AreOrderly (after_event m S (event.Retire v))
       → Retires ts S (after_event m S (event.Retire v)) v finds.version
   retires_then after =
-      retires_by m all ts S ground h.orderly v finds.version finds.there after finds.version.storage refl finds.from
+      retires_by m S basis h.orderly v finds.version finds.there after finds.version.storage refl finds.from
 
   -- entries after a retire
   pub HasEntries-retire : AreOrderly (after_event m S (event.Retire v))
       → HasEntries ts (after_event m S (event.Retire v))
   HasEntries-retire after =
-      entries_retired m all ts g S ground h v finds.version finds.there finds.may (after_event m S (event.Retire v))
+      entries_retired m S facts v finds.version finds.there finds.may (after_event m S (event.Retire v))
       (retires_then after)
 
   -- asking and refusing after it
   pub HasRetirement-retire : AreOrderly (after_event m S (event.Retire v))
       → HasRetirement (after_event m S (event.Retire v))
   HasRetirement-retire after =
-      retirement_retired m all ts g S ground h v finds.version finds.there finds.may (after_event m S (event.Retire v))
+      retirement_retired m S facts v finds.version finds.there finds.may (after_event m S (event.Retire v))
       (retires_then after)

@@ -27,6 +27,7 @@ use Rattle.tss_control.proofs.rounds.EntriesDecodeOpen.{DecodesOpen}
 use Rattle.tss_control.proofs.rounds.EntriesDecodeUse.{DecodesUse}
 use Rattle.tss_control.proofs.rounds.EntriesDecode.{mail_decoded, sends_first, sends_beside, sends_over, sends_use, entry_awake}
 use Rattle.tss_control.proofs.rounds.RetirementFrames.{retirement_kept}
+use Rattle.tss_control.proofs.rounds.Facts.{Basis}
 
 -- an entry is a cause
 abbrev pub Causes : OpName → ℕ → Entry → Type 0
@@ -53,8 +54,8 @@ cause_written S T base n entries v y count why c = elim (decide_key nat_order y.
 below_more : (a b : ℕ) → a < b → a < suc b
 below_more a b h = omega (arith, h)
 
-module _ (m : Machine) (all ts : List Task) (S : State) (ground : HasGroundwork m all ts S) (orderly : AreOrderly S)
-    (h : HasEntries ts S) (o : OpName) (on : IsEnabled m S (event.Decode o)) where
+module _ (m : Machine) (S : State) (basis : Basis m S) (orderly : AreOrderly S) (h : HasEntries basis.ts S)
+    (o : OpName) (on : IsEnabled m S (event.Decode o)) where
   abbrev T : State
   T = after_event m S (event.Decode o)
 
@@ -63,7 +64,7 @@ module _ (m : Machine) (all ts : List Task) (S : State) (ground : HasGroundwork 
     -- the new version isn't one that was refused
     new_apart : o ≢ v
     new_apart same =
-        none-some y (sym (no_version m all ts S ground orderly o p there) ∙ ap (get S.versions) same ∙ version)
+        none-some y (sym (no_version m S basis orderly o p there) ∙ ap (get S.versions) same ∙ version)
 
     cause_open : (d : OpenContents) (n : Entry) → DecodesOpen S T o p d n → HasCause T v y count
     cause_open d n k =
@@ -83,15 +84,15 @@ module _ (m : Machine) (all ts : List Task) (S : State) (ground : HasGroundwork 
         → HasCause T v y count
     cause_live e at Input is =
         cause_use e
-        (sends_use m S o p there e at (object_of_entry m all ts S ground orderly h o p there e at)
+        (sends_use m S o p there e at (object_of_entry m S basis orderly h o p there e at)
         (entry_awake m S o p there on e at) is)
     cause_live e at Output is =
         cause_open _ _
-        (sends_beside m S o p there e at (object_of_entry m all ts S ground orderly h o p there e at)
+        (sends_beside m S o p there e at (object_of_entry m S basis orderly h o p there e at)
         (entry_awake m S o p there on e at) is)
     cause_live e at Inout is =
         cause_open _ _
-        (sends_over m S o p there e at (object_of_entry m all ts S ground orderly h o p there e at)
+        (sends_over m S o p there e at (object_of_entry m S basis orderly h o p there e at)
         (entry_awake m S o p there on e at) is)
 
     cause_by : (x : Option Entry) → get S.entries p.object.base ≡ x → HasCause T v y count

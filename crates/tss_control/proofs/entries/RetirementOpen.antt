@@ -22,6 +22,7 @@ use Rattle.tss_names.specs.Asking.{AsksFor}
 use Rattle.tss_control.proofs.entries.Settled.{AsksSoundly}
 use Rattle.tss_control.proofs.chains.Registered.{linked_to}
 use Rattle.tss_control.proofs.chains.Open.{following, at_followed, behind_followed, beside_followed, registered_state, front_apart, fresh}
+use Rattle.tss_control.proofs.rounds.Facts.{Facts}
 
 -- a ready is no nack
 pub nacks_ready : (m : Mail) (o v : OpName) (s : Option StorageName) → (posted_all m (ready_with o v s)).nacks ≡ m.nacks
@@ -78,14 +79,16 @@ module _ (S T : State) (h : HasRetirement S) (o : OpName) (n : Version) (put : T
 
 -- ---- open
 
-module _ (m : Machine) (all ts : List Task) (g : Arrivals) (S : State) (ground : HasGroundwork m all ts S)
-    (k : IsControlled ts g S) (o : OpName) (c : OpenContents) (opening : get S.mail.opens o ≡ Some c) where
+module _ (m : Machine) (S : State) (facts : Facts m S) (o : OpName) (c : OpenContents)
+    (opening : get S.mail.opens o ≡ Some c) where
+  open facts use {ground, control as k}
+
   module _ (f : Follow) (to : c.follows ≡ Some f) (u : Version) (there : get S.versions f.version ≡ Some u) where
     abbrev U : State
-    U = registered_state m all ts g S ground k o c opening f to u there
+    U = registered_state m S facts o c opening f to u there
 
     apart : f.version ≢ o
-    apart = front_apart m all ts g S ground k o c opening f to u there
+    apart = front_apart m S facts o c opening f to u there
 
     -- each version is new, the one that is followed, or as it was
     pub opened_from : (w : OpName) (t : Version) → get U.versions w ≡ Some t
@@ -112,7 +115,7 @@ module _ (m : Machine) (all ts : List Task) (g : Arrivals) (S : State) (ground :
         → AsksFor U.versions w count
     asks_still w count x e asks =
         let far : w ≢ o = λ is.
-        none-some x (sym (fresh m all ts g S ground k o c opening) ∙ ap (λ q. get S.versions q) (sym is) ∙ e) in
+        none-some x (sym (fresh m S facts o c opening) ∙ ap (λ q. get S.versions q) (sym is) ∙ e) in
         elim (decide_key name_order w f.version) [
           | inl is ↦
               let same = same_Some u x (sym there ∙ ap (λ q. get S.versions q) (sym is) ∙ e) in (

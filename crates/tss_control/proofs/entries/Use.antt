@@ -35,6 +35,7 @@ use Rattle.tss_control.proofs.entries.OfVersions.{released_within}
 use Rattle.tss_control.proofs.entries.Written.{WritesVersion, entries_written}
 use Rattle.tss_control.proofs.entries.Settled.{AsksSoundly}
 use Rattle.tss_control.proofs.entries.RetirementWritten.{AsksAlike, sound_written}
+use Rattle.tss_control.proofs.rounds.Facts.{Facts}
 
 -- ---- the version with one more reader
 
@@ -155,8 +156,9 @@ module _ (x y : Version) (s : IsSettled x) (registered : y.registered ≡ suc x.
 
 -- ---- the event
 
-module _ (m : Machine) (all ts : List Task) (g : Arrivals) (S : State) (ground : HasGroundwork m all ts S)
-    (h : IsControlled ts g S) (o : OpName) where
+module _ (m : Machine) (S : State) (facts : Facts m S) (o : OpName) where
+  open facts use {all, ts, ground, control as h}
+
   abbrev T : State
   T = after_event m S (event.Use o)
 
@@ -242,7 +244,7 @@ module _ (m : Machine) (all ts : List Task) (g : Arrivals) (S : State) (ground :
             | inl new ↦
                 subst IsSettled (sym new.1)
                 (settled_more x k.used.version (h.retirement.settled v x at) k.used.more.registered
-                (released_within m all ts g S ground h v x at) k.produced k.released k.asks.asked k.successor)
+                (released_within m S facts v x at) k.produced k.released k.asks.asked k.successor)
             | inr old ↦ h.retirement.settled w z old.1
           ];
     }

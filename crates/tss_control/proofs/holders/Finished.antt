@@ -40,6 +40,7 @@ use Rattle.tss_control.proofs.holders.Parted.{record_stands}
 use Rattle.tss_control.proofs.holders.Frames.{IsSameHolder, IsChangedHolder, holding_there, holding_after, holders_kept}
 use Rattle.tss_control.proofs.holders.RunnerEvents.{HasRunners-after_event}
 use Rattle.tss_control.proofs.holders.KeepsOrder.{keeps_order, AreOrderly-controlled}
+use Rattle.tss_control.proofs.rounds.Facts.{Facts}
 
 -- ---- the releases of a task's operands
 
@@ -106,8 +107,9 @@ opener_releasing y mode opens = by y.produced opens
 
 -- ---- finish
 
-module _ (m : Machine) (all ts : List Task) (g : Arrivals) (S : State) (ground : HasGroundwork m all ts S)
-    (h : IsControlled ts g S) where
+module _ (m : Machine) (S : State) (facts : Facts m S) where
+  open facts use {all, ts, g, ground, control as h}
+
   -- the record of an operand of the round has its operand
   pub its_operand : (q : OpName) (r : OperandState) (p : Operand) → operand_at S.flight q ≡ Some r
       → operand_among ts q ≡ Some p → r.operand ≡ p
@@ -187,7 +189,7 @@ module _ (m : Machine) (all ts : List Task) (g : Arrivals) (S : State) (ground :
               ∙ opener_releasing y p.mode (ap (version_opener y p.mode) (sym is_ready) ∙ opens);
           records = λ next e.
               let stands = record_stands (look_ups Finished q)
-              (AreOrderly-controlled m all ts g S ground h (event.Finish w) on q)
+              (AreOrderly-controlled m S facts (event.Finish w) on q)
               (λ a. releasing_ahead (sym phase ∙ a)) (λ a. releasing_left (sym phase ∙ a)) in
               (stands.0, stands.1, λ a. releasing_left (sym phase ∙ a));
         }
@@ -210,7 +212,7 @@ module _ (m : Machine) (all ts : List Task) (g : Arrivals) (S : State) (ground :
     holders_finished =
         holders_kept ts g S Finished versions h.orderly
         (HasRunners-after_event m all S ground.numbers ground.stages h.orderly h.holders.runners (event.Finish w) on
-        (keeps_order m all ts g S ground h (event.Finish w)))
+        (keeps_order m S facts (event.Finish w)))
         (λ q. elim (decide_key nat_order q.task b.task.number) [
           | inl same ↦ task_kept q same (slice_get x.operands q.place) refl
           | inr other ↦ inl (record {
@@ -225,5 +227,5 @@ module _ (m : Machine) (all ts : List Task) (g : Arrivals) (S : State) (ground :
   unfolding is_enabled
   HasHolders-finish w on =
       let b = something can_finish (get S.workers w) refl on in
-      let f = keeps_order m all ts g S ground h (event.Finish w) b.0 b.1 in
+      let f = keeps_order m S facts (event.Finish w) b.0 b.1 in
       holders_finished w b.0 f.0.0 b.1 f.0.1 f.1 on

@@ -23,6 +23,7 @@ use Rattle.tss_control.specs.Control.{HasGroundwork, IsControlled}
 use Rattle.tss_control.proofs.rounds.ReleaseFacts.{releases_facts}
 use Rattle.tss_control.proofs.holders.Order.{takes_spawned, readies_waiting, links_waiting, finishes_ready}
 use Rattle.tss_control.proofs.holders.Told.{settle_tells_waiting, nacks_waiting, opens_waiting}
+use Rattle.tss_control.proofs.rounds.Facts.{Facts}
 
 module _ (ts : List Task) (g : Arrivals) (S : State) (readers : HasReaders ts g S) (v : OpName) (x : Version)
     (there : get S.versions v ≡ Some x) where
@@ -64,32 +65,34 @@ releases_registered m ts g S round orderly chains retirement readers holders o r
     same_predecessor true x = refl
     same_predecessor false x = refl
 
--- every event
-pub keeps_order : (m : Machine) (all ts : List Task) (g : Arrivals) (S : State) → HasGroundwork m all ts S
-    → IsControlled ts g S → (e : Event) → KeepsOrder S e
-keeps_order m all ts g S ground h event.Main = tt
-keeps_order m all ts g S ground h event.Take = takes_spawned m all S ground.numbers
-keeps_order m all ts g S ground h (event.Decode o) = tt
-keeps_order m all ts g S ground h (event.Ack o) = tt
-keeps_order m all ts g S ground h (event.Open o) = opens_waiting ts S h.chains o
-keeps_order m all ts g S ground h (event.Use o) = tt
-keeps_order m all ts g S ground h (event.Ready o) = readies_waiting ts g S h.readers o
-keeps_order m all ts g S ground h (event.Link o) = links_waiting ts g S h.readers h.holders o
-keeps_order m all ts g S ground h (event.Start w) = tt
-keeps_order m all ts g S ground h (event.Exec w) = tt
-keeps_order m all ts g S ground h (event.Finish w) =
-    finishes_ready m all S ground.stages h.orderly h.holders.runners w
-keeps_order m all ts g S ground h (event.Release o) =
-    releases_registered m ts g S ground.round h.orderly h.chains h.retirement h.readers h.holders o
-keeps_order m all ts g S ground h (event.Bye o) = tt
-keeps_order m all ts g S ground h (event.Idle v) = tt
-keeps_order m all ts g S ground h (event.Nack v) = nacks_waiting ts g S h.chains h.holders h.retirement v
-keeps_order m all ts g S ground h (event.Retire v) = tt
-keeps_order m all ts g S ground h (event.Copy b) = tt
-keeps_order m all ts g S ground h (event.Gone v) = tt
+module _ (m : Machine) (S : State) (facts : Facts m S) where
+  open facts use {all, ts, g, ground, control as h}
+
+  -- every event
+  pub keeps_order : (e : Event) → KeepsOrder S e
+  keeps_order event.Main = tt
+  keeps_order event.Take = takes_spawned m all S ground.numbers
+  keeps_order (event.Decode o) = tt
+  keeps_order (event.Ack o) = tt
+  keeps_order (event.Open o) = opens_waiting ts S h.chains o
+  keeps_order (event.Use o) = tt
+  keeps_order (event.Ready o) = readies_waiting ts g S h.readers o
+  keeps_order (event.Link o) = links_waiting ts g S h.readers h.holders o
+  keeps_order (event.Start w) = tt
+  keeps_order (event.Exec w) = tt
+  keeps_order (event.Finish w) =
+      finishes_ready m all S ground.stages h.orderly h.holders.runners w
+  keeps_order (event.Release o) =
+      releases_registered m ts g S ground.round h.orderly h.chains h.retirement h.readers h.holders o
+  keeps_order (event.Bye o) = tt
+  keeps_order (event.Idle v) = tt
+  keeps_order (event.Nack v) = nacks_waiting ts g S h.chains h.holders h.retirement v
+  keeps_order (event.Retire v) = tt
+  keeps_order (event.Copy b) = tt
+  keeps_order (event.Gone v) = tt
 
 -- so operands stay in order
-pub AreOrderly-controlled : (m : Machine) (all ts : List Task) (g : Arrivals) (S : State) → HasGroundwork m all ts S
-    → IsControlled ts g S → (e : Event) → IsEnabled m S e → AreOrderly (after_event m S e)
-AreOrderly-controlled m all ts g S ground h e on =
-    orderly-after_event m S h.orderly e on (keeps_order m all ts g S ground h e)
+pub AreOrderly-controlled : (m : Machine) (S : State) → Facts m S → (e : Event) → IsEnabled m S e
+    → AreOrderly (after_event m S e)
+AreOrderly-controlled m S facts e on =
+    orderly-after_event m S facts.control.orderly e on (keeps_order m S facts e)

@@ -46,6 +46,7 @@ use Rattle.tss_control.proofs.holders.Frames.{IsChangedHolder, holders_kept}
 use Rattle.tss_control.proofs.holders.KeepsOrder.{AreOrderly-controlled}
 use Rattle.tss_control.proofs.holders.RunnerEvents.{HasRunners-after_event}
 use Rattle.tss_control.proofs.holders.Ready.{waiting_input, next_input, next_true, holds_after, named_operand}
+use Rattle.tss_control.proofs.rounds.Facts.{Facts}
 
 -- ---- tasks that may leave
 
@@ -94,8 +95,9 @@ linked_opener y mode Releasing b e = e
 linked_opener y mode Leaving b e = e
 linked_opener y mode Left b e = e
 
-module _ (m : Machine) (all ts : List Task) (g : Arrivals) (S : State) (ground : HasGroundwork m all ts S)
-    (h : IsControlled ts g S) where
+module _ (m : Machine) (S : State) (facts : Facts m S) where
+  open facts use {all, ts, g, ground, control as h}
+
   module _ (o : OpName) (on : IsEnabled m S (event.Link o)) (order : LinksWaiting S o) (next : OpName)
       (there : get S.mail.links o ≡ Some next) (r : OperandState) (kept : operand_at S.flight o ≡ Some r)
       (waits : TellWaiting S (sent_by_link r.source next)) where
@@ -109,7 +111,7 @@ module _ (m : Machine) (all ts : List Task) (g : Arrivals) (S : State) (ground :
     y = linked_task m S o next r there kept
 
     after : AreOrderly T
-    after = AreOrderly-controlled m all ts g S ground h (event.Link o) on
+    after = AreOrderly-controlled m S facts (event.Link o) on
 
     versions : T.versions ≡ S.versions
     versions = λ i. (Leaves-after_event m S (event.Link o) i).versions

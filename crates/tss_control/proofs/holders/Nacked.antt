@@ -38,10 +38,13 @@ use Rattle.tss_control.proofs.holders.Thinned.{StaysHeld, IsSpent, ThinsHeld, ho
 use Rattle.tss_control.proofs.holders.RunnerEvents.{HasRunners-after_event}
 use Rattle.tss_control.proofs.holders.KeepsOrder.{keeps_order, AreOrderly-controlled}
 use Rattle.tss_control.proofs.holders.Sent.{told_own, tells_true, waiting_opener, opener_from, version_opener-from, same_opener}
+use Rattle.tss_control.proofs.rounds.Facts.{Facts}
 
-module _ (m : Machine) (all ts : List Task) (g : Arrivals) (S : State) (ground : HasGroundwork m all ts S)
-    (h : IsControlled ts g S) (v : OpName) (x : Version) (there : get S.versions v ≡ Some x) (count : ℕ)
-    (asked : x.asked ≡ Some count) (on : IsEnabled m S (event.Nack v)) where
+module _ (m : Machine) (S : State) (facts : Facts m S) (v : OpName) (x : Version)
+    (there : get S.versions v ≡ Some x) (count : ℕ) (asked : x.asked ≡ Some count)
+    (on : IsEnabled m S (event.Nack v)) where
+  open facts use {all, ts, g, ground, control as h}
+
   abbrev Nacked : State
   Nacked = after_event m S (event.Nack v)
 
@@ -82,7 +85,7 @@ module _ (m : Machine) (all ts : List Task) (g : Arrivals) (S : State) (ground :
   versions = refl
 
   waits : (q : OpName) → tells left.sent q ≡ true → phase_of S q ≡ Waiting
-  waits = keeps_order m all ts g S ground h (event.Nack v)
+  waits = keeps_order m S facts (event.Nack v)
 
   phase_now : (q : OpName) → phase_of Nacked q ≡ phase_told (tells left.sent q) (phase_of S q)
   phase_now q = phase_of-nack m S v q (waits q)
@@ -239,7 +242,7 @@ module _ (m : Machine) (all ts : List Task) (g : Arrivals) (S : State) (ground :
       let is = same_Some inout.operand p (sym inout.there ∙ at) in
       let mode = ap (λ (p : Operand). p.mode) (sym is) ∙ inout.is_mode in
       let now = ap (λ vs. get vs q) versions ∙ e in
-      let opener = (HasChains-nack m all ts g S ground h v).opener q z now in
+      let opener = (HasChains-nack m S facts v).opener q z now in
       record {
         version = z;
         there = ap (get Nacked.versions) same ∙ now;
@@ -303,7 +306,7 @@ module _ (m : Machine) (all ts : List Task) (g : Arrivals) (S : State) (ground :
       let linked = subst (λ ks. Holding T (StillOpened q) C (writes p.mode) (look_ups Nacked q) (get ks q))
       (sym (links-nack m S v)) looked in
       holding_mapped T T (StillOpened q) (HasOpened Nacked q) C C (writes p.mode) (look_ups Nacked q)
-      (get Nacked.mail.links q) (AreOrderly-controlled m all ts g S ground h (event.Nack v) on q) (λ s needs t. t)
+      (get Nacked.mail.links q) (AreOrderly-controlled m S facts (event.Nack v) on q) (λ s needs t. t)
       (λ w waiting o. elim o [
         | inl opened ↦ opened
         | inr told ↦ absurd (not_told q waiting told)
@@ -322,7 +325,7 @@ module _ (m : Machine) (all ts : List Task) (g : Arrivals) (S : State) (ground :
         λ l. stays_by (tells left.sent o) (phase_of S o) r.2 (sym (phase_now o) ∙ l),
       ))
       (HasRunners-after_event m all S ground.numbers ground.stages h.orderly h.holders.runners (event.Nack v) on
-      (keeps_order m all ts g S ground h (event.Nack v)))
+      (keeps_order m S facts (event.Nack v)))
     where
       stays_by : (b : Bool) (p : Phase) → (p ≡ Left → ⊥) → phase_told b p ≡ Left → ⊥
       stays_by true p n e = cc
@@ -332,11 +335,12 @@ some_unit : (o : Option (Unit {0})) → is_some o ≡ true → o ≡ Some tt
 some_unit None e = absurd (true≢false (sym e))
 some_unit (Some tt) e = refl
 
-module _ (m : Machine) (all ts : List Task) (g : Arrivals) (S : State) (ground : HasGroundwork m all ts S)
-    (h : IsControlled ts g S) where
+module _ (m : Machine) (S : State) (facts : Facts m S) where
+  open facts use {ts, g, ground}
+
   -- nack
   pub HasHolders-nack : (v : OpName) → IsEnabled m S (event.Nack v) → HasHolders ts g (after_event m S (event.Nack v))
   unfolding is_enabled
   HasHolders-nack v on =
       let a = (ground.asking.nacks v (some_unit (get S.mail.nacks v) on)).0 in
-      holders_nacked m all ts g S ground h v a.1.0 a.1.1 a.0 a.1.2 on
+      holders_nacked m S facts v a.1.0 a.1.1 a.0 a.1.2 on

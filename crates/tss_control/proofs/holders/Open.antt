@@ -42,6 +42,7 @@ use Rattle.tss_control.proofs.holders.First.{OpensHeld}
 use Rattle.tss_control.proofs.holders.Opened.{opens_held}
 use Rattle.tss_control.proofs.holders.RunnerEvents.{HasRunners-after_event}
 use Rattle.tss_control.proofs.holders.KeepsOrder.{keeps_order, AreOrderly-controlled}
+use Rattle.tss_control.proofs.rounds.Facts.{Facts}
 
 -- who is sent to its version has no link
 sent_nothing : (x : LinkState) → link_fits Sent x ≡ true → x ≡ link.Nothing
@@ -49,9 +50,11 @@ sent_nothing link.Nothing e = refl
 sent_nothing (link.Held next) e = absurd (true≢false (sym e))
 sent_nothing link.Passed e = absurd (true≢false (sym e))
 
-module _ (m : Machine) (all ts : List Task) (g : Arrivals) (S : State) (ground : HasGroundwork m all ts S)
-    (h : IsControlled ts g S) (o : OpName) (c : OpenContents) (opening : get S.mail.opens o ≡ Some c)
-    (can : is_followable S.versions c.follows ≡ true) (on : IsEnabled m S (event.Open o)) where
+module _ (m : Machine) (S : State) (facts : Facts m S) (o : OpName) (c : OpenContents)
+    (opening : get S.mail.opens o ≡ Some c) (can : is_followable S.versions c.follows ≡ true)
+    (on : IsEnabled m S (event.Open o)) where
+  open facts use {all, ts, g, ground, control as h}
+
   abbrev After : State
   After = after_event m S (event.Open o)
 
@@ -62,7 +65,7 @@ module _ (m : Machine) (all ts : List Task) (g : Arrivals) (S : State) (ground :
   left = after_open S.versions o c
 
   held : OpensHeld S.versions left.part o c left.sent
-  held = opens_held m all ts g S ground h o c opening can
+  held = opens_held m S facts o c opening can
 
   versions : After.versions ≡ left.part
   unfolding after_event
@@ -236,7 +239,7 @@ module _ (m : Machine) (all ts : List Task) (g : Arrivals) (S : State) (ground :
       let C = HasCome come After o in
       let w = writes p.mode in
       holding_mapped T T OpenedOrTold O (tells left.sent o ≡ true) C w (look_ups After o) (get After.mail.links o)
-      (AreOrderly-controlled m all ts g S ground h (event.Open o) on o) (λ s needs t. t)
+      (AreOrderly-controlled m S facts (event.Open o) on o) (λ s needs t. t)
       (λ x waiting k. elim k [
         | inl opened ↦ opened
         | inr told ↦ absurd (own_not_told waiting told)
@@ -318,10 +321,11 @@ module _ (m : Machine) (all ts : List Task) (g : Arrivals) (S : State) (ground :
             )
       ])
       (HasRunners-after_event m all S ground.numbers ground.stages h.orderly h.holders.runners (event.Open o) on
-      (keeps_order m all ts g S ground h (event.Open o)))
+      (keeps_order m S facts (event.Open o)))
 
-module _ (m : Machine) (all ts : List Task) (g : Arrivals) (S : State) (ground : HasGroundwork m all ts S)
-    (h : IsControlled ts g S) where
+module _ (m : Machine) (S : State) (facts : Facts m S) where
+  open facts use {ts, g}
+
   -- open
   pub HasHolders-open : (o : OpName) → IsEnabled m S (event.Open o)
       → HasHolders ts (arrivals_after_event S g (event.Open o)) (after_event m S (event.Open o))
@@ -330,4 +334,4 @@ module _ (m : Machine) (all ts : List Task) (g : Arrivals) (S : State) (ground :
       let c = something (can_open_message S) (get S.mail.opens o) refl on in
       let can = ap (can_open_message S) (sym c.1) ∙ on in
       subst (λ x. HasHolders ts (arrivals_opened g o x) (after_event m S (event.Open o))) (sym c.1)
-      (holders_opened m all ts g S ground h o c.0 c.1 can on)
+      (holders_opened m S facts o c.0 c.1 can on)

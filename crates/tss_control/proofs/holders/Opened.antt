@@ -31,12 +31,15 @@ use Rattle.tss_control.proofs.holders.Settled.{HeldAlike, HasGone, HasTaken, Tel
 use Rattle.tss_control.proofs.holders.Thinned.{StaysHeld, IsSpent, ThinsHeld}
 use Rattle.tss_control.proofs.holders.Sent.{told_own}
 use Rattle.tss_control.proofs.holders.First.{OpensHeld, opens_first}
+use Rattle.tss_control.proofs.rounds.Facts.{Facts}
 
 -- ---- one that follows another
 
-module _ (m : Machine) (all ts : List Task) (g : Arrivals) (S : State) (ground : HasGroundwork m all ts S)
-    (h : IsControlled ts g S) (o : OpName) (c : OpenContents) (opening : get S.mail.opens o ≡ Some c) (f : Follow)
-    (to : c.follows ≡ Some f) (u : Version) (there : get S.versions f.version ≡ Some u) where
+module _ (m : Machine) (S : State) (facts : Facts m S) (o : OpName) (c : OpenContents)
+    (opening : get S.mail.opens o ≡ Some c) (f : Follow) (to : c.follows ≡ Some f) (u : Version)
+    (there : get S.versions f.version ≡ Some u) where
+  open facts use {all, ground, control as h}
+
   abbrev linked : Named Version
   linked = followed S.versions o c f
 
@@ -314,9 +317,10 @@ module _ (m : Machine) (all ts : List Task) (g : Arrivals) (S : State) (ground :
 
 -- ---- an open
 
-module _ (m : Machine) (all ts : List Task) (g : Arrivals) (S : State) (ground : HasGroundwork m all ts S)
-    (h : IsControlled ts g S) (o : OpName) (c : OpenContents) (opening : get S.mail.opens o ≡ Some c)
-    (can : is_followable S.versions c.follows ≡ true) where
+module _ (m : Machine) (S : State) (facts : Facts m S) (o : OpName) (c : OpenContents)
+    (opening : get S.mail.opens o ≡ Some c) (can : is_followable S.versions c.follows ≡ true) where
+  open facts use {ground, control as h}
+
   opens_by : (x : Option Follow) → c.follows ≡ x → is_followable S.versions x ≡ true
       → OpensHeld S.versions (opened_by S.versions o c x).part o c (opened_by S.versions o c x).sent
   opens_by None to there =
@@ -324,7 +328,7 @@ module _ (m : Machine) (all ts : List Task) (g : Arrivals) (S : State) (ground :
       ((h.chains.opens o c opening).first to).storage to
   opens_by (Some f) to there = elim (decide_get S.versions f.version) [
     | inl none ↦ absurd (true≢false (sym there ∙ absent none))
-    | inr u ↦ opens_after m all ts g S ground h o c opening f to u.0 u.1 f.how refl
+    | inr u ↦ opens_after m S facts o c opening f to u.0 u.1 f.how refl
   ]
     where
       absent : get S.versions f.version ≡ None → contains_key S.versions f.version ≡ false

@@ -44,6 +44,7 @@ use Rattle.tss_control.proofs.holders.Leaves.{holding_parted}
 use Rattle.tss_control.proofs.holders.Frames.{IsChangedHolder, holding_there, holding_after, holders_kept}
 use Rattle.tss_control.proofs.holders.RunnerEvents.{HasRunners-after_event}
 use Rattle.tss_control.proofs.holders.KeepsOrder.{AreOrderly-controlled}
+use Rattle.tss_control.proofs.rounds.Facts.{Facts}
 
 -- ---- records
 
@@ -123,11 +124,12 @@ module _ (k : Option OpName) (x : LinkState) (b : Bool) (fits : PromiseFits k x 
 
 -- ---- bye
 
-module _ (m : Machine) (all ts : List Task) (g : Arrivals) (S : State) (ground : HasGroundwork m all ts S)
-    (h : IsControlled ts g S) (o : OpName) (promised : Bool) (r : OperandState)
+module _ (m : Machine) (S : State) (facts : Facts m S) (o : OpName) (promised : Bool) (r : OperandState)
     (there : get S.mail.byes o ≡ Some promised) (kept : operand_at S.flight o ≡ Some r)
     (silent : IsSilent (record (look_ups S o) { leaving = None })) (source : (s : Source) × (r.source ≡ Some s))
     (on : IsEnabled m S (event.Bye o)) where
+  open facts use {all, ts, g, ground, control as h}
+
   abbrev Parted : State
   Parted = after_event m S (event.Bye o)
 
@@ -141,7 +143,7 @@ module _ (m : Machine) (all ts : List Task) (g : Arrivals) (S : State) (ground :
   links_left q = ap (λ ls. get ls q) (links-bye m S o)
 
   in_order : AreOrderly Parted
-  in_order = AreOrderly-controlled m all ts g S ground h (event.Bye o) on
+  in_order = AreOrderly-controlled m S facts (event.Bye o) on
 
   taken : is_ahead S o.task ≡ false
   taken = taken_by_record (look_ups S o) r (h.orderly o) kept
@@ -272,8 +274,9 @@ module _ (m : Machine) (all ts : List Task) (g : Arrivals) (S : State) (ground :
       ])
       h.holders
 
-module _ (m : Machine) (all ts : List Task) (g : Arrivals) (S : State) (ground : HasGroundwork m all ts S)
-    (h : IsControlled ts g S) where
+module _ (m : Machine) (S : State) (facts : Facts m S) where
+  open facts use {ts, g, control as h}
+
   -- bye
   pub HasHolders-bye : (o : OpName) → IsEnabled m S (event.Bye o) → HasHolders ts g (after_event m S (event.Bye o))
   unfolding is_enabled
@@ -281,4 +284,4 @@ module _ (m : Machine) (all ts : List Task) (g : Arrivals) (S : State) (ground :
       let p = something is_some (get S.mail.byes o) refl on in
       let s = leaving_stands (look_ups S o) p.0 (h.orderly o) p.1 in
       let k = s.1.0.1 in
-      holders_parted m all ts g S ground h o p.0 k.kept p.1 k.there s.0 (s.1.0.0, k.told) on
+      holders_parted m S facts o p.0 k.kept p.1 k.there s.0 (s.1.0.0, k.told) on

@@ -18,9 +18,11 @@ use Rattle.tss_control.specs.Control.{HasGroundwork, IsControlled}
 use Rattle.tss_control.proofs.holders.Fits.{HasHolders-same}
 use Rattle.tss_control.proofs.holders.RunnerEvents.{HasRunners-after_event}
 use Rattle.tss_control.proofs.readers.Links.{links-ack, links-start, links-exec, links-idle, links-copy, links-gone}
+use Rattle.tss_control.proofs.rounds.Facts.{Facts}
 
-module _ (m : Machine) (all ts : List Task) (g : Arrivals) (S : State) (ground : HasGroundwork m all ts S)
-    (h : IsControlled ts g S) where
+module _ (m : Machine) (S : State) (facts : Facts m S) where
+  open facts use {all, ts, g, ground, control as h}
+
   -- the same look-ups, links and versions
   same_holders : (e : Event) → IsEnabled m S e → KeepsOrder S e
       → ((q : OpName) → look_ups (after_event m S e) q ≡ look_ups S q)

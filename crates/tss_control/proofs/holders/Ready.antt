@@ -50,6 +50,7 @@ use Rattle.tss_control.proofs.rounds.Spawned.{among_object}
 use Rattle.tss_locality.specs.Objects.{HasObject}
 use Rattle.tss_locality.specs.Rounds.{object_in}
 use Rattle.tss_locality.proofs.LeftFields.{Leaves-after_event}
+use Rattle.tss_control.proofs.rounds.Facts.{Facts}
 
 -- ---- who is told by a reader
 
@@ -188,8 +189,9 @@ ready_tells_true q P link.Nothing s f = tt
 ready_tells_true q P (link.Held next) s f = (λ same. f (ap link.Held (sym same)), tt)
 ready_tells_true q P link.Passed s f = tt
 
-module _ (m : Machine) (all ts : List Task) (g : Arrivals) (S : State) (ground : HasGroundwork m all ts S)
-    (h : IsControlled ts g S) where
+module _ (m : Machine) (S : State) (facts : Facts m S) where
+  open facts use {all, ts, g, ground, control as h}
+
   module _ (o : OpName) (on : IsEnabled m S (event.Ready o)) (order : ReadiesWaiting S o) (s : Source)
       (there : get S.mail.readies o ≡ Some s) where
     abbrev T : State
@@ -208,7 +210,7 @@ module _ (m : Machine) (all ts : List Task) (g : Arrivals) (S : State) (ground :
     ms = sent_by_ready r.link s
 
     after : AreOrderly T
-    after = AreOrderly-controlled m all ts g S ground h (event.Ready o) on
+    after = AreOrderly-controlled m S facts (event.Ready o) on
 
     versions : T.versions ≡ S.versions
     versions = λ i. (Leaves-after_event m S (event.Ready o) i).versions

@@ -48,27 +48,12 @@ use Rattle.tss_control.proofs.holders.Releases.{z_parts, not_linked, none_waits_
 use Rattle.tss_control.proofs.holders.RunnerEvents.{HasRunners-after_event}
 use Rattle.tss_control.proofs.holders.Releasing.{settles, versions, after, order, waits, news, same_link, looked, not_waiting, came, kept, own_looked, now_leaving, other_phase}
 use Rattle.tss_control.proofs.holders.ReleasedOpeners.{reads_input, openers}
+use Rattle.tss_control.proofs.rounds.Facts.{Facts}
+use Rattle.tss_control.proofs.holders.Release.{Release, released}
 
-module _ (m : Machine) (all ts : List Task) (g : Arrivals) (S : State) (ground : HasGroundwork m all ts S)
-    (h : IsControlled ts g S) (o : OpName) (on : IsEnabled m S (event.Release o)) (c : ReleaseContents)
-    (there : get S.mail.releases o ≡ Some c) (k : Releases ts g S o c) where
-  abbrev T : State
-  T = after_event m S (event.Release o)
-
-  abbrev v : OpName
-  v = c.version
-
-  abbrev x : Version
-  x = k.version
-
-  abbrev vs : Named Version
-  vs = versions_released S.versions o v x c.producer
-
-  abbrev d : Versioned
-  d = settled vs v
-
-  abbrev hs : List Message
-  hs = heads_told v x c.producer
+module _ (m : Machine) (S : State) (release : Release m S) where
+  open release use {all, ts, g, ground, control as h, o, on, c, there, k}
+  open released m S release use {T, v, x, vs, d, hs}
 
   abbrev stands : IsSilent (record (look_ups S o) { releasing = None }) × IsInformed (look_ups S o)
   stands = releasing_stands (look_ups S o) c (h.orderly o) there
@@ -86,7 +71,7 @@ module _ (m : Machine) (all ts : List Task) (g : Arrivals) (S : State) (ground :
   promise p e = by c.producer refl
     where
       links : LinksFit (writes p.mode) (look_ups S o) (get S.mail.links o) r
-      links = (holding_of ts g S h.holders o p e).links r (kept m all ts g S ground h o on c there k)
+      links = (holding_of ts g S h.holders o p e).links r (kept m S release)
 
       same : p ≡ k.operand
       same = same_Some p k.operand (sym e ∙ k.among)
@@ -96,23 +81,23 @@ module _ (m : Machine) (all ts : List Task) (g : Arrivals) (S : State) (ground :
       by false f =
           promise_reader ts (g v) S v x (h.readers.versions v x k.there) o
           (subst (λ w. IsOwnOrRead g o w v) (sym k.producer ∙ f) k.own) k.phase (writes p.mode) r
-          (kept m all ts g S ground h o on c there k) links
+          (kept m S release) links
 
   -- one that has a link to pass on reads, and its version stays
   own_stays : (next : OpName) → get S.mail.links o ≡ Some next → (p : Operand) → operand_among ts o ≡ Some p
       → (s : Source) → IsTrue g S o p s → IsTrue g T o p s
   own_stays next l p e s t =
       let reads = reads_by (writes p.mode) refl in
-      elim (stays_or_gone ts g S h o c k d (settles m all ts g S ground h o on c there k) s.version t.version t.there) [
+      elim (stays_or_gone m S release d (settles m S release) s.version t.version t.there) [
         | inl n ↦ record {
           version = n.0;
-          there = ap (λ vs. get vs s.version) (versions m all ts g S ground h o on c there k) ∙ n.1;
+          there = ap (λ vs. get vs s.version) (versions m S release) ∙ n.1;
           object = n.2 ∙ t.object;
           storage = n.3 s.storage t.storage;
           own = t.own;
         }
         | inr gone ↦
-            absurd (not_linked ts g S h o c k d.part gone.1 o next
+            absurd (not_linked m S release d.part gone.1 o next
             (subst (λ v. Has o (g v)) gone.0 (subst (λ w. IsOwnOrRead g o w s.version) reads t.own)) l)
       ]
     where
@@ -120,19 +105,19 @@ module _ (m : Machine) (all ts : List Task) (g : Arrivals) (S : State) (ground :
       reads_by false f = f
       reads_by true f =
           absurd (none-some next
-          (sym (((holding_of ts g S h.holders o p e).links r (kept m all ts g S ground h o on c there k)).writer f).1
+          (sym (((holding_of ts g S h.holders o p e).links r (kept m S release)).writer f).1
           ∙ l))
 
   own_holds : (p : Operand) → operand_among ts o ≡ Some p → HoldsIn g T o p
   own_holds p e =
       subst (λ n. Holding (IsTrue g T o p) (HasOpened T o) (HasCome g T o) (writes p.mode) (look_ups T o) n)
-      (sym ((same_link m all ts g S ground h o on c there k) o))
+      (sym ((same_link m S release) o))
       (subst (λ l. Holding (IsTrue g T o p) (HasOpened T o) (HasCome g T o) (writes p.mode) l (get S.mail.links o))
-      (sym (own_looked m all ts g S ground h o on c there k))
+      (sym (own_looked m S release))
       (holding_mapped (IsTrue g S o p) (IsTrue g T o p) (HasOpened S o) (HasOpened T o) (HasCome g S o) (HasCome g T o)
       (writes p.mode) own_look_ups (get S.mail.links o)
-      (subst IsOrderly (own_looked m all ts g S ground h o on c there k)
-      ((after m all ts g S ground h o on c there k) o))
+      (subst IsOrderly (own_looked m S release)
+      ((after m S release) o))
       (λ s needs. elim needs [
         | inl holds ↦ λ t. absurd (true≢false (sym holds ∙ ap holds_version phase_now))
         | inr l ↦ own_stays l.0 l.1 p e s
@@ -141,12 +126,12 @@ module _ (m : Machine) (all ts : List Task) (g : Arrivals) (S : State) (ground :
       (λ w f. absurd (leaving_waits (sym phase_now ∙ f)))
       (holding_released (IsTrue g S o p) (HasOpened S o) (HasCome g S o) (writes p.mode) (look_ups S o)
       (get S.mail.links o) (holding_of ts g S h.holders o p e) k.phase stands.0 r
-      (kept m all ts g S ground h o on c there k) (bye_promised o x c.producer)
+      (kept m S release) (bye_promised o x c.producer)
       (promise p e))))
     where
       phase_now : phase_at own_look_ups ≡ Leaving
-      phase_now = sym (ap phase_at (own_looked m all ts g S ground h o on c there k))
-          ∙ (now_leaving m all ts g S ground h o on c there k)
+      phase_now = sym (ap phase_at (own_looked m S release))
+          ∙ (now_leaving m S release)
 
       leaving_waits : Leaving ≡ Waiting → ⊥
       leaving_waits e = cc
@@ -159,35 +144,35 @@ module _ (m : Machine) (all ts : List Task) (g : Arrivals) (S : State) (ground :
 
     true_on : (s : Source) → Needs (phase_of S q) (get S.mail.links q) → IsTrue g S q p s → IsTrue g T q p s
     true_on s needs t =
-        elim (stays_or_gone ts g S h o c k d
-        (settles m all ts g S ground h o on c there k) s.version t.version t.there) [
+        elim (stays_or_gone m S release d
+        (settles m S release) s.version t.version t.there) [
           | inl n ↦ record {
             version = n.0;
-            there = ap (λ vs. get vs s.version) (versions m all ts g S ground h o on c there k) ∙ n.1;
+            there = ap (λ vs. get vs s.version) (versions m S release) ∙ n.1;
             object = n.2 ∙ t.object;
             storage = n.3 s.storage t.storage;
             own = t.own;
           }
-          | inr gone ↦ absurd (not_needed_by ts g S h o c k d.part gone.1 q apart p s among needs t gone.0)
+          | inr gone ↦ absurd (not_needed_by m S release d.part gone.1 q apart p s among needs t gone.0)
         ]
 
     come_on : phase_of S q ≡ Waiting → HasCome g S q → HasCome g T q
-    come_on w y = elim (stays_or_gone ts g S h o c k d (settles m all ts g S ground h o on c there k) y.0 y.1 y.2) [
-      | inl n ↦ (y.0, n.0, ap (λ vs. get vs y.0) (versions m all ts g S ground h o on c there k) ∙ n.1, y.3)
+    come_on w y = elim (stays_or_gone m S release d (settles m S release) y.0 y.1 y.2) [
+      | inl n ↦ (y.0, n.0, ap (λ vs. get vs y.0) (versions m S release) ∙ n.1, y.3)
       | inr gone ↦
-          absurd (none_waits_by ts g S h o c k d.part gone.1 q (subst (λ v. Has q (g v)) gone.0 y.3) w)
+          absurd (none_waits_by m S release d.part gone.1 q (subst (λ v. Has q (g v)) gone.0 y.3) w)
     ]
 
     opened_on : tells (hs ++ d.sent) q ≡ false → phase_of S q ≡ Waiting → HasOpened S q → HasOpened T q
     opened_on silent w y =
-        let far : q ≢ v = λ f. (not_waiting m all ts g S ground h o on c there k) (ap (phase_of S) (sym f) ∙ w) in
-        elim ((settles m all ts g S ground h o on c there k).others q far) [
+        let far : q ≢ v = λ f. (not_waiting m S release) (ap (phase_of S) (sym f) ∙ w) in
+        elim ((settles m S release).others q far) [
           | inl alike ↦
               let n = stays_alike vs d.part q alike y.0 (beside_inserted name_order S.versions v _ q far ∙ y.1) in
-              (n.0, ap (λ vs. get vs q) (versions m all ts g S ground h o on c there k) ∙ n.1, n.2.storage ∙ y.2)
+              (n.0, ap (λ vs. get vs q) (versions m S release) ∙ n.1, n.2.storage ∙ y.2)
           | inr t ↦
               let z_is = one_value vs v t.version _ t.there (at_inserted name_order S.versions v _) in
-              let stored = ap (λ (y : Version). y.storage) z_is ∙ (z_parts ts g S h o c k).1 ∙ k.stored in
+              let stored = ap (λ (y : Version). y.storage) z_is ∙ (z_parts m S release).1 ∙ k.stored in
               absurd (true≢false (sym (second_tells hs d.sent q (t.told k.storage stored)) ∙ silent))
         ]
 
@@ -197,15 +182,15 @@ module _ (m : Machine) (all ts : List Task) (g : Arrivals) (S : State) (ground :
       head_true t stored head =
           let has = has_oldest q (g v) (by x.produced refl) in
           let on_it = reader_operand ts g S h.chains h.readers h.holders v x k.there q has p among in
-          elim (stays_or_gone ts g S h o c k d (settles m all ts g S ground h o on c there k) v x k.there) [
+          elim (stays_or_gone m S release d (settles m S release) v x k.there) [
             | inl n ↦ record {
               version = n.0;
-              there = ap (λ vs. get vs v) (versions m all ts g S ground h o on c there k) ∙ n.1;
+              there = ap (λ vs. get vs v) (versions m S release) ∙ n.1;
               object = n.2 ∙ sym on_it.0;
               storage = n.3 t stored;
               own = subst (λ w. IsOwnOrRead g q w v) (sym (ap writes on_it.1)) has;
             }
-            | inr gone ↦ absurd (none_waits_by ts g S h o c k d.part gone.1 q has w)
+            | inr gone ↦ absurd (none_waits_by m S release d.part gone.1 q has w)
           ]
         where
           by : (b : Bool) → x.produced ≡ b → oldest_of (g v) ≡ Some q
@@ -233,15 +218,15 @@ module _ (m : Machine) (all ts : List Task) (g : Arrivals) (S : State) (ground :
           by false = tt
 
       far : q ≢ v
-      far f = (not_waiting m all ts g S ground h o on c there k) (ap (phase_of S) (sym f) ∙ w)
+      far f = (not_waiting m S release) (ap (phase_of S) (sym f) ∙ w)
 
       own_true : (u : Source) (z : Version) → u.version ≡ q → get d.part q ≡ Some z → z.storage ≡ Some u.storage → P u
       own_true u z is at stored =
-          let b = (came m all ts g S ground h o on c there k) q far z at in
+          let b = (came m S release) q far z at in
           let on_it = h.chains.opener q b.0 b.1 in
           record {
             version = z;
-            there = ap (λ vs. get vs u.version) (versions m all ts g S ground h o on c there k) ∙ ap (get d.part) is
+            there = ap (λ vs. get vs u.version) (versions m S release) ∙ ap (get d.part) is
                 ∙ at;
             object = b.2 ∙ sym on_it.2
                 ∙ ap (λ (p : Operand). p.object) (same_Some on_it.0 p (sym on_it.1 ∙ among));
@@ -258,14 +243,14 @@ module _ (m : Machine) (all ts : List Task) (g : Arrivals) (S : State) (ground :
       all_true : AllSent (TellsTrue q P) (hs ++ d.sent)
       all_true =
           AllSent-append (TellsTrue q P) hs d.sent heads_true
-          (tells_true d.part q P d.sent (settles m all ts g S ground h o on c there k).sent own_true)
+          (tells_true d.part q P d.sent (settles m S release).sent own_true)
 
     other_holds : HoldsIn g T q p
     other_holds =
         subst (λ n. Holding P (HasOpened T q) (HasCome g T q) (writes p.mode) (look_ups T q) n)
-        (sym ((same_link m all ts g S ground h o on c there k) q))
+        (sym ((same_link m S release) q))
         (subst (λ l. Holding P (HasOpened T q) (HasCome g T q) (writes p.mode) l (get S.mail.links q))
-        (sym ((looked m all ts g S ground h o on c there k) q apart))
+        (sym ((looked m S release) q apart))
         (by (tells (hs ++ d.sent) q) refl))
       where
         was : HoldsIn g S q p
@@ -276,13 +261,13 @@ module _ (m : Machine) (all ts : List Task) (g : Arrivals) (S : State) (ground :
             (get S.mail.links q)
         by false e =
             subst (λ l. Holding P (HasOpened T q) (HasCome g T q) (writes p.mode) l (get S.mail.links q))
-            (sym (untold (hs ++ d.sent) q (look_ups S q) (news m all ts g S ground h o on c there k) e))
+            (sym (untold (hs ++ d.sent) q (look_ups S q) (news m S release) e))
             (holding_mapped (IsTrue g S q p) P (HasOpened S q) (HasOpened T q) (HasCome g S q) (HasCome g T q)
             (writes p.mode) (look_ups S q) (get S.mail.links q) (h.orderly q) true_on (λ w f. opened_on e f)
             (λ w f. come_on f) was)
         by true e =
-            let w = (waits m all ts g S ground h o on c there k) q e in
-            let t = told (hs ++ d.sent) q (look_ups S q) (news m all ts g S ground h o on c there k) e in
+            let w = (waits m S release) q e in
+            let t = told (hs ++ d.sent) q (look_ups S q) (news m S release) e in
             let silent = (waiting_shows (look_ups S q) w).0.telling in
             subst (λ l. Holding P (HasOpened T q) (HasCome g T q) (writes p.mode) l (get S.mail.links q)) (sym t.1)
             (holding_told_by P (HasOpened T q) (HasCome g T q) (writes p.mode) (look_ups S q) (get S.mail.links q) w
@@ -298,14 +283,14 @@ module _ (m : Machine) (all ts : List Task) (g : Arrivals) (S : State) (ground :
   records : (q next : OpName) → get T.mail.links q ≡ Some next
       → (r : OperandState) × (operand_at T.flight q ≡ Some r) × (phase_of T q ≡ Left → ⊥)
   records q next e =
-      let a = h.holders.records q next (sym ((same_link m all ts g S ground h o on c there k) q) ∙ e) in (
+      let a = h.holders.records q next (sym ((same_link m S release) q) ∙ e) in (
         a.0,
         ap (λ f. operand_at f q) flight_same ∙ a.1,
         λ left. elim (decide_key name_order q o) [
           | inl same ↦ leaving_left
-              (sym (now_leaving m all ts g S ground h o on c there k) ∙ ap (phase_of T) (sym same) ∙ left)
+              (sym (now_leaving m S release) ∙ ap (phase_of T) (sym same) ∙ left)
           | inr apart ↦ not_left a.2 (tells (sent_by_release S.versions o v x c.producer) q)
-              (sym ((other_phase m all ts g S ground h o on c there k) q apart) ∙ left)
+              (sym ((other_phase m S release) q apart) ∙ left)
         ],
       )
     where
@@ -328,16 +313,21 @@ module _ (m : Machine) (all ts : List Task) (g : Arrivals) (S : State) (ground :
   -- who holds what, after it
   pub holders_released : HasHolders ts g T
   holders_released =
-      holders_by ts g T each_holds (openers m all ts g S ground h o on c there k) records
+      holders_by ts g T each_holds (openers m S release) records
       (HasRunners-after_event m all S ground.numbers ground.stages h.orderly h.holders.runners (event.Release o) on
-      (order m all ts g S ground h o on c there k))
+      (order m S release))
 
 -- release
-pub HasHolders-release : (m : Machine) (all ts : List Task) (g : Arrivals) (S : State) → HasGroundwork m all ts S
-    → IsControlled ts g S → (o : OpName) → IsEnabled m S (event.Release o)
-    → HasHolders ts g (after_event m S (event.Release o))
+pub HasHolders-release : (m : Machine) (S : State) (facts : Facts m S) → (o : OpName) → IsEnabled m S (event.Release o)
+    → HasHolders facts.ts facts.g (after_event m S (event.Release o))
 unfolding is_enabled
-HasHolders-release m all ts g S ground h o on =
+HasHolders-release m S facts o on =
     let c = something is_some (get S.mail.releases o) refl on in
-    holders_released m all ts g S ground h o on c.0 c.1
-    (releases_facts ts g S ground.round h.orderly h.holders o c.0 c.1)
+    holders_released m S (record {
+      facts = facts;
+      o = o;
+      on = on;
+      c = c.0;
+      there = c.1;
+      k = releases_facts facts.ts facts.g S facts.ground.round facts.control.orderly facts.control.holders o c.0 c.1;
+    })

@@ -34,6 +34,8 @@ use Rattle.tss_control.proofs.holders.Ready.{reader_operand, waiting_input}
 use Rattle.tss_control.proofs.holders.Settled.{from_alike}
 use Rattle.tss_control.proofs.holders.Releases.{z_parts}
 use Rattle.tss_control.proofs.holders.Releasing.{settles, versions, waits, not_waiting, came, now_leaving, other_phase, same_tells}
+use Rattle.tss_control.proofs.rounds.Facts.{Facts}
+use Rattle.tss_control.proofs.holders.Release.{Release, released}
 
 -- one that doesn't write is an input
 pub reads_input : (mode : Mode) → writes mode ≡ false → mode ≡ Input
@@ -41,26 +43,9 @@ reads_input Input e = refl
 reads_input Output e = absurd (true≢false e)
 reads_input Inout e = absurd (true≢false e)
 
-module _ (m : Machine) (all ts : List Task) (g : Arrivals) (S : State) (ground : HasGroundwork m all ts S)
-    (h : IsControlled ts g S) (o : OpName) (on : IsEnabled m S (event.Release o)) (c : ReleaseContents)
-    (there : get S.mail.releases o ≡ Some c) (k : Releases ts g S o c) where
-  abbrev T : State
-  T = after_event m S (event.Release o)
-
-  abbrev v : OpName
-  v = c.version
-
-  abbrev x : Version
-  x = k.version
-
-  abbrev vs : Named Version
-  vs = versions_released S.versions o v x c.producer
-
-  abbrev d : Versioned
-  d = settled vs v
-
-  abbrev hs : List Message
-  hs = heads_told v x c.producer
+module _ (m : Machine) (S : State) (release : Release m S) where
+  open release use {ts, g, control as h, o, c, there, k}
+  open released m S release use {T, v, x, vs, d, hs}
 
   -- ---- openers
 
@@ -106,22 +91,22 @@ module _ (m : Machine) (all ts : List Task) (g : Arrivals) (S : State) (ground :
 
   opener_own : (y : Version) (p : Operand) → get d.part v ≡ Some y → operand_among ts v ≡ Some p
       → version_opener y p.mode (phase_of T v) ≡ true
-  opener_own y p e among = elim (settles m all ts g S ground h o on c there k).itself [
+  opener_own y p e among = elim (settles m S release).itself [
     | inr gone ↦ absurd (none-some y (sym gone.gone ∙ e))
     | inl alike ↦
         let n = from_alike vs d.part v alike y e in
         let z_is = one_value vs v n.0 _ n.1 (at_inserted name_order S.versions v _) in
         elim (decide_key name_order v o) [
           | inl same ↦
-              ap (version_opener y p.mode) (ap (phase_of T) same ∙ (now_leaving m all ts g S ground h o on c there k))
+              ap (version_opener y p.mode) (ap (phase_of T) same ∙ (now_leaving m S release))
               ∙ ap (opener_by y p.mode Leaving)
               (n.2.produced ∙ ap (λ (y : Version). y.produced) z_is ∙ own_produced same)
               ∙ leaving_opens p.mode
           | inr apart ↦
               same_opener x y p.mode (phase_of T v) (record {
-                object = n.2.object ∙ ap (λ (y : Version). y.object) z_is ∙ (z_parts ts g S h o c k).0;
+                object = n.2.object ∙ ap (λ (y : Version). y.object) z_is ∙ (z_parts m S release).0;
                 produced = n.2.produced ∙ ap (λ (y : Version). y.produced) z_is ∙ reader_keeps apart c.producer refl;
-                storage = n.2.storage ∙ ap (λ (y : Version). y.storage) z_is ∙ (z_parts ts g S h o c k).1;
+                storage = n.2.storage ∙ ap (λ (y : Version). y.storage) z_is ∙ (z_parts m S release).1;
               })
               ∙ by apart (tells (hs ++ d.sent) v) refl
         ]
@@ -133,18 +118,18 @@ module _ (m : Machine) (all ts : List Task) (g : Arrivals) (S : State) (ground :
 
       by : v ≢ o → (b : Bool) → tells (hs ++ d.sent) v ≡ b → version_opener x p.mode (phase_of T v) ≡ true
       by apart true f = absurd
-          ((not_waiting m all ts g S ground h o on c there k) ((waits m all ts g S ground h o on c there k) v f))
+          ((not_waiting m S release) ((waits m S release) v f))
       by apart false f =
           ap (version_opener x p.mode)
-          ((other_phase m all ts g S ground h o on c there k) v apart
-          ∙ ap (λ b. phase_told b (phase_of S v)) ((same_tells m all ts g S ground h o on c there k) v ∙ f))
+          ((other_phase m S release) v apart
+          ∙ ap (λ b. phase_told b (phase_of S v)) ((same_tells m S release) v ∙ f))
           ∙ h.holders.openers v x p k.there among
 
   opener_other : (w : OpName) → w ≢ v → (y : Version) (p : Operand) → get d.part w ≡ Some y
       → operand_among ts w ≡ Some p
       → version_opener y p.mode (phase_of T w) ≡ true
   opener_other w far y p e among =
-      let b = (came m all ts g S ground h o on c there k) w far y e in
+      let b = (came m S release) w far y e in
       let apart : w ≢ o = λ f.
       no_own_version (λ g. far (f ∙ g)) b.0 (ap (get S.versions) (sym f) ∙ b.1) in
       by apart b.0 b.1 b.2 b.3 b.4 (tells (hs ++ d.sent) w) refl
@@ -155,8 +140,8 @@ module _ (m : Machine) (all ts : List Task) (g : Arrivals) (S : State) (ground :
 
       told_phase_now : w ≢ o → tells (hs ++ d.sent) w ≡ true → phase_of T w ≡ Told
       told_phase_now apart t =
-          (other_phase m all ts g S ground h o on c there k) w apart
-          ∙ ap (λ b. phase_told b (phase_of S w)) ((same_tells m all ts g S ground h o on c there k) w ∙ t)
+          (other_phase m S release) w apart
+          ∙ ap (λ b. phase_told b (phase_of S w)) ((same_tells m S release) w ∙ t)
 
       head_input : (b : Version) → get S.versions w ≡ Some b → phase_of S w ≡ Waiting → x.head ≡ Some w → ⊥
       head_input b at wt head =
@@ -178,13 +163,13 @@ module _ (m : Machine) (all ts : List Task) (g : Arrivals) (S : State) (ground :
       by apart b at object produced (inl storage) false t =
           same_opener b y p.mode (phase_of T w) (record { object = object; produced = produced; storage = storage })
           ∙ ap (version_opener b p.mode)
-          ((other_phase m all ts g S ground h o on c there k) w apart
-          ∙ ap (λ b. phase_told b (phase_of S w)) ((same_tells m all ts g S ground h o on c there k) w ∙ t))
+          ((other_phase m S release) w apart
+          ∙ ap (λ b. phase_told b (phase_of S w)) ((same_tells m S release) w ∙ t))
           ∙ h.holders.openers w b p at among
       by apart b at object produced (inr taken) false t =
           absurd (true≢false (sym (second_tells hs d.sent w taken.1) ∙ t))
       by apart b at object produced storage true t =
-          let wt = (waits m all ts g S ground h o on c there k) w t in
+          let wt = (waits m S release) w t in
           let n = waiting_opener b p.mode (ap (version_opener b p.mode) (sym wt) ∙ h.holders.openers w b p at among) in
           elim storage [
             | inr taken ↦
@@ -192,10 +177,10 @@ module _ (m : Machine) (all ts : List Task) (g : Arrivals) (S : State) (ground :
                 ∙ ap (opener_by y p.mode Told) (produced ∙ n.0)
                 ∙ ap (λ s. open_opener s Told) (taken.0 ∙ k.stored)
             | inl same ↦ elim (release_tells S.versions o v x c.producer w
-                ((same_tells m all ts g S ground h o on c there k) w ∙ t)) [
+                ((same_tells m S release) w ∙ t)) [
                   | inl head ↦ absurd (head_input b at wt head.1)
                   | inr settled_tells ↦
-                      let own = told_own d.part w d.sent (settles m all ts g S ground h o on c there k).sent
+                      let own = told_own d.part w d.sent (settles m S release).sent
                       (settle_tells_successor (suc (len vs)) vs v w settled_tells) in
                       let is = one_value d.part w y own.1 e own.2 in
                       absurd (storage_none b n.1 same own.0.storage (ap (λ (y : Version). y.storage) is ∙ own.3))
@@ -206,7 +191,7 @@ module _ (m : Machine) (all ts : List Task) (g : Arrivals) (S : State) (ground :
   pub openers : (w : OpName) (y : Version) (p : Operand) → get T.versions w ≡ Some y → operand_among ts w ≡ Some p
       → version_opener y p.mode (phase_of T w) ≡ true
   openers w y p e among =
-      let at = sym (ap (λ vs. get vs w) (versions m all ts g S ground h o on c there k)) ∙ e in
+      let at = sym (ap (λ vs. get vs w) (versions m S release)) ∙ e in
       elim (decide_key name_order w v) [
         | inl same ↦
             ap (λ w. version_opener y p.mode (phase_of T w)) same

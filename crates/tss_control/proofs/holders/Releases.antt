@@ -32,6 +32,8 @@ use Rattle.tss_control.proofs.holders.Needed.{writer_parted}
 use Rattle.tss_control.proofs.holders.Thinned.{StaysHeld}
 use Rattle.tss_control.proofs.holders.Promises.{others_released}
 use Rattle.tss_control.proofs.holders.Settled.{stays_alike, HasGone, HasTaken, SettlesHeld, settles_held}
+use Rattle.tss_base.specs.declared.machine.Machine.{Machine}
+use Rattle.tss_control.proofs.holders.Release.{Release, released}
 
 -- ---- phases
 
@@ -59,20 +61,13 @@ parted_released Leaving r = refl
 parted_released Promised r = refl
 parted_released Left r = refl
 
-module _ (ts : List Task) (g : Arrivals) (S : State) (h : IsControlled ts g S) (o : OpName) (c : ReleaseContents)
-    (k : Releases ts g S o c) where
-  abbrev pub v : OpName
-  v = c.version
-
-  abbrev pub x : Version
-  x = k.version
+module _ (m : Machine) (S : State) (release : Release m S) where
+  open release use {ts, g, control as h, o, c, k}
+  open released m S release use {v, x, vs}
 
   -- the version that is released
   abbrev pub z : Version
   z = version_released o x c.producer
-
-  abbrev pub vs : Named Version
-  vs = put_version S.versions v z
 
   same_parts : (b : Bool) (x : Version)
       → ((version_released o x b).object ≡ x.object)

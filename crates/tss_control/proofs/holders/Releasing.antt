@@ -32,31 +32,16 @@ use Rattle.tss_control.proofs.holders.Sent.{waiting_opener}
 use Rattle.tss_control.proofs.holders.Settled.{from_alike, SettlesHeld}
 use Rattle.tss_control.proofs.holders.Releases.{z_parts, release_settles}
 use Rattle.tss_control.proofs.holders.KeepsOrder.{AreOrderly-controlled, keeps_order}
+use Rattle.tss_control.proofs.rounds.Facts.{Facts}
+use Rattle.tss_control.proofs.holders.Release.{Release, released}
 
-module _ (m : Machine) (all ts : List Task) (g : Arrivals) (S : State) (ground : HasGroundwork m all ts S)
-    (h : IsControlled ts g S) (o : OpName) (on : IsEnabled m S (event.Release o)) (c : ReleaseContents)
-    (there : get S.mail.releases o ≡ Some c) (k : Releases ts g S o c) where
-  abbrev T : State
-  T = after_event m S (event.Release o)
-
-  abbrev v : OpName
-  v = c.version
-
-  abbrev x : Version
-  x = k.version
-
-  abbrev vs : Named Version
-  vs = versions_released S.versions o v x c.producer
-
-  abbrev d : Versioned
-  d = settled vs v
-
-  abbrev hs : List Message
-  hs = heads_told v x c.producer
+module _ (m : Machine) (S : State) (release : Release m S) where
+  open release use {facts, control as h, o, on, c, there, k}
+  open released m S release use {T, v, x, vs, d, hs}
 
   -- what its settle does
   pub settles : SettlesHeld vs v d
-  settles = release_settles ts g S h o c k
+  settles = release_settles m S release
 
   released_part : (b : Bool)
       → (released_by S.versions o v x b).part ≡ (settled (versions_released S.versions o v x b) v).part
@@ -73,11 +58,11 @@ module _ (m : Machine) (all ts : List Task) (g : Arrivals) (S : State) (ground :
 
   -- operands are in order after it
   pub after : AreOrderly T
-  after = AreOrderly-controlled m all ts g S ground h (event.Release o) on
+  after = AreOrderly-controlled m S facts (event.Release o) on
 
   -- it finds what it needs
   pub order : ReleasesRegistered S o
-  order = keeps_order m all ts g S ground h (event.Release o)
+  order = keeps_order m S facts (event.Release o)
 
   -- whom its messages tell waits
   pub told_waits : (q : OpName) → WaitsIfTold S (sent_by_release S.versions o v x c.producer) q
@@ -121,7 +106,7 @@ module _ (m : Machine) (all ts : List Task) (g : Arrivals) (S : State) (ground :
     | inr t ↦
         let is = one_value d.part w y t.after e t.stands in
         let z_is = one_value vs v t.version _ t.there (at_inserted name_order S.versions v _) in
-        let stored = ap (λ (y : Version). y.storage) z_is ∙ (z_parts ts g S h o c k).1 in (
+        let stored = ap (λ (y : Version). y.storage) z_is ∙ (z_parts m S release).1 in (
           t.before,
           sym (beside_inserted name_order S.versions v _ w apart) ∙ t.was,
           ap (λ (y : Version). y.object) is ∙ t.object,

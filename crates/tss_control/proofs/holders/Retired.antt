@@ -25,10 +25,13 @@ use Rattle.tss_control.proofs.readers.Retire.{retires_last, retires_released}
 use Rattle.tss_control.proofs.holders.Fits.{Holding, HasOpened, HasCome, holders_by}
 use Rattle.tss_control.proofs.holders.Thinned.{ThinsHeld, holding_still}
 use Rattle.tss_control.proofs.holders.RunnerEvents.{HasRunners-after_event}
+use Rattle.tss_control.proofs.rounds.Facts.{Facts}
 
-module _ (m : Machine) (all ts : List Task) (g : Arrivals) (S : State) (ground : HasGroundwork m all ts S)
-    (h : IsControlled ts g S) (v : OpName) (x : Version) (retires : get S.mail.retires v ≡ Some tt)
-    (there : get S.versions v ≡ Some x) (on : IsEnabled m S (event.Retire v)) where
+module _ (m : Machine) (S : State) (facts : Facts m S) (v : OpName) (x : Version)
+    (retires : get S.mail.retires v ≡ Some tt) (there : get S.versions v ≡ Some x)
+    (on : IsEnabled m S (event.Retire v)) where
+  open facts use {basis, all, ts, g, ground, control as h}
+
   abbrev Retired : State
   Retired = after_event m S (event.Retire v)
 
@@ -38,7 +41,7 @@ module _ (m : Machine) (all ts : List Task) (g : Arrivals) (S : State) (ground :
 
   produced : x.produced ≡ true
   produced =
-      let last = (retires_last m all ts S ground h.orderly h.chains h.entries v x retires there).last in
+      let last = (retires_last m S basis h.orderly h.chains h.entries v x retires there).last in
       (h.retirement.asked v x _ there last.asked).produced
 
   kept : (w : OpName) → w ≢ v → get Retired.versions w ≡ get S.versions w
@@ -52,7 +55,7 @@ module _ (m : Machine) (all ts : List Task) (g : Arrivals) (S : State) (ground :
         let is : x ≡ y = same_Some x y (sym there ∙ ap (get S.versions) (sym same) ∙ e) in
         inr (subst (λ (y : Version). (y.produced ≡ true) × (y.registered ≤ y.released)) is (
           produced,
-          retires_released m all ts S ground h.orderly h.chains h.entries v x retires there,
+          retires_released m S basis h.orderly h.chains h.entries v x retires there,
         ))
   ]
 
@@ -93,8 +96,9 @@ some_unit : (o : Option (Unit {0})) → is_some o ≡ true → o ≡ Some tt
 some_unit None e = absurd (true≢false (sym e))
 some_unit (Some tt) e = refl
 
-module _ (m : Machine) (all ts : List Task) (g : Arrivals) (S : State) (ground : HasGroundwork m all ts S)
-    (h : IsControlled ts g S) where
+module _ (m : Machine) (S : State) (facts : Facts m S) where
+  open facts use {ts, g}
+
   -- retire
   pub HasHolders-retire : (v : OpName) → IsEnabled m S (event.Retire v)
       → HasHolders ts g (after_event m S (event.Retire v))
@@ -102,4 +106,4 @@ module _ (m : Machine) (all ts : List Task) (g : Arrivals) (S : State) (ground :
   HasHolders-retire v on =
       let t = both (is_some (get S.mail.retires v)) (can_retire m S (get S.versions v)) on in
       let x = something (can_retire m S) (get S.versions v) refl t.1 in
-      holders_retired m all ts g S ground h v x.0 (some_unit (get S.mail.retires v) t.0) x.1 on
+      holders_retired m S facts v x.0 (some_unit (get S.mail.retires v) t.0) x.1 on

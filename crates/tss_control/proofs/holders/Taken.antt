@@ -40,6 +40,7 @@ use Rattle.tss_control.proofs.holders.Moves.{holding_fresh, links_none}
 use Rattle.tss_control.proofs.holders.Frames.{IsChangedHolder, holders_kept}
 use Rattle.tss_control.proofs.holders.RunnerEvents.{HasRunners-after_event}
 use Rattle.tss_control.proofs.holders.KeepsOrder.{keeps_order, AreOrderly-controlled}
+use Rattle.tss_control.proofs.rounds.Facts.{Facts}
 
 -- ---- operands on their way
 
@@ -139,8 +140,9 @@ no_opener_decoding y mode = no_opener_by y mode Decoding (by mode) (at y.storage
     at None = refl
     at (Some s) = refl
 
-module _ (m : Machine) (all ts : List Task) (g : Arrivals) (S : State) (ground : HasGroundwork m all ts S)
-    (h : IsControlled ts g S) where
+module _ (m : Machine) (S : State) (facts : Facts m S) where
+  open facts use {all, ts, g, ground, control as h}
+
   -- ---- decode
 
   module _ (o : OpName) (operand : Operand) (there : get S.mail.decodes o ≡ Some operand)
@@ -159,7 +161,7 @@ module _ (m : Machine) (all ts : List Task) (g : Arrivals) (S : State) (ground :
         record {
           holds = λ p at was.
               let links = was.links r.kept r.there in
-              holding_early (look_ups Decoded o) (AreOrderly-controlled m all ts g S ground h (event.Decode o) on o)
+              holding_early (look_ups Decoded o) (AreOrderly-controlled m S facts (event.Decode o) on o)
               (ap is_early sent) _ _ _ (writes p.mode) (get Decoded.mail.links o) r.kept
               (ap (λ ls. get ls o) (links-decode m S o) ∙ links.early (inl phase))
               (ap (λ f. operand_at f o) decoded_flight ∙ r.there) r.told
@@ -233,11 +235,11 @@ module _ (m : Machine) (all ts : List Task) (g : Arrivals) (S : State) (ground :
       holds = λ p at was.
           let here = its_operand q p at same in
           let phase = phase_of-take m S t inbox q p same here in
-          holding_early (look_ups Taken q) (AreOrderly-controlled m all ts g S ground h event.Take on q)
+          holding_early (look_ups Taken q) (AreOrderly-controlled m S facts event.Take on q)
           (ap is_early phase) _ _ _ (writes p.mode) (get Taken.mail.links q) (new_operand p)
           (none_by (get Taken.mail.links q) (no_link_before q same))
           (taken_flight q
-          ∙ new_record m S h.orderly t inbox (keeps_order m all ts g S ground h event.Take t inbox) q same
+          ∙ new_record m S h.orderly t inbox (keeps_order m S facts event.Take t inbox) q same
           ∙ ap (option_map new_operand) here)
           refl refl;
       opener = λ y p e at opens.
@@ -249,7 +251,7 @@ module _ (m : Machine) (all ts : List Task) (g : Arrivals) (S : State) (ground :
     holders_taken =
         holders_kept ts g S Taken (λ i. (Leaves-after_event m S event.Take i).versions) h.orderly
         (HasRunners-after_event m all S ground.numbers ground.stages h.orderly h.holders.runners event.Take on
-        (keeps_order m all ts g S ground h event.Take))
+        (keeps_order m S facts event.Take))
         (λ q. elim (decide_key nat_order q.task t.number) [
           | inl same ↦ inr (taken_own q same)
           | inr other ↦ inl (record {

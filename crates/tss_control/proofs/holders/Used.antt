@@ -41,6 +41,7 @@ use Rattle.tss_control.proofs.holders.Sent.{same_opener}
 use Rattle.tss_control.proofs.holders.Use.{UsedBy, used_facts, has_more, alike_used, true_used}
 use Rattle.tss_control.proofs.holders.KeepsOrder.{AreOrderly-controlled}
 use Rattle.tss_control.proofs.holders.RunnerEvents.{HasRunners-after_event}
+use Rattle.tss_control.proofs.rounds.Facts.{Facts}
 
 -- ---- the last reader
 
@@ -84,9 +85,10 @@ linked_has_record l Leaving f a = absurd (true≢false (sym a))
 linked_has_record l Promised f a = absurd (true≢false (sym a))
 linked_has_record l Left f a = absurd (true≢false (sym a))
 
-module _ (m : Machine) (all ts : List Task) (g : Arrivals) (S : State) (ground : HasGroundwork m all ts S)
-    (h : IsControlled ts g S) (o : OpName) (on : IsEnabled m S (event.Use o)) (v : OpName) (x : Version)
-    (there : get S.mail.uses o ≡ Some v) (at : get S.versions v ≡ Some x) where
+module _ (m : Machine) (S : State) (facts : Facts m S) (o : OpName) (on : IsEnabled m S (event.Use o))
+    (v : OpName) (x : Version) (there : get S.mail.uses o ≡ Some v) (at : get S.versions v ≡ Some x) where
+  open facts use {all, ts, g, ground, control as h}
+
   abbrev T : State
   T = after_event m S (event.Use o)
 
@@ -97,7 +99,7 @@ module _ (m : Machine) (all ts : List Task) (g : Arrivals) (S : State) (ground :
   u = used_facts m S o v x there at
 
   after : AreOrderly T
-  after = AreOrderly-controlled m all ts g S ground h (event.Use o) on
+  after = AreOrderly-controlled m S facts (event.Use o) on
 
   used : IsUseInOrder ts S o v
   used = h.chains.uses o v there
@@ -354,12 +356,11 @@ module _ (m : Machine) (all ts : List Task) (g : Arrivals) (S : State) (ground :
       (HasRunners-after_event m all S ground.numbers ground.stages h.orderly h.holders.runners (event.Use o) on tt)
 
 -- use
-pub HasHolders-use : (m : Machine) (all ts : List Task) (g : Arrivals) (S : State) → HasGroundwork m all ts S
-    → IsControlled ts g S → (o : OpName) → IsEnabled m S (event.Use o)
-    → HasHolders ts (arrivals_after_event S g (event.Use o)) (after_event m S (event.Use o))
+pub HasHolders-use : (m : Machine) (S : State) (facts : Facts m S) → (o : OpName) → IsEnabled m S (event.Use o)
+    → HasHolders facts.ts (arrivals_after_event S facts.g (event.Use o)) (after_event m S (event.Use o))
 unfolding is_enabled
-HasHolders-use m all ts g S ground h o on =
+HasHolders-use m S facts o on =
     let v = something (can_use_message S) (get S.mail.uses o) refl on in
     let x = something is_some (get S.versions v.0) refl (ap (can_use_message S) (sym v.1) ∙ on) in
-    subst (λ u. HasHolders ts (arrivals_used g o u) (after_event m S (event.Use o))) (sym v.1)
-    (holders_used m all ts g S ground h o on v.0 x.0 v.1 x.1)
+    subst (λ u. HasHolders facts.ts (arrivals_used facts.g o u) (after_event m S (event.Use o))) (sym v.1)
+    (holders_used m S facts o on v.0 x.0 v.1 x.1)

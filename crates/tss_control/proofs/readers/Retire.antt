@@ -28,6 +28,7 @@ use Rattle.tss_control.proofs.rounds.ReadersKept.{alike_same, same_version}
 use Rattle.tss_control.proofs.rounds.ReadersStates.{StaysOrGone, readers_kept, readers_fewer}
 use Rattle.tss_control.proofs.readers.Links.{links-retire}
 use Rattle.tss_control.proofs.readers.Settled.{some_unit}
+use Rattle.tss_control.proofs.rounds.Facts.{Basis, Facts}
 
 -- ---- the entry of a version that may retire
 
@@ -40,9 +41,11 @@ pub record IsRetired (S : State) (v : OpName) (x : Version) : Type 0 where
   pub latest : v ≡ entry.latest
   pub last : IsLastVersion S entry.object entry x
 
-module _ (m : Machine) (all ts : List Task) (S : State) (ground : HasGroundwork m all ts S) (orderly : AreOrderly S)
-    (chains : HasChains ts S) (h : HasEntries ts S) (v : OpName) (x : Version)
-    (retires : get S.mail.retires v ≡ Some tt) (there : get S.versions v ≡ Some x) where
+module _ (m : Machine) (S : State) (basis : Basis m S) (orderly : AreOrderly S) (chains : HasChains basis.ts S)
+    (h : HasEntries basis.ts S) (v : OpName) (x : Version) (retires : get S.mail.retires v ≡ Some tt)
+    (there : get S.versions v ≡ Some x) where
+  open basis use {ts}
+
   retired_of : (e : Entry) → get S.entries x.object.base ≡ Some e → e.object ≡ x.object → (b : Bool)
       → e.retiring ≡ b → IsRetired S v x
   retired_of e at object false live =
@@ -66,7 +69,7 @@ module _ (m : Machine) (all ts : List Task) (S : State) (ground : HasGroundwork 
   retired_by (Some e) at =
       let p = chains.opener v x there in
       let q = h.operand x.object.base e at in
-      let same = one_object m all ts S ground orderly e.latest v q.1.0 p.0 q.1.1 p.1
+      let same = one_object m S basis orderly e.latest v q.1.0 p.0 q.1.1 p.1
       (ap (λ (x : Range). x.base) q.1.2 ∙ q.0 ∙ ap (λ (x : Range). x.base) (sym p.2)) in
       retired_of e at (sym q.1.2 ∙ same ∙ p.2) e.retiring refl
 
@@ -127,11 +130,12 @@ module _ (m : Machine) (all ts : List Task) (S : State) (ground : HasGroundwork 
         stays_or_gone before_drop)
 
 -- retire
-pub HasReaders-retire : (m : Machine) (all ts : List Task) (g : Arrivals) (S : State) → HasGroundwork m all ts S
-    → AreOrderly S → HasChains ts S → HasEntries ts S → HasReaders ts g S → (v : OpName)
-    → IsEnabled m S (event.Retire v) → HasReaders ts g (after_event m S (event.Retire v))
+pub HasReaders-retire : (m : Machine) (S : State) (facts : Facts m S) (v : OpName) → IsEnabled m S (event.Retire v)
+    → HasReaders facts.ts facts.g (after_event m S (event.Retire v))
 unfolding is_enabled
-HasReaders-retire m all ts g S ground orderly chains entries readers v enabled =
+HasReaders-retire m S facts v enabled =
+    let h = facts.control in
     let t = both (is_some (get S.mail.retires v)) (can_retire m S (get S.versions v)) enabled in
     let x = something (can_retire m S) (get S.versions v) refl t.1 in
-    readers_retired m all ts S ground orderly chains entries v x.0 (some_unit (get S.mail.retires v) t.0) x.1 g readers
+    readers_retired m S facts.basis h.orderly h.chains h.entries v x.0 (some_unit (get S.mail.retires v) t.0) x.1
+    facts.g h.readers

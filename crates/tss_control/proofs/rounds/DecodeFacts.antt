@@ -19,8 +19,11 @@ use Rattle.tss_control.specs.Entries.{HasEntries}
 use Rattle.tss_control.specs.Control.{HasGroundwork}
 use Rattle.tss_names.proofs.NumberLemmas.{number_within}
 use Rattle.tss_control.proofs.rounds.EntriesNames.{name_decoded, decode_among, none_later, member_operand, no_version, no_open}
+use Rattle.tss_control.proofs.rounds.Facts.{Basis}
 
-module _ (m : Machine) (all ts : List Task) (S : State) (ground : HasGroundwork m all ts S) where
+module _ (m : Machine) (S : State) (basis : Basis m S) where
+  open basis use {all, ts, ground}
+
   module _ (orderly : AreOrderly S) (o : OpName) (p : Operand) (there : get S.mail.decodes o ≡ Some p) where
     -- at its turn, an operand of an earlier task of the round on an object of its bank has been decoded
     pub earlier_decoded : HasTurn m.sizes S.mail.decodes o p
@@ -34,7 +37,7 @@ module _ (m : Machine) (all ts : List Task) (S : State) (ground : HasGroundwork 
         ((low, omega (arith, older, taken)), (r, of), none)
       where
         own : (d : Operand) → get S.mail.decodes w ≡ Some d → d ≡ r
-        own d e = same_Some d r (sym (decode_among m all ts S ground orderly w d e) ∙ among)
+        own d e = same_Some d r (sym (decode_among m S basis orderly w d e) ∙ among)
 
         none : get S.mail.decodes w ≡ None
         none = elim (decide_get S.mail.decodes w) [
@@ -47,9 +50,9 @@ module _ (m : Machine) (all ts : List Task) (S : State) (ground : HasGroundwork 
     -- a member of the object is of an earlier task
     pub members_earlier : HasChains ts S → (q : OpName) → IsMember S p.object q → q.task < o.task
     members_earlier chains q member =
-        let k = member_operand m all ts S ground orderly chains p.object q member in
-        let among = decode_among m all ts S ground orderly o p there in
-        let low = none_later m all ts S ground orderly o q p k.0.0 there k.0.1 k.0.2 k.1 in
+        let k = member_operand m S basis orderly chains p.object q member in
+        let among = decode_among m S basis orderly o p there in
+        let low = none_later m S basis orderly o q p k.0.0 there k.0.1 k.0.2 k.1 in
         below q.task o.task low
         (λ same. itself (subst (IsMember S p.object) (ground.known.single q o k.0.0 p k.0.1 among k.0.2 same) member))
       where
@@ -57,8 +60,8 @@ module _ (m : Machine) (all ts : List Task) (S : State) (ground : HasGroundwork 
         below a b h k = omega (arith, h, k)
 
         itself : IsMember S p.object o → ⊥
-        itself (inl y) = none-some y.0 (sym (no_version m all ts S ground orderly o p there) ∙ y.1)
-        itself (inr c) = none-some c.0 (sym (no_open m all ts S ground orderly o p there) ∙ c.1)
+        itself (inl y) = none-some y.0 (sym (no_version m S basis orderly o p there) ∙ y.1)
+        itself (inr c) = none-some c.0 (sym (no_open m S basis orderly o p there) ∙ c.1)
 
     -- none of a task between the latest version and it writes the object
     pub no_writer_since : HasTurn m.sizes S.mail.decodes o p

@@ -29,6 +29,7 @@ use Rattle.tss_control.proofs.rounds.EntriesLeaving.{SameLeaving}
 use Rattle.tss_control.proofs.rounds.EntriesNames.{object_of_entry}
 use Rattle.tss_control.proofs.rounds.EntriesDecodeOpen.{DecodesOpen, entries_opened}
 use Rattle.tss_control.proofs.rounds.EntriesDecodeUse.{DecodesUse, entries_used}
+use Rattle.tss_control.proofs.rounds.Facts.{Basis}
 
 module _ (m : Machine) (S : State) (o : OpName) (p : Operand) (there : get S.mail.decodes o ≡ Some p) where
   -- the messages after a decode, but for the ack
@@ -164,26 +165,28 @@ module _ (m : Machine) (S : State) (o : OpName) (p : Operand) (there : get S.mai
 
 -- ---- entries
 
-module _ (m : Machine) (all ts : List Task) (S : State) (ground : HasGroundwork m all ts S) (orderly : AreOrderly S)
-    (chains : HasChains ts S) (h : HasEntries ts S) (o : OpName) (on : IsEnabled m S (event.Decode o)) where
+module _ (m : Machine) (S : State) (basis : Basis m S) (orderly : AreOrderly S) (chains : HasChains basis.ts S)
+    (h : HasEntries basis.ts S) (o : OpName) (on : IsEnabled m S (event.Decode o)) where
+  open basis use {ts}
+
   module _ (p : Operand) (there : get S.mail.decodes o ≡ Some p) where
     opened : (c : OpenContents) (n : Entry) → DecodesOpen S (after_event m S (event.Decode o)) o p c n
         → HasEntries ts (after_event m S (event.Decode o))
     opened c n d =
-        entries_opened m all ts S ground orderly chains h o p there (after_event m S (event.Decode o)) c n d
+        entries_opened m S basis orderly chains h o p there (after_event m S (event.Decode o)) c n d
         (entry_awake m S o p there on)
 
     decoded_live : (e : Entry) → get S.entries p.object.base ≡ Some e → (mode : Mode) → p.mode ≡ mode
         → HasEntries ts (after_event m S (event.Decode o))
     decoded_live e at Input is =
-        entries_used m all ts S ground orderly h o p there (after_event m S (event.Decode o)) e
-        (sends_use m S o p there e at (object_of_entry m all ts S ground orderly h o p there e at)
+        entries_used m S basis orderly h o p there (after_event m S (event.Decode o)) e
+        (sends_use m S o p there e at (object_of_entry m S basis orderly h o p there e at)
         (entry_awake m S o p there on e at) is)
     decoded_live e at Output is =
-        opened _ _ (sends_beside m S o p there e at (object_of_entry m all ts S ground orderly h o p there e at)
+        opened _ _ (sends_beside m S o p there e at (object_of_entry m S basis orderly h o p there e at)
         (entry_awake m S o p there on e at) is)
     decoded_live e at Inout is =
-        opened _ _ (sends_over m S o p there e at (object_of_entry m all ts S ground orderly h o p there e at)
+        opened _ _ (sends_over m S o p there e at (object_of_entry m S basis orderly h o p there e at)
         (entry_awake m S o p there on e at) is)
 
     decoded_entries : (x : Option Entry) → get S.entries p.object.base ≡ x

@@ -23,6 +23,7 @@ use Rattle.tss_control.specs.Chains.{HasChains}
 use Rattle.tss_control.specs.Control.{HasGroundwork}
 use Rattle.tss_control.proofs.rounds.EntriesLeaving.{SameLeaving, leaving_turned, version_back, going_back, leaving_back, last_version_still}
 use Rattle.tss_control.proofs.rounds.EntriesNames.{object_of_entry, decode_among, none_later, member_operand, no_version, no_open, no_use_of, no_latest}
+use Rattle.tss_control.proofs.rounds.Facts.{Basis}
 
 -- what a decode that sends an open leaves
 pub record DecodesOpen (S T : State) (o : OpName) (p : Operand) (c : OpenContents) (n : Entry) : Type 0 where
@@ -37,11 +38,13 @@ pub record DecodesOpen (S T : State) (o : OpName) (p : Operand) (c : OpenContent
   pub live : n.retiring ≡ false
   pub decoded : (q : OpName) → q ≢ o → is_decoded (phase_of T q) ≡ true → is_decoded (phase_of S q) ≡ true
 
-module _ (m : Machine) (all ts : List Task) (S : State) (ground : HasGroundwork m all ts S) (orderly : AreOrderly S)
-    (chains : HasChains ts S) (h : HasEntries ts S) (o : OpName) (p : Operand) (there : get S.mail.decodes o ≡ Some p)
-    (T : State) (c : OpenContents) (n : Entry) (d : DecodesOpen S T o p c n) where
+module _ (m : Machine) (S : State) (basis : Basis m S) (orderly : AreOrderly S) (chains : HasChains basis.ts S)
+    (h : HasEntries basis.ts S) (o : OpName) (p : Operand) (there : get S.mail.decodes o ≡ Some p) (T : State)
+    (c : OpenContents) (n : Entry) (d : DecodesOpen S T o p c n) where
+  open basis use {all, ts}
+
   among : operand_among ts o ≡ Some p
-  among = decode_among m all ts S ground orderly o p there
+  among = decode_among m S basis orderly o p there
 
   c_object : c.operand.object ≡ p.object
   c_object = ap (λ (p : Operand). p.object) d.operand
@@ -65,7 +68,7 @@ module _ (m : Machine) (all ts : List Task) (S : State) (ground : HasGroundwork 
   open_still : (x : Range) (v : OpName) → IsOpenOf S x v → IsOpenOf T x v
   open_still x v e =
       let apart : v ≢ o = λ same.
-      none-some e.0 (sym (no_open m all ts S ground orderly o p there) ∙ ap (get S.mail.opens) (sym same) ∙ e.1) in
+      none-some e.0 (sym (no_open m S basis orderly o p there) ∙ ap (get S.mail.opens) (sym same) ∙ e.1) in
       (e.0, open_beside v apart ∙ e.1, e.2)
 
   member_back : (x : Range) (v : OpName) → p.object ≢ x → IsMember T x v → IsMember S x v
@@ -125,17 +128,17 @@ module _ (m : Machine) (all ts : List Task) (S : State) (ground : HasGroundwork 
     stays_by None none v l = (h.absent o p among none).stays v l
     stays_by (Some e) at v l =
         (h.live p.object.base e at (awake e at)).stays v
-        (subst (λ x. IsLeaving S x v) (sym (object_of_entry m all ts S ground orderly h o p there e at)) l)
+        (subst (λ x. IsLeaving S x v) (sym (object_of_entry m S basis orderly h o p there e at)) l)
 
     stays_before : (v : OpName) → IsLeaving S p.object v → ⊥
     stays_before = stays_by (get S.entries p.object.base) refl
 
   total_new : total T o ≡ n.sent
   total_new =
-      let version = no_version m all ts S ground orderly o p there in
+      let version = no_version m S basis orderly o p there in
       let none : uses_of S.mail.uses o ≡ 0 =
       count_none name_order (λ q w. same_name w o) S.mail.uses
-      (λ q v at. other_name v o (no_use_of m all ts S ground orderly o p there q v at)) in
+      (λ q v at. other_name v o (no_use_of m S basis orderly o p there q v at)) in
       (λ i. registered_of (get (d.leaving.versions i) o) + opening_reader (get (d.opens i) o) + uses_of (d.uses i) o)
       ∙ (λ i. registered_of (version i)
       + opening_reader (at_inserted name_order S.mail.opens o c i) + none i)
@@ -157,8 +160,8 @@ module _ (m : Machine) (all ts : List Task) (S : State) (ground : HasGroundwork 
 
       old_latest : (v : OpName) → v ≢ o → IsMember T p.object v → v.task ≤ o.task
       old_latest v other k =
-          let q = member_operand m all ts S ground orderly chains p.object v (old_member v other k) in
-          none_later m all ts S ground orderly o v p q.0.0 there q.0.1 q.0.2 q.1
+          let q = member_operand m S basis orderly chains p.object v (old_member v other k) in
+          none_later m S basis orderly o v p q.0.0 there q.0.1 q.0.2 q.1
 
   live_new : ((e : Entry) → get S.entries p.object.base ≡ Some e → e.retiring ≡ false) → IsLive T n.object n
   live_new awake = record {
@@ -178,7 +181,7 @@ module _ (m : Machine) (all ts : List Task) (S : State) (ground : HasGroundwork 
   decoded_new q w k = elim (decide_key name_order q o) [
     | inl same ↦ subst (λ v. v.task ≤ o.task) (sym same) (omega arith)
     | inr other ↦
-        none_later m all ts S ground orderly o q p w.operand there w.there w.object (d.decoded q other k)
+        none_later m S basis orderly o q p w.operand there w.there w.object (d.decoded q other k)
   ]
 
   decoded_other : (b : ℕ) (e : Entry) (q : OpName) → get S.entries b ≡ Some e → p.object ≢ e.object
@@ -217,7 +220,7 @@ module _ (m : Machine) (all ts : List Task) (S : State) (ground : HasGroundwork 
     live = λ b e at awakes. elim (from_entries b e at) [
       | inl new ↦ subst (λ (e : Entry). IsLive T e.object e) (sym new.1) (live_new awake)
       | inr old ↦
-          live_other e (other_object b e old.1 old.0) (no_latest m all ts S ground orderly o p there b e old.1)
+          live_other e (other_object b e old.1 old.0) (no_latest m S basis orderly o p there b e old.1)
           (h.live b e old.1 awakes)
     ];
     retiring = λ b e at on. elim (from_entries b e at) [

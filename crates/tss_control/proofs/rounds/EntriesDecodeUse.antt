@@ -24,6 +24,7 @@ use Rattle.tss_control.specs.Entries.{IsUsed, IsAbsent, IsLive, IsRetiring, HasE
 use Rattle.tss_control.specs.Control.{HasGroundwork}
 use Rattle.tss_control.proofs.rounds.EntriesLeaving.{SameLeaving, leaving_turned, version_back, going_back, leaving_back, last_version_still}
 use Rattle.tss_control.proofs.rounds.EntriesNames.{decode_among, no_use}
+use Rattle.tss_control.proofs.rounds.Facts.{Basis}
 
 -- what a decode that sends a use leaves, by the entry
 pub record DecodesUse (S T : State) (o : OpName) (p : Operand) (n : Entry) : Type 0 where
@@ -36,11 +37,13 @@ pub record DecodesUse (S T : State) (o : OpName) (p : Operand) (n : Entry) : Typ
   pub mode : p.mode ≡ Input
   pub decoded : (q : OpName) → q ≢ o → is_decoded (phase_of T q) ≡ true → is_decoded (phase_of S q) ≡ true
 
-module _ (m : Machine) (all ts : List Task) (S : State) (ground : HasGroundwork m all ts S) (orderly : AreOrderly S)
-    (h : HasEntries ts S) (o : OpName) (p : Operand) (there : get S.mail.decodes o ≡ Some p) (T : State) (n : Entry)
+module _ (m : Machine) (S : State) (basis : Basis m S) (orderly : AreOrderly S) (h : HasEntries basis.ts S)
+    (o : OpName) (p : Operand) (there : get S.mail.decodes o ≡ Some p) (T : State) (n : Entry)
     (d : DecodesUse S T o p n) where
+  open basis use {all, ts}
+
   among : operand_among ts o ≡ Some p
-  among = decode_among m all ts S ground orderly o p there
+  among = decode_among m S basis orderly o p there
 
   -- what leaves, the other way round
   back : SameLeaving T S
@@ -72,7 +75,7 @@ module _ (m : Machine) (all ts : List Task) (S : State) (ground : HasGroundwork 
   uses_after v =
       ap (λ m. uses_of m v) d.uses
       ∙ sum_added name_order (λ q w. one_if (same_name w v)) S.mail.uses o n.latest
-      (no_use m all ts S ground orderly o p there)
+      (no_use m S basis orderly o p there)
 
   total_latest : total T n.latest ≡ suc (total S n.latest)
   total_latest =

@@ -27,6 +27,7 @@ use Rattle.tss_control.specs.Control.{HasGroundwork}
 use Rattle.tss_control.specs.Chains.{HasChains}
 use Rattle.tss_control.specs.Entries.{HasEntries}
 use Rattle.tss_control.proofs.rounds.EntriesQuiet.{decoded_shows, decoded_from}
+use Rattle.tss_control.proofs.rounds.Facts.{Basis}
 
 -- ---- operands and objects
 
@@ -113,8 +114,9 @@ decoded_apart S orderly q p d (inr sent) =
 below_or_not : (a b : ℕ) → (a < b) ⊎ (b ≤ a)
 below_or_not a b = grind (arith, nat_tests)
 
-module _ (m : Machine) (all ts : List Task) (S : State) (ground : HasGroundwork m all ts S)
-    (orderly : AreOrderly S) where
+module _ (m : Machine) (S : State) (basis : Basis m S) (orderly : AreOrderly S) where
+  open basis use {all, ts, ground}
+
   -- objects of the round with one base are one
   pub one_object : (o q : OpName) (p r : Operand) → operand_among ts o ≡ Some p → operand_among ts q ≡ Some r
       → p.object.base ≡ r.object.base → p.object ≡ r.object

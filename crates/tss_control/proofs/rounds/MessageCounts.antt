@@ -32,6 +32,7 @@ use Rattle.tss_control.specs.Readers.{Arrivals}
 use Rattle.tss_control.specs.Control.{HasGroundwork, IsControlled}
 use Rattle.tss_names.proofs.MessageLemmas.{more_times}
 use Rattle.tss_names.proofs.NameCounts.{NameTest, IsMeasure, IsMeasure-map, IsMeasure-both, those_in, those_at, those_all, in_tasks, few_in_tasks}
+use Rattle.tss_control.proofs.rounds.Facts.{Facts}
 
 -- ---- numbers
 
@@ -60,8 +61,10 @@ few_listed {X} (n ∷ ns) tasks once each =
         let y = each k (or_right (n == k) (list_any (λ j. j == k) ns) e) in
         (y.0, beside_removed nat_order tasks n k (apart k e) ∙ y.1)
 
-module _ (m : Machine) (i : ImageState) (es : List Event) (all ts : List Task) (g : Arrivals) (S : State)
-    (ground : HasGroundwork m all ts S) (h : IsControlled ts g S) (bounds : BoundsMessages m i es S) where
+module _ (m : Machine) (i : ImageState) (es : List Event) (S : State) (facts : Facts m S)
+    (bounds : BoundsMessages m i es S) where
+  open facts use {all, ground, control as h}
+
   -- ---- the operands of tasks in flight
 
   in_flight : (o : OpName) (r : OperandState) → operand_at S.flight o ≡ Some r

@@ -26,6 +26,7 @@ use Rattle.tss_control.specs.Control.{HasGroundwork}
 use Rattle.tss_program_order.proofs.FlatNames.{same_range-equal, same_range-refl}
 use Rattle.tss_control.proofs.rounds.Rounds.{OperandFound, found_among}
 use Rattle.tss_names.proofs.ListLemmas.{any_at, from_any, all_given, in_filtered, from_filtered, AreRising, AreRising-filter, NoneWritesAfter, last_writer, last_reader}
+use Rattle.tss_control.proofs.rounds.Facts.{Basis}
 
 -- no two tasks of a list have one number
 abbrev AreNumbered : List Task → Type 0
@@ -65,7 +66,9 @@ among_tasks (u ∷ ts) one (suc k) t there j p at =
 writes_not_input : (p : Mode) → writes p ≡ true → p ≡ Input → ⊥
 writes_not_input p w same = true≢false (sym w ∙ ap writes same)
 
-module _ (m : Machine) (all ts : List Task) (S : State) (ground : HasGroundwork m all ts S) where
+module _ (m : Machine) (S : State) (basis : Basis m S) where
+  open basis use {all, ts, ground}
+
   -- ---- tasks that write or read an object
 
   -- one that writes it has an operand that does

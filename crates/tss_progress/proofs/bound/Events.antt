@@ -16,9 +16,12 @@ use Rattle.tss_progress.proofs.bound.Tables.{lowered_decode, lowered_ack, lowere
 use Rattle.tss_progress.proofs.bound.Stations.{lowered_take, lowered_ready, lowered_link, lowered_start, lowered_finish, lowered_bye}
 use Rattle.tss_control.proofs.rounds.FitObjects.{HaveFitObjects}
 use Rattle.tss_progress.proofs.bound.Copies.{lowered_retire, lowered_copy}
+use Rattle.tss_control.proofs.rounds.Facts.{Facts}
 
-module _ (m : Machine) (admissible : IsAdmissible m) (all ts : List Task) (g : Arrivals) (S : State)
-    (ground : HasGroundwork m all ts S) (h : IsControlled ts g S) (fit : HaveFitObjects m.limits all) where
+module _ (m : Machine) (admissible : IsAdmissible m) (S : State) (facts : Facts m S)
+    (fit : HaveFitObjects m.limits facts.all) where
+  open facts use {all, ts, g, ground, control as h}
+
   -- by the event
   pub lowered_event : (e : Event) → IsEnabled m S e → IsLowered m S (after_event m S e)
   lowered_event event.Main on = lowered_main m S admissible on

@@ -29,6 +29,7 @@ use Rattle.tss_control.proofs.GroundworkControl.{keeps_groups}
 use Rattle.tss_progress.proofs.bound.Measure.{each_left, mail_left, flying_left, busy_left, version_left, copy_left, measure}
 use Rattle.tss_control.proofs.rounds.FitObjects.{HaveFitObjects, no_objects, HaveFitObjects-after_event}
 use Rattle.tss_progress.proofs.bound.Events.{lowered_event}
+use Rattle.tss_control.proofs.rounds.Facts.{facts_of}
 
 -- ---- at first
 
@@ -75,12 +76,11 @@ module _ (kept : (e : Event) → AreGroupsKept e) (m : Machine) (admissible : Is
       → IsMeasured m (spawned_after_event m S all e) (round_after_event m S ts e) (arrivals_after_event S g e)
       (after_event m S e)
   IsMeasured-after_event all ts g S e h on =
-      let ground = has_groundwork m all ts S h.ground in
+      let facts = facts_of m all ts g S (has_groundwork m all ts S h.ground) h.control in
       record {
         ground = IsGrounded-after_event m all ts S e h.ground on;
         control =
-            IsControlled-event e (kept e) m all ts g S ground h.control on
-            ((kept e).order m all ts g S ground h.control on);
+            IsControlled-event e (kept e) m S facts on ((kept e).order m S facts on);
         fit = HaveFitObjects-after_event m all S h.fit e;
       }
 
@@ -101,7 +101,8 @@ module _ (kept : (e : Event) → AreGroupsKept e) (m : Machine) (admissible : Is
           → length (e ∷ es) + measure m T ≤ measure m S
       by true on rest go =
           let more = go (IsMeasured-after_event all ts g S e h on) rest in
-          let less = lowered_event m admissible all ts g S (has_groundwork m all ts S h.ground) h.control h.fit e on in
+          let facts = facts_of m all ts g S (has_groundwork m all ts S h.ground) h.control in
+          let less = lowered_event m admissible S facts h.fit e on in
           omega (arith, more, less)
       by false off rest go = absurd (none-some T rest)
 

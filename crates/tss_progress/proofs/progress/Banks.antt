@@ -29,6 +29,7 @@ use Rattle.tss_progress.proofs.progress.Stuck.{IsQuiet, calm_of}
 use Rattle.tss_progress.proofs.progress.Versions.{none_alone, nothing_retires, latest_version}
 use Rattle.tss_progress.proofs.progress.Phases.{HasLetGo}
 use Rattle.tss_progress.proofs.progress.Oldest.{produced_when_left, past, none_followed, none_follows, own_record, decodes_or_ready, ready_told}
+use Rattle.tss_control.proofs.rounds.Facts.{Facts}
 
 -- some of a list passes a test, or none does
 pub passes_or_none : {X : Type 0} (t : X → Bool) (xs : List X)
@@ -64,9 +65,11 @@ arrived_decoded Leaving e = refl
 arrived_decoded Promised e = refl
 arrived_decoded Left e = refl
 
-module _ (m : Machine) (all ts : List Task) (g : Arrivals) (S : State) (ground : HasGroundwork m all ts S)
-    (control : IsControlled ts g S) (quiet : IsQuiet S) (gone : HasLetGo S) (n : ℕ) (x : Flying)
-    (flies : get S.flight n ≡ Some x) (least : (k : ℕ) (y : Flying) → get S.flight k ≡ Some y → n ≤ k) where
+module _ (m : Machine) (S : State) (facts : Facts m S) (quiet : IsQuiet S) (gone : HasLetGo S) (n : ℕ)
+    (x : Flying) (flies : get S.flight n ≡ Some x)
+    (least : (k : ℕ) (y : Flying) → get S.flight k ≡ Some y → n ≤ k) where
+  open facts use {basis, all, ts, ground, control}
+
   -- ---- records of the oldest task
 
   -- an operand of the task has a record
@@ -84,8 +87,8 @@ module _ (m : Machine) (all ts : List Task) (g : Arrivals) (S : State) (ground :
   pub record_among : (q : OpName) (r : OperandState) → q.task ≡ n → slice_get x.operands q.place ≡ Some r
       → operand_among ts q ≡ Some (r.operand)
   record_among q r own at =
-      let p = flying_operand m all ts g S ground control (calm_of S quiet) q r
-      (own_record m all ts g S ground control quiet gone n x flies least q r own at) in
+      let p = flying_operand m S facts (calm_of S quiet) q r
+      (own_record m S facts quiet gone n x flies least q r own at) in
       let k = record_of q p.0 p.1 own in
       p.1 ∙ ap Some (sym k.2 ∙ ap (λ (r : OperandState). r.operand) (same_Some k.0 r (sym k.1 ∙ at)))
 
@@ -98,9 +101,9 @@ module _ (m : Machine) (all ts : List Task) (g : Arrivals) (S : State) (ground :
         r.0,
         r.1,
         r.2,
-        elim (decodes_or_ready m all ts g S ground control quiet gone n x flies least q r.0 own r.1) [
+        elim (decodes_or_ready m S facts quiet gone n x flies least q r.0 own r.1) [
           | inl decoding ↦ absurd (true≢false (sym decoded ∙ ap is_decoded decoding))
-          | inr ready ↦ ready_told m all ts g S ground control quiet gone n x flies least q r.0 own r.1 ready
+          | inr ready ↦ ready_told m S facts quiet gone n x flies least q r.0 own r.1 ready
         ],
       )
 
@@ -116,7 +119,7 @@ module _ (m : Machine) (all ts : List Task) (g : Arrivals) (S : State) (ground :
       | inl later ↦
           absurd (decoded_apart S control.orderly q r decoded
           (ground.decodes o q p r
-          (ground.known.operands o p (decode_among m all ts S ground control.orderly o p decode))
+          (ground.known.operands o p (decode_among m S basis control.orderly o p decode))
           (ground.known.operands q r at) (inr decode) (subst (λ k. k < q.task) (sym own) later) (sym here)))
       | inr before ↦ before
     ]
@@ -136,7 +139,7 @@ module _ (m : Machine) (all ts : List Task) (g : Arrivals) (S : State) (ground :
         by None e = e
         by (Some f) e =
             let next = (control.chains.linked v y there).followed f e in
-            absurd (none_followed m all ts g S ground control quiet gone n x flies least v y f there e
+            absurd (none_followed m S facts quiet gone n x flies least v y f there e
             (version_upto f.version next.version next.there (ap (bank_of m.sizes) next.object ∙ here)))
 
     no_predecessor : (v : OpName) (y : Version) → get S.versions v ≡ Some y → IsHere y.object → y.predecessor ≡ None
@@ -145,7 +148,7 @@ module _ (m : Machine) (all ts : List Task) (g : Arrivals) (S : State) (ground :
         by : (q : Option OpName) → y.predecessor ≡ q → y.predecessor ≡ None
         by None e = e
         by (Some q) e =
-            absurd (none_follows m all ts g S ground control quiet gone n x flies least v q y there e
+            absurd (none_follows m S facts quiet gone n x flies least v q y there e
             (version_upto v y there here))
 
     -- each object has one
@@ -173,7 +176,7 @@ module _ (m : Machine) (all ts : List Task) (g : Arrivals) (S : State) (ground :
         → (q : OpName) (r : Operand) → operand_among ts q ≡ Some r → r.object ≡ z → is_decoded (phase_of S q) ≡ true
         → phase_of S q ≡ Left
     left_of z here none q r at object decoded = elim (cases_lt q.task n) [
-      | inl before ↦ past m all ts g S ground control quiet gone n x flies least q before
+      | inl before ↦ past m S facts quiet gone n x flies least q before
       | inr from ↦
           let upto = none_later q r at (ap (bank_of m.sizes) object ∙ here) decoded in
           let k = decoded_ready q r at (omega (arith, from, upto)) decoded in
@@ -186,16 +189,16 @@ module _ (m : Machine) (all ts : List Task) (g : Arrivals) (S : State) (ground :
     entry_used : (b : ℕ) (e : Entry) → get S.entries b ≡ Some e → IsHere e.object
         → ((k : ℕ) (r : OperandState) → slice_get x.operands k ≡ Some r → on_ready e.object r ≡ false) → ⊥
     entry_used b e entry here none =
-        let y = latest_version m all ts g S ground control quiet b e entry in
-        let live = control.entries.live b e entry (nothing_retires m all ts g S ground control quiet b e entry) in
+        let y = latest_version m S facts quiet b e entry in
+        let live = control.entries.live b e entry (nothing_retires m S facts quiet b e entry) in
         let there = ap (bank_of m.sizes) y.2 ∙ here in
         let q = control.chains.opener e.latest y.0 y.1 in
         let left = left_of e.object here none e.latest q.0 q.1 (q.2 ∙ y.2)
         (name_decoded m all S ground.numbers control.orderly e.latest (ground.names.versions e.latest y.0 y.1).0.0) in
-        none_alone m all ts g S ground control quiet b e y.0 entry y.1
+        none_alone m S facts quiet b e y.0 entry y.1
         (ap (λ (z : Range). z.base) y.2 ∙ (control.entries.operand b e entry).0) live.sent
         (no_successor e.latest y.0 y.1 there) (no_predecessor e.latest y.0 y.1 there)
-        (produced_when_left m all ts g S ground control quiet e.latest y.0 y.1 left)
+        (produced_when_left m S facts quiet e.latest y.0 y.1 left)
         (λ a has.
         let arrival = (control.readers.versions e.latest y.0 y.1).each a has in
         left_of e.object here none a arrival.on.operand arrival.on.there (arrival.on.object ∙ y.2)

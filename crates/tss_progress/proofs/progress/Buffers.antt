@@ -29,9 +29,11 @@ use Rattle.tss_progress.proofs.progress.Drained.{HaveHolders}
 use Rattle.tss_progress.proofs.progress.Holders.{Holder, Held, same_buffer, no_home}
 use Rattle.tss_progress.proofs.progress.TableBuffers.{buffers_main, buffers_take, buffers_ready, buffers_link, buffers_bye, buffers_start, buffers_exec, buffers_finish, buffers_idle, buffers_decode}
 use Rattle.tss_progress.proofs.progress.VersionBuffers.{buffers_open, buffers_use, buffers_release, nacked_holder}
+use Rattle.tss_control.proofs.rounds.Facts.{Facts}
 
-module _ (m : Machine) (all ts : List Task) (g : Arrivals) (S : State) (ground : HasGroundwork m all ts S)
-    (control : IsControlled ts g S) (h : HaveHolders S) where
+module _ (m : Machine) (S : State) (facts : Facts m S) (h : HaveHolders S) where
+  open facts use {all, ground}
+
   -- of a state
   abbrev Keeps : State → Type 0
   Keeps T = HaveHolders T
@@ -176,23 +178,23 @@ module _ (m : Machine) (all ts : List Task) (g : Arrivals) (S : State) (ground :
   -- every event keeps it
   pub HaveHolders-after_event : (e : Event) → IsEnabled m S e → HaveHolders (after_event m S e)
   unfolding is_enabled after_event
-  HaveHolders-after_event event.Main on = buffers_main m all ts g S ground control h (call_next m S)
-  HaveHolders-after_event event.Take on = buffers_take m all ts g S ground control h S.inbox
+  HaveHolders-after_event event.Main on = buffers_main m S facts h (call_next m S)
+  HaveHolders-after_event event.Take on = buffers_take m S facts h S.inbox
   HaveHolders-after_event (event.Decode o) on =
-      buffers_decode m all ts g S ground control h o (get S.mail.decodes o) refl
+      buffers_decode m S facts h o (get S.mail.decodes o) refl
   HaveHolders-after_event (event.Ack o) on = h
-  HaveHolders-after_event (event.Open o) on = buffers_open m all ts g S ground control h o (get S.mail.opens o) refl on
-  HaveHolders-after_event (event.Use o) on = buffers_use m all ts g S ground control h o (get S.mail.uses o)
-  HaveHolders-after_event (event.Ready o) on = buffers_ready m all ts g S ground control h o (get S.mail.readies o)
-  HaveHolders-after_event (event.Link o) on = buffers_link m all ts g S ground control h o (get S.mail.links o)
-  HaveHolders-after_event (event.Start w) on = buffers_start m all ts g S ground control h w S.queue
-  HaveHolders-after_event (event.Exec w) on = buffers_exec m all ts g S ground control h w (get S.workers w)
-  HaveHolders-after_event (event.Finish w) on = buffers_finish m all ts g S ground control h w (get S.workers w)
-  HaveHolders-after_event (event.Release o) on = buffers_release m all ts g S ground control h o (get S.mail.releases o)
-  HaveHolders-after_event (event.Bye o) on = buffers_bye m all ts g S ground control h o (get S.mail.byes o)
-  HaveHolders-after_event (event.Idle v) on = buffers_idle m all ts g S ground control h v (get S.mail.idles v)
+  HaveHolders-after_event (event.Open o) on = buffers_open m S facts h o (get S.mail.opens o) refl on
+  HaveHolders-after_event (event.Use o) on = buffers_use m S facts h o (get S.mail.uses o)
+  HaveHolders-after_event (event.Ready o) on = buffers_ready m S facts h o (get S.mail.readies o)
+  HaveHolders-after_event (event.Link o) on = buffers_link m S facts h o (get S.mail.links o)
+  HaveHolders-after_event (event.Start w) on = buffers_start m S facts h w S.queue
+  HaveHolders-after_event (event.Exec w) on = buffers_exec m S facts h w (get S.workers w)
+  HaveHolders-after_event (event.Finish w) on = buffers_finish m S facts h w (get S.workers w)
+  HaveHolders-after_event (event.Release o) on = buffers_release m S facts h o (get S.mail.releases o)
+  HaveHolders-after_event (event.Bye o) on = buffers_bye m S facts h o (get S.mail.byes o)
+  HaveHolders-after_event (event.Idle v) on = buffers_idle m S facts h v (get S.mail.idles v)
   HaveHolders-after_event (event.Nack v) on =
-      λ n bank e. nacked_holder m all ts g S ground control h v (get S.versions v) refl n (h n bank e)
+      λ n bank e. nacked_holder m S facts h v (get S.versions v) refl n (h n bank e)
   HaveHolders-after_event (event.Retire v) on =
       let both = and_parts (is_some (get S.mail.retires v)) (can_retire m S (get S.versions v)) on in
       buffers_retire v (get S.versions v) refl both.1

@@ -26,6 +26,7 @@ use Rattle.tss_control.specs.Readers.{Arrivals, Has, oldest_of, released_among, 
 use Rattle.tss_control.specs.Holders.{link_fits}
 use Rattle.tss_control.specs.Control.{HasGroundwork, IsControlled}
 use Rattle.tss_control.proofs.rounds.Spawned.{among_object}
+use Rattle.tss_control.proofs.rounds.Facts.{Facts}
 
 -- no message of an operand but its decode or its ack, and none of a version's asking
 pub record IsCalm (S : State) : Type 0 where
@@ -88,8 +89,9 @@ released_all S (a ∷ xs) released =
 first_of_three : (a b c r : ℕ) → a ≡ r → b ≡ 0 → c ≡ 0 → a + b + c ≡ r
 first_of_three a b c r d e f = omega (arith, d, e, f)
 
-module _ (m : Machine) (all ts : List Task) (g : Arrivals) (S : State) (ground : HasGroundwork m all ts S)
-    (control : IsControlled ts g S) (calm : IsCalm S) where
+module _ (m : Machine) (S : State) (facts : Facts m S) (calm : IsCalm S) where
+  open facts use {all, ts, g, ground, control}
+
   -- each operand is in such a phase
   pub calm_phase : (o : OpName) → is_calm (phase_of S o) ≡ true
   calm_phase o = by (get S.mail.decodes o) refl

@@ -40,6 +40,7 @@ use Rattle.tss_progress.proofs.progress.Versions.{AllLeft, none_behind, none_alo
 use Rattle.tss_progress.proofs.progress.Oldest.{produced_when_left}
 use Rattle.tss_progress.proofs.progress.Banks.{arrived_decoded}
 use Rattle.tss_progress.proofs.progress.Room.{entry_of_version, version_of_place}
+use Rattle.tss_control.proofs.rounds.Facts.{Facts}
 
 -- ---- buffers
 
@@ -68,8 +69,9 @@ empty_if order m none = elim (some_entry order m) [
   | inr some ↦ absurd (none some.0 some.1 some.2)
 ]
 
-module _ (m : Machine) (all ts : List Task) (g : Arrivals) (S : State) (ground : HasGroundwork m all ts S)
-    (control : IsControlled ts g S) (quiet : IsQuiet S) where
+module _ (m : Machine) (S : State) (facts : Facts m S) (quiet : IsQuiet S) where
+  open facts use {all, ground, control}
+
   -- ---- no task in flight
 
   module _ (none : (n : ℕ) → get S.flight n ≡ None) where
@@ -100,15 +102,15 @@ module _ (m : Machine) (all ts : List Task) (g : Arrivals) (S : State) (ground :
     version_left v y there =
         decoded_left v (name_decoded m all S ground.numbers control.orderly v (ground.names.versions v y there).0.0)
 
-    readers_gone : (v : OpName) (y : Version) → get S.versions v ≡ Some y → AllLeft m all ts g S ground control quiet v
+    readers_gone : (v : OpName) (y : Version) → get S.versions v ≡ Some y → AllLeft m S facts quiet v
     readers_gone v y there a has =
         decoded_left a
         (arrived_decoded (phase_of S a) ((control.readers.versions v y there).each a has).arrived)
 
     none_followed : (v : OpName) (y : Version) (f : Follow) → get S.versions v ≡ Some y → y.successor ≡ Some f → ⊥
     none_followed v y f there next =
-        none_behind m all ts g S ground control quiet v y f there next
-        (produced_when_left m all ts g S ground control quiet v y there (version_left v y there))
+        none_behind m S facts quiet v y f there next
+        (produced_when_left m S facts quiet v y there (version_left v y there))
         (readers_gone v y there)
 
     last_of : (v : OpName) (y : Version) → get S.versions v ≡ Some y → (f : Option Follow) → y.successor ≡ f
@@ -125,22 +127,22 @@ module _ (m : Machine) (all ts : List Task) (g : Arrivals) (S : State) (ground :
 
     no_entry : (b : ℕ) (e : Entry) → get S.entries b ≡ Some e → ⊥
     no_entry b e entry =
-        let y = latest_version m all ts g S ground control quiet b e entry in
-        let live = control.entries.live b e entry (nothing_retires m all ts g S ground control quiet b e entry) in
-        none_alone m all ts g S ground control quiet b e y.0 entry y.1
+        let y = latest_version m S facts quiet b e entry in
+        let live = control.entries.live b e entry (nothing_retires m S facts quiet b e entry) in
+        none_alone m S facts quiet b e y.0 entry y.1
         (ap (λ (z : Range). z.base) y.2 ∙ (control.entries.operand b e entry).0) live.sent
         (last_of e.latest y.0 y.1 y.0.successor refl) (first_of e.latest y.0 y.1 y.0.predecessor refl)
-        (produced_when_left m all ts g S ground control quiet e.latest y.0 y.1 (version_left e.latest y.0 y.1))
+        (produced_when_left m S facts quiet e.latest y.0 y.1 (version_left e.latest y.0 y.1))
         (readers_gone e.latest y.0 y.1)
 
     no_version : (v : OpName) (y : Version) → get S.versions v ≡ Some y → ⊥
     no_version v y there =
-        let e = entry_of_version m all ts g S ground control v y there in
+        let e = entry_of_version m S facts v y there in
         no_entry y.object.base e.0 e.1
 
     no_place : (v : OpName) (bank : ℕ) → get S.places v ≡ Some bank → ⊥
     no_place v bank at =
-        let y = version_of_place m all ts g S ground control quiet v bank at in
+        let y = version_of_place m S facts quiet v bank at in
         no_version v y.0 y.1
 
     no_buffer : HaveHolders S → (n : OpName) (bank : ℕ) → get S.buffers n ≡ Some bank → ⊥

@@ -33,6 +33,7 @@ use Rattle.tss_progress.proofs.progress.Phases.{HasLetGo}
 use Rattle.tss_progress.proofs.progress.Oldest.{some_decoding}
 use Rattle.tss_progress.proofs.progress.Room.{decode_enabled}
 use Rattle.tss_progress.proofs.progress.Drained.{HaveHolders, finished_when_stuck}
+use Rattle.tss_control.proofs.rounds.Facts.{Facts}
 
 -- ---- the decode of an operand
 
@@ -47,8 +48,7 @@ still_station None true = refl
 still_station None false = refl
 still_station (Some r) ahead = still_record r.farewell r.source
 
-module _ (m : Machine) (all ts : List Task) (g : Arrivals) (S : State) (ground : HasGroundwork m all ts S)
-    (control : IsControlled ts g S) (quiet : IsQuiet S) where
+module _ (m : Machine) (S : State) (facts : Facts m S) (quiet : IsQuiet S) where
   -- an operand that is to be decoded has its decode under way
   decode_there : (o : OpName) → phase_of S o ≡ Decoding → (p : Operand) × (get S.mail.decodes o ≡ Some p)
   decode_there o decoding = by (get S.mail.decodes o) refl
@@ -69,8 +69,8 @@ module _ (m : Machine) (all ts : List Task) (g : Arrivals) (S : State) (ground :
 
 -- ---- progress
 
-module _ (m : Machine) (all ts : List Task) (g : Arrivals) (S : State) (ground : HasGroundwork m all ts S)
-    (control : IsControlled ts g S) (gone : HasLetGo S) (buffers : HaveHolders S) (fit : IsAdmissible m) where
+module _ (m : Machine) (S : State) (facts : Facts m S) (gone : HasLetGo S) (buffers : HaveHolders S)
+    (fit : IsAdmissible m) where
   -- a task in flight has something to do
   flight_moves : IsStuck m S → IsQuiet S → (n : ℕ) → IsLeast S.flight n → ⊥
   flight_moves stuck quiet n h =
@@ -78,15 +78,15 @@ module _ (m : Machine) (all ts : List Task) (g : Arrivals) (S : State) (ground :
         | inl same ↦ omega (arith, same)
         | inr other ↦ let below = below_from_less n k (h.others k y e other) in omega (arith, below)
       ] in
-      let some = some_decoding m all ts g S ground control quiet gone n h.there.0 h.there.1 from in
-      let p = decode_there m all ts g S ground control quiet (operand_name n some.0) some.3 in
-      true≢false (sym (decode_enabled m all ts g S ground control quiet gone n h.there.0 h.there.1 from
+      let some = some_decoding m S facts quiet gone n h.there.0 h.there.1 from in
+      let p = decode_there m S facts quiet (operand_name n some.0) some.3 in
+      true≢false (sym (decode_enabled m S facts quiet gone n h.there.0 h.there.1 from
       (operand_name n some.0) p.0 refl p.1 fit)
       ∙ stuck (event.Decode (operand_name n some.0)))
 
   finished_by : IsStuck m S → IsQuiet S → (n : Option ℕ) → least S.flight ≡ n → is_finished S ≡ true
   finished_by stuck quiet None e =
-      finished_when_stuck m all ts g S ground control quiet
+      finished_when_stuck m S facts quiet
       (λ k. absent_empty S.flight k (least_none nat_order S.flight e)) buffers fit stuck
   finished_by stuck quiet (Some n) e = absurd (flight_moves stuck quiet n (least_some nat_order S.flight n e))
 
@@ -96,6 +96,6 @@ module _ (m : Machine) (all ts : List Task) (g : Arrivals) (S : State) (ground :
     | inl some ↦ some
     | inr stuck ↦
         absurd (true≢false
-        (sym (finished_by stuck (quiet_when_stuck m all ts g S ground control stuck fit) (least S.flight) refl)
+        (sym (finished_by stuck (quiet_when_stuck m S facts stuck fit) (least S.flight) refl)
         ∙ unfinished))
   ]

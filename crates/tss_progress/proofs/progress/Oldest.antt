@@ -30,6 +30,7 @@ use Rattle.tss_progress.proofs.progress.CalmStates.{flying_operand, no_reader_wa
 use Rattle.tss_progress.proofs.progress.Stuck.{IsQuiet, calm_of}
 use Rattle.tss_progress.proofs.progress.Versions.{AllLeft, none_behind}
 use Rattle.tss_progress.proofs.progress.Phases.{HasLetGo, fails_somewhere, all_wait, stands, left_before}
+use Rattle.tss_control.proofs.rounds.Facts.{Facts}
 
 -- ---- modes
 
@@ -48,8 +49,9 @@ open_not_left : (s : Option StorageName) → open_opener s Left ≡ false
 open_not_left None = refl
 open_not_left (Some s) = refl
 
-module _ (m : Machine) (all ts : List Task) (g : Arrivals) (S : State) (ground : HasGroundwork m all ts S)
-    (control : IsControlled ts g S) (quiet : IsQuiet S) where
+module _ (m : Machine) (S : State) (facts : Facts m S) (quiet : IsQuiet S) where
+  open facts use {ts, g, ground, control}
+
   -- a version whose opener has left is produced
   pub produced_when_left : (v : OpName) (y : Version) → get S.versions v ≡ Some y → phase_of S v ≡ Left
       → y.produced ≡ true
@@ -91,11 +93,11 @@ module _ (m : Machine) (all ts : List Task) (g : Arrivals) (S : State) (ground :
       (least : (k : ℕ) (y : Flying) → get S.flight k ≡ Some y → n ≤ k) where
     -- operands of earlier tasks have left
     pub past : (q : OpName) → q.task < n → phase_of S q ≡ Left
-    past q before = left_before m all ts g S ground control quiet n x flies least q before
+    past q before = left_before m S facts quiet n x flies least q before
 
     -- readers of a version that is followed by a task up to the oldest have left
     readers_left : (v : OpName) (y : Version) (f : Follow) → get S.versions v ≡ Some y → y.successor ≡ Some f
-        → IsFollowed S v y f → f.version.task ≤ n → AllLeft m all ts g S ground control quiet v
+        → IsFollowed S v y f → f.version.task ≤ n → AllLeft m S facts quiet v
     readers_left v y f there next followed upto a has =
         let arrival = (control.readers.versions v y there).each a has in
         let writer = subst (λ x. IsWriterOn ts x f.version) followed.object
@@ -113,7 +115,7 @@ module _ (m : Machine) (all ts : List Task) (g : Arrivals) (S : State) (ground :
         let followed = (control.chains.linked v y there).followed f next in
         let younger = followed.younger in
         let left = past v (omega (arith, younger, upto)) in
-        none_behind m all ts g S ground control quiet v y f there next (produced_when_left v y there left)
+        none_behind m S facts quiet v y f there next (produced_when_left v y there left)
         (readers_left v y f there next followed upto)
 
     -- nor follows one of them another
@@ -163,7 +165,7 @@ module _ (m : Machine) (all ts : List Task) (g : Arrivals) (S : State) (ground :
         by : (v : OpName) (y : Version) → get S.versions v ≡ Some y → Has o (g v) → (v ≡ o) ⊎ (v.task < o.task)
             → (b : Bool) → y.produced ≡ b → ⊥
         by v y there has younger true e =
-            no_reader_waits m all ts g S ground control (calm_of S quiet) v y there e o has waits
+            no_reader_waits m S facts (calm_of S quiet) v y there e o has waits
         by v y there has younger false e = reader_by o v p y among own reads waits there has younger e
 
     none_waiting : (o : OpName) (p : Operand) → operand_among ts o ≡ Some p → o.task ≡ n → phase_of S o ≡ Waiting → ⊥
@@ -183,8 +185,8 @@ module _ (m : Machine) (all ts : List Task) (g : Arrivals) (S : State) (ground :
         → (phase_of S o ≡ Decoding) ⊎ (phase_of S o ≡ Ready)
     decodes_or_ready o r own at =
         let record_at = own_record o r own at in
-        let p = flying_operand m all ts g S ground control (calm_of S quiet) o r record_at in
-        elim (stands m all ts g S ground control quiet gone o r record_at) [
+        let p = flying_operand m S facts (calm_of S quiet) o r record_at in
+        elim (stands m S facts quiet gone o r record_at) [
           | inl decoding ↦ inl decoding
           | inr (inl waits) ↦ absurd (none_waiting o p.0 p.1 own waits)
           | inr (inr ready) ↦ inr ready
@@ -202,7 +204,7 @@ module _ (m : Machine) (all ts : List Task) (g : Arrivals) (S : State) (ground :
     pub some_decoding : (k : ℕ) × (r : OperandState) × (slice_get x.operands k ≡ Some r)
         × (phase_of S (operand_name n k) ≡ Decoding)
     some_decoding =
-        let waits = all_wait m all ts g S ground control quiet gone n x flies in
+        let waits = all_wait m S facts quiet gone n x flies in
         let f = fails_somewhere is_ready x.operands ((ground.stages.waiting n x flies).0 waits) in (
           f.0,
           f.1,

@@ -24,6 +24,7 @@ use Rattle.tss_control.specs.Runners.{IsAtStage, is_late}
 use Rattle.tss_control.specs.Control.{HasGroundwork, IsControlled}
 use Rattle.tss_progress.proofs.progress.CalmStates.{is_calm, calm_phase, flying_operand}
 use Rattle.tss_progress.proofs.progress.Stuck.{IsQuiet, calm_of}
+use Rattle.tss_control.proofs.rounds.Facts.{Facts}
 
 -- the operands of a finished task have let go
 abbrev pub HasLetGo : State → Type 0
@@ -75,11 +76,12 @@ fails_somewhere t (x ∷ xs) e = elim (and_cases (t x) (list_all t xs) e) [
 different : (a b : ℕ) → a < b → (b == a) ≡ false
 different a b h = grind (arith, nat_tests)
 
-module _ (m : Machine) (all ts : List Task) (g : Arrivals) (S : State) (ground : HasGroundwork m all ts S)
-    (control : IsControlled ts g S) (quiet : IsQuiet S) where
+module _ (m : Machine) (S : State) (facts : Facts m S) (quiet : IsQuiet S) where
+  open facts use {all, ground, control}
+
   -- each operand is calm
   calm : (o : OpName) → is_calm (phase_of S o) ≡ true
-  calm = calm_phase m all ts g S ground control (calm_of S quiet)
+  calm = calm_phase m S facts (calm_of S quiet)
 
   -- ---- tasks in flight
 
@@ -94,7 +96,7 @@ module _ (m : Machine) (all ts : List Task) (g : Arrivals) (S : State) (ground :
 
   not_promised : (o : OpName) (r : OperandState) → operand_at S.flight o ≡ Some r → phase_of S o ≡ Promised → ⊥
   not_promised o r at promised =
-      let p = flying_operand m all ts g S ground control (calm_of S quiet) o r at in
+      let p = flying_operand m S facts (calm_of S quiet) o r at in
       let next = (control.holders.links o p.0 r p.1 at).promised promised in
       none-some next.0 (sym (quiet.links o) ∙ next.1)
 

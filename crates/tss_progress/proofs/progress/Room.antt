@@ -38,6 +38,7 @@ use Rattle.tss_progress.proofs.progress.Stuck.{IsQuiet}
 use Rattle.tss_progress.proofs.progress.Phases.{HasLetGo}
 use Rattle.tss_progress.proofs.progress.Oldest.{own_record, past}
 use Rattle.tss_progress.proofs.progress.Banks.{record_of, record_among, IsUsedAt, one_version, used_at}
+use Rattle.tss_control.proofs.rounds.Facts.{Facts}
 
 -- a number from a test
 number_from : (a b : ℕ) → (a == b) ≡ true → a ≡ b
@@ -85,8 +86,9 @@ module _ {K X J Y : Type 0} {R : K → K → Ordering} {Q : J → J → Ordering
 
 -- ---- entries and places
 
-module _ (m : Machine) (all ts : List Task) (g : Arrivals) (S : State) (ground : HasGroundwork m all ts S)
-    (control : IsControlled ts g S) where
+module _ (m : Machine) (S : State) (facts : Facts m S) where
+  open facts use {basis, ground, control}
+
   -- the object of a version has an entry
   pub entry_of_version : (v : OpName) (y : Version) → get S.versions v ≡ Some y
       → (e : Entry) × (get S.entries y.object.base ≡ Some e) × (e.object ≡ y.object)
@@ -100,7 +102,7 @@ module _ (m : Machine) (all ts : List Task) (g : Arrivals) (S : State) (ground :
         let e = control.entries.operand y.object.base some.0 some.1 in (
           some.0,
           some.1,
-          sym e.1.2 ∙ one_object m all ts S ground control.orderly some.0.latest v e.1.0 q.0 e.1.1 q.1
+          sym e.1.2 ∙ one_object m S basis control.orderly some.0.latest v e.1.0 q.0 e.1.1 q.1
               (ap (λ (z : Range). z.base) e.1.2 ∙ e.0 ∙ ap (λ (z : Range). z.base) (sym q.2)) ∙ q.2,
         )
   ]
@@ -120,23 +122,25 @@ module _ (m : Machine) (all ts : List Task) (g : Arrivals) (S : State) (ground :
     | inr (inr (inr copy)) ↦ absurd (none-some copy.1 (sym (quiet.copies copy.0) ∙ copy.2))
   ]
 
-module _ (m : Machine) (all ts : List Task) (g : Arrivals) (S : State) (ground : HasGroundwork m all ts S)
-    (control : IsControlled ts g S) (quiet : IsQuiet S) (gone : HasLetGo S) (n : ℕ) (x : Flying)
-    (flies : get S.flight n ≡ Some x) (least : (k : ℕ) (y : Flying) → get S.flight k ≡ Some y → n ≤ k) (o : OpName)
-    (p : Operand) (own : o.task ≡ n) (decode : get S.mail.decodes o ≡ Some p) where
+module _ (m : Machine) (S : State) (facts : Facts m S) (quiet : IsQuiet S) (gone : HasLetGo S) (n : ℕ)
+    (x : Flying) (flies : get S.flight n ≡ Some x)
+    (least : (k : ℕ) (y : Flying) → get S.flight k ≡ Some y → n ≤ k) (o : OpName) (p : Operand)
+    (own : o.task ≡ n) (decode : get S.mail.decodes o ≡ Some p) where
+  open facts use {basis, ts, ground, control}
+
   -- the decode's operand
   among : operand_among ts o ≡ Some p
-  among = decode_among m all ts S ground control.orderly o p decode
+  among = decode_among m S basis control.orderly o p decode
 
   own_place : (r : OperandState) × (slice_get x.operands o.place ≡ Some r) × (r.operand ≡ p)
-  own_place = record_of m all ts g S ground control quiet gone n x flies least o p among own
+  own_place = record_of m S facts quiet gone n x flies least o p among own
 
   -- it isn't ready
-  not_own : (z : Range) (k : ℕ) → IsUsedAt m all ts g S ground control quiet gone n x flies least o p own decode z k
+  not_own : (z : Range) (k : ℕ) → IsUsedAt m S facts quiet gone n x flies least o p own decode z k
       → k ≡ o.place → ⊥
   not_own z k used same =
       let untold = (decoding_stands (look_ups S o) p (control.orderly o) decode).1.0 in
-      let at = own_record m all ts g S ground control quiet gone n x flies least o used.0 own
+      let at = own_record m S facts quiet gone n x flies least o used.0 own
       (ap (slice_get x.operands) (sym same) ∙ used.1) in
       let kept = same_Some untold.kept used.0 (sym untold.there ∙ at) in
       true≢false (sym used.3 ∙ ap (λ (r : OperandState). is_some r.source) (sym kept) ∙ ap is_some untold.told)
@@ -160,7 +164,7 @@ module _ (m : Machine) (all ts : List Task) (g : Arrivals) (S : State) (ground :
       let below = len-all_below operand_count in
       omega (arith, most, count, same, less, below)
 
-  other_there : (z : Range) (k : ℕ) → IsUsedAt m all ts g S ground control quiet gone n x flies least o p own decode z k
+  other_there : (z : Range) (k : ℕ) → IsUsedAt m S facts quiet gone n x flies least o p own decode z k
       → get others k ≡ Some tt
   other_there z k used =
       beside_removed nat_order (all_below operand_count) o.place k (not_own z k used)
@@ -184,7 +188,7 @@ module _ (m : Machine) (all ts : List Task) (g : Arrivals) (S : State) (ground :
       entries_apart S.entries others
       (λ b e at passes.
       let here = number_from (bank_of m.sizes e.object) (bank_of m.sizes p.object) passes in
-      let used = used_at m all ts g S ground control quiet gone n x flies least o p own decode b e at here in
+      let used = used_at m S facts quiet gone n x flies least o p own decode b e at here in
       (used.0, tt, other_there e.object used.0 used.1, (e, used.1.0, at, used.1.1, used.1.2)))
 
   -- an operand on the object of a version of the bank
@@ -196,17 +200,17 @@ module _ (m : Machine) (all ts : List Task) (g : Arrivals) (S : State) (ground :
   versions_apart : (v w : OpName) (k : ℕ) → OfVersion v k → OfVersion w k → v ≡ w
   versions_apart v w k s t =
       let same = same_Some s.1 t.1 (sym s.3 ∙ t.3) in
-      one_version m all ts g S ground control quiet gone n x flies least o p own decode v w s.0 t.0 s.2 t.2
+      one_version m S facts quiet gone n x flies least o p own decode v w s.0 t.0 s.2 t.2
       (sym s.4 ∙ ap (λ (r : OperandState). r.operand.object) same ∙ t.4) s.5
 
   places_few : places_in (bank_of m.sizes p.object) S.places ≤ len others
   places_few = count_into name_order nat_order (λ v b. b == bank_of m.sizes p.object) OfVersion
       versions_apart S.places others
       (λ v bank at passes.
-      let y = version_of_place m all ts g S ground control quiet v bank at in
+      let y = version_of_place m S facts quiet v bank at in
       let here = y.2 ∙ number_from bank (bank_of m.sizes p.object) passes in
-      let e = entry_of_version m all ts g S ground control v y.0 y.1 in
-      let used = used_at m all ts g S ground control quiet gone n x flies least o p own decode y.0.object.base e.0 e.1
+      let e = entry_of_version m S facts v y.0 y.1 in
+      let used = used_at m S facts quiet gone n x flies least o p own decode y.0.object.base e.0 e.1
       (ap (bank_of m.sizes) e.2 ∙ here) in (
         used.0,
         tt,
@@ -221,11 +225,11 @@ module _ (m : Machine) (all ts : List Task) (g : Arrivals) (S : State) (ground :
   no_entry = elim (decide_get S.entries p.object.base) [
     | inl none ↦ none
     | inr some ↦
-        let object = object_of_entry m all ts S ground control.orderly control.entries o p decode some.0 some.1 in
-        let used = used_at m all ts g S ground control quiet gone n x flies least o p own decode p.object.base some.0
+        let object = object_of_entry m S basis control.orderly control.entries o p decode some.0 some.1 in
+        let used = used_at m S facts quiet gone n x flies least o p own decode p.object.base some.0
         some.1 (ap (bank_of m.sizes) object) in
         let q = operand_name n used.0 in
-        let at = record_among m all ts g S ground control quiet gone n x flies least q used.1.0 refl used.1.1 in
+        let at = record_among m S facts quiet gone n x flies least q used.1.0 refl used.1.1 in
         let one = ground.known.single q o used.1.0.operand p at among (used.1.2 ∙ object) (sym own) in
         absurd (not_own some.0.object used.0 used.1 (ap (λ (q : OpName). q.place) one))
   ]
@@ -236,7 +240,7 @@ module _ (m : Machine) (all ts : List Task) (g : Arrivals) (S : State) (ground :
   -- it is its turn: operands of earlier tasks have left
   own_turn : HasTurn m.sizes S.mail.decodes o p
   own_turn = turn_in_bank m.sizes (bank_of m.sizes p.object) S.mail.decodes o (λ q y e before bank.
-      let left = past m all ts g S ground control quiet gone n x flies least q (omega (arith, before, own)) in
+      let left = past m S facts quiet gone n x flies least q (omega (arith, before, own)) in
       let decoding = phase_decoding (look_ups S q) y e in
       not_left (phase_of S q) decoding left)
 

@@ -22,6 +22,7 @@ use Rattle.tss_progress.proofs.progress.LetGo.{HasLetGo-after_event}
 use Rattle.tss_progress.proofs.progress.Drained.{HaveHolders}
 use Rattle.tss_progress.proofs.progress.GoesOn.{goes_on}
 use Rattle.tss_progress.proofs.progress.Buffers.{HaveHolders-after_event, HaveHolders-initial_state}
+use Rattle.tss_control.proofs.rounds.Facts.{facts_of}
 
 -- what progress needs of a state
 abbrev pub CanProgress : RoundFact
@@ -35,10 +36,11 @@ module _ (kept : (e : Event) → AreGroupsKept e) where
   -- each event keeps it
   CanProgress-after_event : IsKeptOnGround CanProgress
   CanProgress-after_event m all ts g S e ground h on =
-      let order = (kept e).order m all ts g S ground h.0 on in (
-        IsControlled-event e (kept e) m all ts g S ground h.0 on order,
+      let facts = facts_of m all ts g S ground h.0 in
+      let order = (kept e).order m S facts on in (
+        IsControlled-event e (kept e) m S facts on order,
         HasLetGo-after_event m S h.0.orderly h.1 e on order,
-        HaveHolders-after_event m all ts g S ground h.0 h.2 e on,
+        HaveHolders-after_event m S facts h.2 e on,
       )
 
   -- so it holds in every run
@@ -57,5 +59,5 @@ module _ (kept : (e : Event) → AreGroupsKept e) where
   pub enabled_of_runs : EnabledLaw
   enabled_of_runs m i es S accepted fit run =
       let h = can_progress_of_runs m i es S run in
-      goes_on m (spawned_tasks m i es) (round_of m (initial_state i) es)
-      (arrivals_from m (initial_state i) no_arrivals es) S (HasGroundwork-Run m i es S run) h.0 h.1 h.2 fit
+      goes_on m S (facts_of m (spawned_tasks m i es) (round_of m (initial_state i) es)
+      (arrivals_from m (initial_state i) no_arrivals es) S (HasGroundwork-Run m i es S run) h.0) h.1 h.2 fit

@@ -24,6 +24,7 @@ use Rattle.tss_control.specs.Readers.{Arrivals}
 use Rattle.tss_control.specs.Control.{HasGroundwork, IsControlled}
 use Rattle.tss_progress.proofs.progress.CalmStates.{IsCalm}
 use Rattle.tss_progress.proofs.progress.Choice.{IsStuck}
+use Rattle.tss_control.proofs.rounds.Facts.{Facts}
 
 -- ---- stuck
 
@@ -136,8 +137,9 @@ module _ (m : Machine) (S : State) (stuck : IsStuck m S) where
 
 -- ---- opens, uses and retires
 
-module _ (m : Machine) (all ts : List Task) (g : Arrivals) (S : State) (ground : HasGroundwork m all ts S)
-    (control : IsControlled ts g S) (stuck : IsStuck m S) where
+module _ (m : Machine) (S : State) (facts : Facts m S) (stuck : IsStuck m S) where
+  open facts use {ts, ground, control}
+
   -- a version that is registered is found
   found_version : (v : OpName) (y : Version) → get S.versions v ≡ Some y → is_some (get S.versions v) ≡ true
   found_version v y e = ap is_some e

@@ -25,9 +25,11 @@ use Rattle.tss_names.proofs.SentLemmas.{after_ready-all, after_link-all, flight_
 use Rattle.tss_names.proofs.HeldEvents.{HoldsNothing, decodes_nothing}
 use Rattle.tss_progress.proofs.progress.Drained.{HaveHolders}
 use Rattle.tss_progress.proofs.progress.Holders.{Holder, Held, sent_nothing}
+use Rattle.tss_control.proofs.rounds.Facts.{Facts}
 
-module _ (m : Machine) (all ts : List Task) (g : Arrivals) (S : State) (ground : HasGroundwork m all ts S)
-    (control : IsControlled ts g S) (h : HaveHolders S) where
+module _ (m : Machine) (S : State) (facts : Facts m S) (h : HaveHolders S) where
+  open facts use {ground}
+
   -- of a state
   abbrev Keeps : State → Type 0
   Keeps T = HaveHolders T

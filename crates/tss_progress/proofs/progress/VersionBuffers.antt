@@ -25,9 +25,11 @@ use Rattle.tss_names.proofs.HeldEvents.{HoldsNothing}
 use Rattle.tss_progress.proofs.progress.Drained.{HaveHolders}
 use Rattle.tss_progress.proofs.progress.Settled.{put_holds, can_settle_written, can_settle_followed}
 use Rattle.tss_progress.proofs.progress.Holders.{Holder, sent_nothing, settle_holder, settled_after, ready_nothing, head_nothing, change_holds, first_stored}
+use Rattle.tss_control.proofs.rounds.Facts.{Facts}
 
-module _ (m : Machine) (all ts : List Task) (g : Arrivals) (S : State) (ground : HasGroundwork m all ts S)
-    (control : IsControlled ts g S) (h : HaveHolders S) where
+module _ (m : Machine) (S : State) (facts : Facts m S) (h : HaveHolders S) where
+  open facts use {ts, ground, control}
+
   -- of a state
   abbrev Keeps : State → Type 0
   Keeps T = HaveHolders T

@@ -19,6 +19,7 @@ use Rattle.tss_control.specs.Readers.{Arrivals, Has}
 use Rattle.tss_control.specs.Control.{HasGroundwork, IsControlled}
 use Rattle.tss_progress.proofs.progress.CalmStates.{AllReleased, nobody_asks, total_registered, all_released, none_released_behind}
 use Rattle.tss_progress.proofs.progress.Stuck.{IsQuiet, calm_of}
+use Rattle.tss_control.proofs.rounds.Facts.{Facts}
 
 -- ---- numbers
 
@@ -28,13 +29,14 @@ same_test a b e = grind (arith, nat_tests)
 less_test : (a b : ℕ) → a < b → (a == b) ≡ false
 less_test a b h = grind (arith, nat_tests)
 
-module _ (m : Machine) (all ts : List Task) (g : Arrivals) (S : State) (ground : HasGroundwork m all ts S)
-    (control : IsControlled ts g S) (quiet : IsQuiet S) where
+module _ (m : Machine) (S : State) (facts : Facts m S) (quiet : IsQuiet S) where
+  open facts use {g, control}
+
   -- its readers have left
   abbrev pub AllLeft : OpName → Type 0
   AllLeft v = (a : OpName) → Has a (g v) → phase_of S a ≡ Left
 
-  left_released : (v : OpName) → AllLeft v → AllReleased m all ts g S ground control (calm_of S quiet) v
+  left_released : (v : OpName) → AllLeft v → AllReleased m S facts (calm_of S quiet) v
   left_released v left a has = ap has_released (left a has)
 
   -- ---- a version that stays has readers that haven't left
@@ -43,7 +45,7 @@ module _ (m : Machine) (all ts : List Task) (g : Arrivals) (S : State) (ground :
   pub none_behind : (v : OpName) (y : Version) (f : Follow) → get S.versions v ≡ Some y → y.successor ≡ Some f
       → y.produced ≡ true → AllLeft v → ⊥
   none_behind v y f there next produced left =
-      none_released_behind m all ts g S ground control (calm_of S quiet) v y f there next produced
+      none_released_behind m S facts (calm_of S quiet) v y f there next produced
       (left_released v left)
 
   -- an entry's latest version was refused for fewer readers
@@ -59,7 +61,7 @@ module _ (m : Machine) (all ts : List Task) (g : Arrivals) (S : State) (ground :
         | inr fewer ↦
             less_test k y.registered
             (subst (λ n. k < n) (ap (λ (e : Entry). e.sent) one ∙ sent
-            ∙ total_registered m all ts g S ground control (calm_of S quiet) e.latest y there) fewer)
+            ∙ total_registered m S facts (calm_of S quiet) e.latest y there) fewer)
       ]
 
   -- a produced version that is alone
@@ -68,13 +70,13 @@ module _ (m : Machine) (all ts : List Task) (g : Arrivals) (S : State) (ground :
       → y.produced ≡ true → AllLeft e.latest → ⊥
   none_alone b e y entry there base sent last oldest produced left =
       let same = same_test y.released y.registered
-      (all_released m all ts g S ground control (calm_of S quiet) e.latest y there (left_released e.latest left)) in
+      (all_released m S facts (calm_of S quiet) e.latest y there (left_released e.latest left)) in
       let fresh = refused_before b e y entry there base sent y.refused refl in
       let two = and_from y.produced (y.released == y.registered) produced same in
       let three = and_from (y.produced && (y.released == y.registered)) (is_none y.predecessor) two
       (ap is_none oldest) in
       let four = and_from (y.produced && (y.released == y.registered) && is_none y.predecessor) (is_none y.asked) three
-      (ap is_none (nobody_asks m all ts g S ground control (calm_of S quiet) e.latest y there)) in
+      (ap is_none (nobody_asks m S facts (calm_of S quiet) e.latest y there)) in
       true≢false (sym (and_from (y.produced && (y.released == y.registered) && is_none y.predecessor && is_none y.asked)
       (not (is_count y.refused y.registered)) four (ap not fresh))
       ∙ (control.retirement.settled e.latest y there).asks last)

@@ -26,6 +26,7 @@ use Rattle.tss_names.proofs.ListLemmas.{AreRising}
 use Rattle.tss_control.proofs.rounds.RoundTasks.{among_tasks}
 use Rattle.tss_progress.proofs.waits.Silent.{HasNoMessage, no_message, waits_unready}
 use Rattle.tss_progress.proofs.waits.Operands.{none_waits}
+use Rattle.tss_control.proofs.rounds.Facts.{Facts}
 
 -- ---- tests of all values
 
@@ -46,8 +47,9 @@ all_values {K} {X} order test m each =
 
 -- ---- the law
 
-module _ (m : Machine) (all ts : List Task) (g : Arrivals) (S : State) (ground : HasGroundwork m all ts S)
-    (control : IsControlled ts g S) (gone : HasLetGo S) (rise : AreRising ts) where
+module _ (m : Machine) (S : State) (facts : Facts m S) (gone : HasLetGo S) (rise : AreRising facts.ts) where
+  open facts use {ts, ground}
+
   module _ (silent : HasNoMessage S) (n : ℕ) (x : Flying) (flies : get S.flight n ≡ Some x) where
     -- one that waits needs a task that hasn't finished
     needs_one : x.stage ≡ stage.Waiting → list_all (is_past S) (needed_tasks ts x.task) ≡ true → ⊥
@@ -60,9 +62,9 @@ module _ (m : Machine) (all ts : List Task) (g : Arrivals) (S : State) (ground :
         ∙ ap (option_map (λ (r : OperandState). r.operand)) f.2 in
         let o = operand_name x.task.number f.0 in
         let at : operand_at S.flight o ≡ Some f.1 = ap (record_in f.0) (ap (get S.flight) own.0 ∙ flies) ∙ f.2 in
-        none_waits m all ts g S ground control silent gone rise own.1.0 x.task own.1.1 past o f.1.operand refl place
+        none_waits m S facts silent gone rise own.1.0 x.task own.1.1 past o f.1.operand refl place
         (among_tasks ts ground.round.one own.1.0 x.task own.1.1 f.0 f.1.operand place)
-        (waits_unready m all ts g S ground control silent o f.1 at f.3)
+        (waits_unready m S facts silent o f.1 at f.3)
 
     abbrev runs : Bool
     runs = runs_or_finished x.stage

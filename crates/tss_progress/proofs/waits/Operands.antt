@@ -27,6 +27,7 @@ use Rattle.tss_progress.proofs.progress.Phases.{HasLetGo}
 use Rattle.tss_names.proofs.ListLemmas.{AreRising}
 use Rattle.tss_control.proofs.rounds.RoundTasks.{only_reads, writer_passes, reader_passes}
 use Rattle.tss_progress.proofs.waits.Silent.{HasNoMessage, released_open, past_released}
+use Rattle.tss_control.proofs.rounds.Facts.{Facts}
 
 -- an operand that only reads is an input
 input_of : (p : Mode) → writes p ≡ false → p ≡ Input
@@ -37,8 +38,9 @@ input_of Inout e = absurd (true≢false e)
 input_not : (p q : Mode) → p ≡ Input → p ≡ q → writes q ≡ true → ⊥
 input_not p q is same w = true≢false (sym w ∙ ap writes (sym same ∙ is))
 
-module _ (m : Machine) (all ts : List Task) (g : Arrivals) (S : State) (ground : HasGroundwork m all ts S)
-    (control : IsControlled ts g S) where
+module _ (m : Machine) (S : State) (facts : Facts m S) where
+  open facts use {basis, all, ts, g, control}
+
   -- a version that an input opened is produced
   pub produced_by_input : (v : OpName) (y : Version) → get S.versions v ≡ Some y → IsOn ts y.object Input v
       → y.produced ≡ true
@@ -93,16 +95,16 @@ module _ (m : Machine) (all ts : List Task) (g : Arrivals) (S : State) (ground :
     writer_released : (x : Range) → x ≡ p.object → (p.mode ≢ Output) → (v : OpName) → IsWriterOn ts x v
         → v.task < o.task → NoWriterBetween ts x v o → has_released (phase_of S v) ≡ true
     writer_released x object reads v w before alone =
-        past_released m all ts g S ground control silent gone v w.operand w.there
-        (writer_passes m all ts S ground rise k t there (is_past S) past o p own place reads v
+        past_released m S facts silent gone v w.operand w.there
+        (writer_passes m S basis rise k t there (is_past S) past o p own place reads v
         (subst (λ x. IsWriterOn ts x v) object w) before (subst (λ x. NoWriterBetween ts x v o) object alone))
 
     -- and so have the readers since, where it is an inout
     reader_released : (x : Range) → x ≡ p.object → p.mode ≡ Inout → (a : OpName) → IsOn ts x Input a → a.task < o.task
         → NoWriterBetween ts x a o → has_released (phase_of S a) ≡ true
     reader_released x object inout a on before alone =
-        past_released m all ts g S ground control silent gone a on.operand on.there
-        (reader_passes m all ts S ground rise k t there (is_past S) past o p own place inout a
+        past_released m S facts silent gone a on.operand on.there
+        (reader_passes m S basis rise k t there (is_past S) past o p own place inout a
         (subst (λ x. IsOn ts x Input a) object on) before (subst (λ x. NoWriterBetween ts x a o) object alone))
 
     -- ---- an input
@@ -120,7 +122,7 @@ module _ (m : Machine) (all ts : List Task) (g : Arrivals) (S : State) (ground :
     reader_by : p.mode ≡ Input → phase_of S o ≡ Waiting → (v : OpName) (y : Version) → get S.versions v ≡ Some y
         → Has o (g v) → (b : Bool) → y.produced ≡ b → ⊥
     reader_by input waits v y at has true e =
-        no_reader_waits m all ts g S ground control silent.calm v y at e o has waits
+        no_reader_waits m S facts silent.calm v y at e o has waits
     reader_by input waits v y at has false e =
         let arrival = (control.readers.versions v y at).each o has in
         let same = same_Some arrival.on.operand p (sym arrival.on.there ∙ among) in
@@ -146,7 +148,7 @@ module _ (m : Machine) (all ts : List Task) (g : Arrivals) (S : State) (ground :
         let writer : IsWriterOn ts z.object o =
         record { operand = p; there = among; object = sym object; writer = ap writes inout } in
         elim (cases_order a.task o.task) [
-          | inl same ↦ absurd (only_reads m all ts S ground z.object a o arrival.on writer (sym same))
+          | inl same ↦ absurd (only_reads m S basis z.object a o arrival.on writer (sym same))
           | inr (inl before) ↦
               reader_released z.object object inout a arrival.on before (since arrival.younger)
           | inr (inr later) ↦ absurd (arrival.alone o older later writer)
@@ -160,7 +162,7 @@ module _ (m : Machine) (all ts : List Task) (g : Arrivals) (S : State) (ground :
         → z.successor ≡ Some f → z.object ≡ p.object → q.task < o.task → NoWriterBetween ts z.object q o
         → (b : Bool) → z.produced ≡ b → ⊥
     over_by inout q z f at next object older alone true e =
-        none_released_behind m all ts g S ground control silent.calm q z f at next e
+        none_released_behind m S facts silent.calm q z f at next e
         (readers_before inout q z at object older alone)
     over_by inout q z f at next object older alone false e =
         opener_holds q z at e (writer_released z.object object (λ output. differs inout output) q

@@ -33,6 +33,7 @@ use Rattle.tss_control.specs.Control.{HasGroundwork, IsControlled}
 use Rattle.tss_control.proofs.rounds.Spawned.{of_spawned}
 use Rattle.tss_progress.proofs.progress.CalmStates.{IsCalm}
 use Rattle.tss_progress.proofs.progress.Phases.{HasLetGo}
+use Rattle.tss_control.proofs.rounds.Facts.{Facts}
 
 -- ---- no message
 
@@ -129,8 +130,9 @@ is_finished_stage stage.Queued e = absurd (true≢false (sym e))
 is_finished_stage stage.Running e = absurd (true≢false (sym e))
 is_finished_stage stage.Finished e = refl
 
-module _ (m : Machine) (all ts : List Task) (g : Arrivals) (S : State) (ground : HasGroundwork m all ts S)
-    (control : IsControlled ts g S) (silent : HasNoMessage S) where
+module _ (m : Machine) (S : State) (facts : Facts m S) (silent : HasNoMessage S) where
+  open facts use {ts, ground, control}
+
   -- each phase is still
   still : (o : OpName) → is_still (phase_of S o) ≡ true
   still o =

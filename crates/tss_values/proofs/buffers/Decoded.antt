@@ -23,6 +23,7 @@ use Rattle.tss_control.specs.Readers.{Arrivals}
 use Rattle.tss_control.specs.Control.{HasGroundwork, IsControlled}
 use Rattle.tss_control.proofs.rounds.EntriesNames.{decode_among}
 use Rattle.tss_values.proofs.buffers.Kept.{PassesBuffers, buffers_kept}
+use Rattle.tss_control.proofs.rounds.Facts.{Facts}
 
 home_apart : (b : OpName) → Some Home ≡ Some (Buffer b) → ⊥
 home_apart b e = cc
@@ -33,9 +34,10 @@ same_buffer o b e = cc
 at_most_itself : (a b : ℕ) → a ≡ b → a ≤ b
 at_most_itself a b e = omega (arith, e)
 
-module _ (m : Machine) (all ts : List Task) (g : Arrivals) (S : State) (ground : HasGroundwork m all ts S)
-    (k : IsControlled ts g S) (h : HasBuffers ts S) (o : OpName) (p : Operand)
+module _ (m : Machine) (S : State) (facts : Facts m S) (h : HasBuffers facts.ts S) (o : OpName) (p : Operand)
     (there : get S.mail.decodes o ≡ Some p) where
+  open facts use {basis, ts, ground, control as k}
+
   abbrev Base : State
   Base = decode_message_taken m (without S (event.Decode o)) o (Some p)
 
@@ -110,7 +112,7 @@ module _ (m : Machine) (all ts : List Task) (g : Arrivals) (S : State) (ground :
     own_then : (w b : OpName) → Was w b → Own w b
     own_then w b (inl t) = h.own w b t
     own_then w b (inr q) =
-        let among = decode_among m all ts S ground k.orderly o p there in (
+        let among = decode_among m S basis k.orderly o p there in (
           p,
           p,
           ap (operand_among ts) q.0 ∙ among,
@@ -151,8 +153,9 @@ module _ (m : Machine) (all ts : List Task) (g : Arrivals) (S : State) (ground :
   decoded : HasBuffers ts Base
   decoded = entry_by (get S.entries p.object.base)
 
-module _ (m : Machine) (all ts : List Task) (g : Arrivals) (S : State) (ground : HasGroundwork m all ts S)
-    (k : IsControlled ts g S) (h : HasBuffers ts S) where
+module _ (m : Machine) (S : State) (facts : Facts m S) (h : HasBuffers facts.ts S) where
+  open facts use {ts}
+
   decoded_of : (o : OpName) (p : Option Operand) → get S.mail.decodes o ≡ p
       → HasBuffers ts (decode_message_taken m (without S (event.Decode o)) o p)
   decoded_of o None e = buffers_kept ts S _ h (record {
@@ -161,7 +164,7 @@ module _ (m : Machine) (all ts : List Task) (g : Arrivals) (S : State) (ground :
     gones = λ w b t. inr (inr (inl t));
     copies = λ w b t. inr (inr (inr t));
   }) (λ w b bank t f. f)
-  decoded_of o (Some p) e = decoded m all ts g S ground k h o p e
+  decoded_of o (Some p) e = decoded m S facts h o p e
 
   -- decode
   pub HasBuffers-decode : (o : OpName) → HasBuffers ts (after_event m S (event.Decode o))

@@ -38,6 +38,7 @@ use Rattle.tss_values.proofs.buffers.Quiet.{HasBuffers-quiet, HasBuffers-use, Ha
 use Rattle.tss_values.proofs.buffers.Released.{HasBuffers-release, HasBuffers-nack}
 use Rattle.tss_values.proofs.buffers.Opened.{HasBuffers-open}
 use Rattle.tss_values.proofs.buffers.Decoded.{HasBuffers-decode}
+use Rattle.tss_control.proofs.rounds.Facts.{Facts, facts_of}
 
 -- ---- main
 
@@ -117,28 +118,30 @@ module _ (m : Machine) (ts : List Task) (S : State) (round : IsRounded S ts) (h 
 
 -- ---- all events
 
--- by the event
-pub HasBuffers-after_event : (m : Machine) (all ts : List Task) (g : Arrivals) (S : State) → HasGroundwork m all ts S
-    → IsControlled ts g S → HasBuffers ts S → (e : Event) → IsEnabled m S e
-    → HasBuffers (round_after_event m S ts e) (after_event m S e)
-HasBuffers-after_event m all ts g S ground k h event.Main on = HasBuffers-main m ts S ground.round h on
-HasBuffers-after_event m all ts g S ground k h event.Take on = HasBuffers-quiet m ts S h event.Take tt
-HasBuffers-after_event m all ts g S ground k h (event.Decode o) on = HasBuffers-decode m all ts g S ground k h o
-HasBuffers-after_event m all ts g S ground k h (event.Ack o) on = HasBuffers-quiet m ts S h (event.Ack o) tt
-HasBuffers-after_event m all ts g S ground k h (event.Open o) on = HasBuffers-open m all ts g S ground k h o on
-HasBuffers-after_event m all ts g S ground k h (event.Use o) on = HasBuffers-use m ts S h o
-HasBuffers-after_event m all ts g S ground k h (event.Ready o) on = HasBuffers-quiet m ts S h (event.Ready o) tt
-HasBuffers-after_event m all ts g S ground k h (event.Link o) on = HasBuffers-quiet m ts S h (event.Link o) tt
-HasBuffers-after_event m all ts g S ground k h (event.Start w) on = HasBuffers-quiet m ts S h (event.Start w) tt
-HasBuffers-after_event m all ts g S ground k h (event.Exec w) on = HasBuffers-quiet m ts S h (event.Exec w) tt
-HasBuffers-after_event m all ts g S ground k h (event.Finish w) on = HasBuffers-quiet m ts S h (event.Finish w) tt
-HasBuffers-after_event m all ts g S ground k h (event.Release o) on = HasBuffers-release m all ts g S ground k h o on
-HasBuffers-after_event m all ts g S ground k h (event.Bye o) on = HasBuffers-quiet m ts S h (event.Bye o) tt
-HasBuffers-after_event m all ts g S ground k h (event.Idle v) on = HasBuffers-idle m ts S h v
-HasBuffers-after_event m all ts g S ground k h (event.Nack v) on = HasBuffers-nack m all ts g S ground k h v on
-HasBuffers-after_event m all ts g S ground k h (event.Retire v) on = HasBuffers-retire m ts S h v on
-HasBuffers-after_event m all ts g S ground k h (event.Copy b) on = HasBuffers-copy m ts S h b
-HasBuffers-after_event m all ts g S ground k h (event.Gone v) on = HasBuffers-gone m ts S h all ground.places v on
+module _ (m : Machine) (S : State) (facts : Facts m S) where
+  open facts use {all, ts, ground}
+
+  -- by the event
+  pub HasBuffers-after_event : HasBuffers ts S → (e : Event) → IsEnabled m S e
+      → HasBuffers (round_after_event m S ts e) (after_event m S e)
+  HasBuffers-after_event h event.Main on = HasBuffers-main m ts S ground.round h on
+  HasBuffers-after_event h event.Take on = HasBuffers-quiet m ts S h event.Take tt
+  HasBuffers-after_event h (event.Decode o) on = HasBuffers-decode m S facts h o
+  HasBuffers-after_event h (event.Ack o) on = HasBuffers-quiet m ts S h (event.Ack o) tt
+  HasBuffers-after_event h (event.Open o) on = HasBuffers-open m S facts h o on
+  HasBuffers-after_event h (event.Use o) on = HasBuffers-use m ts S h o
+  HasBuffers-after_event h (event.Ready o) on = HasBuffers-quiet m ts S h (event.Ready o) tt
+  HasBuffers-after_event h (event.Link o) on = HasBuffers-quiet m ts S h (event.Link o) tt
+  HasBuffers-after_event h (event.Start w) on = HasBuffers-quiet m ts S h (event.Start w) tt
+  HasBuffers-after_event h (event.Exec w) on = HasBuffers-quiet m ts S h (event.Exec w) tt
+  HasBuffers-after_event h (event.Finish w) on = HasBuffers-quiet m ts S h (event.Finish w) tt
+  HasBuffers-after_event h (event.Release o) on = HasBuffers-release m S facts h o on
+  HasBuffers-after_event h (event.Bye o) on = HasBuffers-quiet m ts S h (event.Bye o) tt
+  HasBuffers-after_event h (event.Idle v) on = HasBuffers-idle m ts S h v
+  HasBuffers-after_event h (event.Nack v) on = HasBuffers-nack m S facts h v on
+  HasBuffers-after_event h (event.Retire v) on = HasBuffers-retire m ts S h v on
+  HasBuffers-after_event h (event.Copy b) on = HasBuffers-copy m ts S h b
+  HasBuffers-after_event h (event.Gone v) on = HasBuffers-gone m ts S h all ground.places v on
 
 -- the first state has no buffer
 pub HasBuffers-initial_state : (i : ImageState) → HasBuffers [] (initial_state i)
@@ -163,9 +166,9 @@ pub HasBuffers-Run : (m : Machine) (i : ImageState) (es : List Event) (S : State
 HasBuffers-Run m i es S run =
     (ground_of_runs (λ m all ts g S. IsControlled ts g S × HasBuffers ts S)
     (λ m all ts g S e ground h on. (
-      IsControlled-event e (keeps_groups e) m all ts g S ground h.0 on
-          ((keeps_groups e).order m all ts g S ground h.0 on),
-      HasBuffers-after_event m all ts g S ground h.0 h.1 e on,
+      IsControlled-event e (keeps_groups e) m S (facts_of m all ts g S ground h.0) on
+          ((keeps_groups e).order m S (facts_of m all ts g S ground h.0) on),
+      HasBuffers-after_event m S (facts_of m all ts g S ground h.0) h.1 e on,
     ))
     (λ m i. (
       IsControlled-bare (initial_state i) (IsBare-initial_state i) no_arrivals (orderly_at_first i),

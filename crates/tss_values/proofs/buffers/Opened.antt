@@ -31,6 +31,7 @@ use Rattle.tss_control.proofs.chains.Opened.{HasChains-registered}
 use Rattle.tss_control.proofs.readers.Told.{from_changed}
 use Rattle.tss_values.proofs.buffers.Kept.{PassesBuffers, buffers_kept, buffers_settled}
 use Rattle.tss_values.proofs.buffers.Quiet.{ready_nothing}
+use Rattle.tss_control.proofs.rounds.Facts.{Facts}
 
 first_stored : (o : OpName) (c : OpenContents) (mode : Mode)
     → (first_version o c.operand.object c.storage mode).storage ≡ c.storage
@@ -38,8 +39,9 @@ first_stored o c Input = refl
 first_stored o c Output = refl
 first_stored o c Inout = refl
 
-module _ (m : Machine) (all ts : List Task) (g : Arrivals) (S : State) (ground : HasGroundwork m all ts S)
-    (k : IsControlled ts g S) (h : HasBuffers ts S) where
+module _ (m : Machine) (S : State) (facts : Facts m S) (h : HasBuffers facts.ts S) where
+  open facts use {ts, ground, control as k}
+
   module _ (o : OpName) (c : OpenContents) (there : get S.mail.opens o ≡ Some c) where
     abbrev After : Versioned → State
     After d = record S { versions = d.part; mail = posted_all (taken S.mail (event.Open o)) d.sent }
@@ -73,10 +75,10 @@ module _ (m : Machine) (all ts : List Task) (g : Arrivals) (S : State) (ground :
 
     module _ (f : Follow) (to : c.follows ≡ Some f) (u : Version) (at : get S.versions f.version ≡ Some u) where
       abbrev U : State
-      U = registered_state m all ts g S ground k o c there f to u at
+      U = registered_state m S facts o c there f to u at
 
       apart : f.version ≢ o
-      apart = front_apart m all ts g S ground k o c there f to u at
+      apart = front_apart m S facts o c there f to u at
 
       u_version : (w b : OpName) (z : Version) → get (followed S.versions o c f) w ≡ Some z
           → z.storage ≡ Some (Buffer b) → HasBuffer S w b
@@ -107,7 +109,7 @@ module _ (m : Machine) (all ts : List Task) (g : Arrivals) (S : State) (ground :
       u_chains : HasChains ts U
       u_chains =
           HasChains-registered ts S U k.chains o c (following c f)
-          (registers_behind m all ts g S ground k o c there f to u at)
+          (registers_behind m S facts o c there f to u at)
 
       behind : (ms : List Message) → AllSent HoldsNothing ms
           → HasBuffers ts (record S {

@@ -27,13 +27,15 @@ use Rattle.tss_values.proofs.buffers.Settled.{written_storages}
 use Rattle.tss_values.proofs.buffers.Kept.{HasBuffers-same, buffers_settled}
 use Rattle.tss_values.proofs.buffers.Quiet.{ready_nothing}
 use Rattle.tss_control.proofs.readers.Settled.{some_unit}
+use Rattle.tss_control.proofs.rounds.Facts.{Facts}
 
 head_nothing : (v : OpName) (x : Version) (h : Option OpName) → AllSent HoldsNothing (head_ready v x h)
 head_nothing v x None = tt
 head_nothing v x (Some o) = ready_nothing o v x.storage
 
-module _ (m : Machine) (all ts : List Task) (g : Arrivals) (S : State) (ground : HasGroundwork m all ts S)
-    (c : IsControlled ts g S) (h : HasBuffers ts S) where
+module _ (m : Machine) (S : State) (facts : Facts m S) (h : HasBuffers facts.ts S) where
+  open facts use {ts, g, ground, control as c}
+
   -- ---- a version is written and settled
 
   module _ (v : OpName) (x z : Version) (there : get S.versions v ≡ Some x) (like : AreAlike x z)

@@ -29,11 +29,13 @@ use Rattle.tss_values.proofs.Values.{HasReturns, HasHome}
 use Rattle.tss_values.proofs.returns.Copy.{copy_object}
 use Rattle.tss_values.proofs.home.Kept.{decoded_kept}
 use Rattle.tss_values.proofs.home.Beside.{IsInside, SameByte, LeavesHome, one_inside, home_left}
+use Rattle.tss_control.proofs.rounds.Facts.{Facts}
 
-module _ (m : Machine) (i : ImageState) (all ts : List Task) (g : Arrivals) (S : State)
-    (ground : HasGroundwork m all ts S) (k : IsControlled ts g S) (h : HasHome m i ts S) (b : ℕ) (c : CopyState)
-    (there : get S.copies b ≡ Some c) (moved : c.moved ≤ c.object.len)
+module _ (m : Machine) (i : ImageState) (S : State) (facts : Facts m S) (h : HasHome m i facts.ts S) (b : ℕ)
+    (c : CopyState) (there : get S.copies b ≡ Some c) (moved : c.moved ≤ c.object.len)
     (after : AreOrderly (after_event m S (event.Copy b))) where
+  open facts use {basis, ts, ground, control as k}
+
   abbrev T : State
   T = after_event m S (event.Copy b)
 
@@ -59,7 +61,7 @@ module _ (m : Machine) (i : ImageState) (all ts : List Task) (g : Arrivals) (S :
       (λ low high. out (omega (arith, low), omega (arith, high, count, moved)))
 
   operand : (p : Operand) × (operand_among ts c.version ≡ Some p) × (p.object ≡ c.object)
-  operand = operand_of_object ts c.version c.object (copy_object m all ts S ground b c there)
+  operand = operand_of_object ts c.version c.object (copy_object m S basis b c there)
 
   goes_home : (x : Range) → c.object ≡ x → IsGoingHome S x c.version
   goes_home x same = inl (b, c, there, refl, same)
@@ -88,7 +90,7 @@ module _ (m : Machine) (i : ImageState) (all ts : List Task) (g : Arrivals) (S :
           let q = k.entries.operand operand.0.object.base e found in
           by_retiring e found
           (sym q.1.2
-          ∙ one_object m all ts S ground k.orderly e.latest c.version q.1.0 operand.0 q.1.1 operand.1
+          ∙ one_object m S basis k.orderly e.latest c.version q.1.0 operand.0 q.1.1 operand.1
           (ap (λ (x : Range). x.base) q.1.2 ∙ q.0)
           ∙ operand.2)
           e.retiring refl
@@ -110,13 +112,14 @@ module _ (m : Machine) (i : ImageState) (all ts : List Task) (g : Arrivals) (S :
   home_copied : HasHome m i ts T
   home_copied = home_left m i ts S T ground.round leaves h
 
-module _ (m : Machine) (i : ImageState) (all ts : List Task) (g : Arrivals) (S : State)
-    (ground : HasGroundwork m all ts S) (k : IsControlled ts g S) where
+module _ (m : Machine) (i : ImageState) (S : State) (facts : Facts m S) where
+  open facts use {ts}
+
   -- what stands at home after a copy
   pub HasHome-copy : HasReturns m i ts S → HasHome m i ts S → (b : ℕ) → IsEnabled m S (event.Copy b)
       → HasHome m i ts (after_event m S (event.Copy b))
   unfolding is_enabled
   HasHome-copy returns h b on =
       let c = something is_some (get S.copies b) refl on in
-      home_copied m i all ts g S ground k h b c.0 c.1 (returns.within b c.0 c.1)
-      (AreOrderly-controlled m all ts g S ground k (event.Copy b) on)
+      home_copied m i S facts h b c.0 c.1 (returns.within b c.0 c.1)
+      (AreOrderly-controlled m S facts (event.Copy b) on)

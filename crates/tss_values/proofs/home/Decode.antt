@@ -36,25 +36,28 @@ use Rattle.tss_names.proofs.NumberLemmas.{number_within}
 use Rattle.tss_control.proofs.rounds.DecodeFacts.{earlier_decoded}
 use Rattle.tss_control.proofs.rounds.EntriesNames.{decode_among}
 use Rattle.tss_values.proofs.Values.{Starts, bytes_before, IsFirstAhead, HasHome}
+use Rattle.tss_control.proofs.rounds.Facts.{Basis, Facts}
 
 below_or_same : (a b : ℕ) → (b < a) ⊎ (a ≤ b)
 below_or_same a b = grind arith
 
-module _ (m : Machine) (all ts : List Task) (S : State) (ground : HasGroundwork m all ts S) (orderly : AreOrderly S)
-    (o : OpName) (p : Operand) (there : get S.mail.decodes o ≡ Some p) where
+module _ (m : Machine) (S : State) (basis : Basis m S) (orderly : AreOrderly S) (o : OpName) (p : Operand)
+    (there : get S.mail.decodes o ≡ Some p) where
+  open basis use {ts}
+
   -- at its turn, an operand of an older task on its object has been decoded
   older_decoded : HasTurn m.sizes S.mail.decodes o p → (q : OpName)
       (r : Operand) → operand_among ts q ≡ Some r → r.object ≡ p.object → is_decoded (phase_of S q) ≡ false
       → q.task < o.task → ⊥
   older_decoded turn q r at object early older =
-      true≢false (sym (earlier_decoded m all ts S ground orderly o p there turn q r at older
+      true≢false (sym (earlier_decoded m S basis orderly o p there turn q r at older
       (ap (bank_of m.sizes) object)) ∙ early)
 
   -- so it is the first of its object that hasn't
   pub decode_first : HasTurn m.sizes S.mail.decodes o p
       → is_decoded (phase_of S o) ≡ false → IsFirstAhead ts S p.object o p
   decode_first turn early = record {
-    operand = decode_among m all ts S ground orderly o p there;
+    operand = decode_among m S basis orderly o p there;
     object = refl;
     ahead = early;
     first = λ q r at same undecoded. elim (below_or_same o.task q.task) [
@@ -65,10 +68,11 @@ module _ (m : Machine) (all ts : List Task) (S : State) (ground : HasGroundwork 
 
 -- ---- the event
 
-module _ (m : Machine) (i : ImageState) (all ts : List Task) (S : State) (ground : HasGroundwork m all ts S)
-    (orderly : AreOrderly S) (values : HasHome m i ts S) (o : OpName) (p : Operand)
-    (there : get S.mail.decodes o ≡ Some p)
+module _ (m : Machine) (i : ImageState) (S : State) (basis : Basis m S) (orderly : AreOrderly S)
+    (values : HasHome m i basis.ts S) (o : OpName) (p : Operand) (there : get S.mail.decodes o ≡ Some p)
     (turn : HasTurn m.sizes S.mail.decodes o p) where
+  open basis use {ts}
+
   abbrev T : State
   T = after_event m S (event.Decode o)
 
@@ -130,7 +134,7 @@ module _ (m : Machine) (i : ImageState) (all ts : List Task) (S : State) (ground
   was_early = ap is_decoded (decoding_before m S o p there)
 
   among : operand_among ts o ≡ Some p
-  among = decode_among m all ts S ground orderly o p there
+  among = decode_among m S basis orderly o p there
 
   -- the first that isn't decoded of another object is the same
   first_before : (x : Range) (q : OpName) (r : Operand) → x.base ≢ base → IsFirstAhead ts T x q r
@@ -172,17 +176,17 @@ module _ (m : Machine) (i : ImageState) (all ts : List Task) (S : State) (ground
               | inl old ↦ values.opening q c s old first reads starts
               | inr (inl new) ↦
                   subst (λ p. bytes_of S.home p.object ≡ bytes_before s p) (sym new.2)
-                  (values.ahead p.object o p s new.1 (decode_first m all ts S ground orderly o p there turn was_early)
+                  (values.ahead p.object o p s new.1 (decode_first m S basis orderly o p there turn was_early)
                   (subst (λ q. Starts m i q.task s) new.0 starts))
               | inr (inr follows) ↦ absurd (follows first)
             ]);
       }
 
 -- decode
-pub HasHome-decode : (m : Machine) (i : ImageState) (all ts : List Task) (g : Arrivals) (S : State)
-    → HasGroundwork m all ts S → IsControlled ts g S → HasHome m i ts S → (o : OpName)
-    → IsEnabled m S (event.Decode o) → HasHome m i ts (after_event m S (event.Decode o))
+pub HasHome-decode : (m : Machine) (i : ImageState) (S : State) (facts : Facts m S)
+    → HasHome m i facts.ts S → (o : OpName)
+    → IsEnabled m S (event.Decode o) → HasHome m i facts.ts (after_event m S (event.Decode o))
 unfolding is_enabled
-HasHome-decode m i all ts g S ground h values o on =
+HasHome-decode m i S facts values o on =
     let p = something (can_decode_message m S o) (get S.mail.decodes o) refl on in
-    home_decoded m i all ts S ground h.orderly values o p.0 p.1 (decode_in_turn m S o p.0 p.1 on)
+    home_decoded m i S facts.basis facts.control.orderly values o p.0 p.1 (decode_in_turn m S o p.0 p.1 on)

@@ -37,6 +37,7 @@ use Rattle.tss_control.proofs.rounds.EntriesQuiet.{quiet_objects}
 use Rattle.tss_values.proofs.Values.{HasHome}
 use Rattle.tss_control.proofs.holders.KeepsOrder.{AreOrderly-controlled}
 use Rattle.tss_values.proofs.home.Kept.{home_kept, decoded_kept}
+use Rattle.tss_control.proofs.rounds.Facts.{Facts}
 
 -- opens that are under way were so before
 abbrev pub NoMoreOpens : Mail → Mail → Type 0
@@ -141,8 +142,9 @@ module _ (m : Machine) (S : State) where
 
 -- ---- the events
 
-module _ (m : Machine) (i : ImageState) (all ts : List Task) (g : Arrivals) (S : State)
-    (ground : HasGroundwork m all ts S) (h : IsControlled ts g S) (values : HasHome m i ts S) where
+module _ (m : Machine) (i : ImageState) (S : State) (facts : Facts m S) (values : HasHome m i facts.ts S) where
+  open facts use {all, ts, ground, control as h}
+
   -- one behind the gateway
   by_later : (e : Event) → IsEnabled m S e → is_of_front e ≡ false → (after_event m S e).home ≡ S.home
       → (after_event m S e).main ≡ S.main
@@ -155,7 +157,7 @@ module _ (m : Machine) (i : ImageState) (all ts : List Task) (g : Arrivals) (S :
         entries = entries;
         opens = opens;
         decoded = λ o p at.
-            decoded_kept m S e later h.orderly (AreOrderly-controlled m all ts g S ground h e on) o;
+            decoded_kept m S e later h.orderly (AreOrderly-controlled m S facts e on) o;
       }) values
 
   same_entries : (T : State) → T.entries ≡ S.entries → (b : ℕ) → get T.entries b ≡ None → get S.entries b ≡ None

@@ -42,13 +42,16 @@ use Rattle.tss_values.proofs.Values.{Starts, RunsOut, IsGood, bytes_before, byte
 use Rattle.tss_values.proofs.home.Kept.{home_kept, decoded_kept}
 use Rattle.tss_values.proofs.home.Beside.{IsInside}
 use Rattle.tss_values.proofs.UndecodedOperands.{byte_of, there_same, decide_inside, decoded_older}
+use Rattle.tss_control.proofs.rounds.Facts.{Facts}
 
 -- ---- the event
 
-module _ (m : Machine) (i : ImageState) (all ts : List Task) (g : Arrivals) (S : State)
-    (ground : HasGroundwork m all ts S) (k : IsControlled ts g S) (main : HasMain m i all S)
-    (naming : HasNaming m i all ts S) (returns : HasReturns m i ts S) (h : HasHome m i ts S) (v : OpName)
-    (d : GoneContents) (there : get S.mail.gones v ≡ Some d) (after : AreOrderly (after_event m S (event.Gone v))) where
+module _ (m : Machine) (i : ImageState) (S : State) (facts : Facts m S) (main : HasMain m i facts.all S)
+    (naming : HasNaming m i facts.all facts.ts S) (returns : HasReturns m i facts.ts S)
+    (h : HasHome m i facts.ts S) (v : OpName) (d : GoneContents) (there : get S.mail.gones v ≡ Some d)
+    (after : AreOrderly (after_event m S (event.Gone v))) where
+  open facts use {basis, all, ts, ground, control as k}
+
   abbrev T : State
   T = after_event m S (event.Gone v)
 
@@ -74,7 +77,7 @@ module _ (m : Machine) (i : ImageState) (all ts : List Task) (g : Arrivals) (S :
         main = same_main;
         entries = λ b none.
             ap (λ es. get es b)
-            (sym (gone_entries m all ts S ground k.orderly k.chains k.entries v d there false died)) ∙ none;
+            (sym (gone_entries m S basis k.orderly k.chains k.entries v d there false died)) ∙ none;
         opens = λ o c at. ap (λ os. get os o) (sym opens) ∙ at;
         decoded = λ o p at. decoded o;
       }) h
@@ -83,10 +86,10 @@ module _ (m : Machine) (i : ImageState) (all ts : List Task) (g : Arrivals) (S :
 
   module _ (last : d.retired ≡ true) where
     e : GoneEntry ts S v d
-    e = gone_entry m all ts S ground k.orderly k.chains k.entries v d there last
+    e = gone_entry m S basis k.orderly k.chains k.entries v d there last
 
     entries : T.entries ≡ remove S.entries d.object.base
-    entries = gone_entries m all ts S ground k.orderly k.chains k.entries v d there true last
+    entries = gone_entries m S basis k.orderly k.chains k.entries v d there true last
 
     v_decoded : is_decoded (phase_of S v) ≡ true
     v_decoded = name_decoded m all S ground.numbers k.orderly v (ground.names.mail.gones v d there).0.0
@@ -115,7 +118,7 @@ module _ (m : Machine) (i : ImageState) (all ts : List Task) (g : Arrivals) (S :
     own_object : (o : OpName) (p : Operand) → operand_among ts o ≡ Some p → p.object.base ≡ d.object.base
         → e.operand.object ≡ p.object
     own_object o p among same =
-        one_object m all ts S ground k.orderly v o e.operand p e.among among
+        one_object m S basis k.orderly v o e.operand p e.among among
         (ap (λ (x : Range). x.base) e.on ∙ sym same)
 
     -- the next operand on it finds it
@@ -123,11 +126,11 @@ module _ (m : Machine) (i : ImageState) (all ts : List Task) (g : Arrivals) (S :
         → p.object.base ≡ d.object.base → Starts m i o.task s → bytes_of S.home p.object ≡ bytes_before s p
     next_ahead o p s first base starts =
         let same = own_object o p first.operand base in
-        let less = decoded_older m all ts S ground k.orderly v o e.operand p e.among first.operand same v_decoded
+        let less = decoded_older m S basis k.orderly v o e.operand p e.among first.operand same v_decoded
         first.ahead in
         let none : NoWriterBetween ts p.object v o = λ w behind before writer.
         none_between w behind before writer (is_decoded (phase_of S w)) refl in
-        let f = finds_left m i all ts S ground main naming v o e.operand p s e.among
+        let f = finds_left m i S basis main naming v o e.operand p s e.among
         (record { operand = first.operand; starts = starts }) same less none in
         ap (bytes_of S.home) (sym same ∙ e.on) ∙ left_home f.0 f.1 f.2 ∙ f.3
       where
@@ -182,7 +185,7 @@ module _ (m : Machine) (i : ImageState) (all ts : List Task) (g : Arrivals) (S :
       last_beside a inside each =
           let on = subst (λ x. IsInside x a) (sym e.on) inside in
           let loaded = object_loaded i all ts ground.known placed v e.operand a e.among on in
-          let there = found_last m i all ts S ground main naming v e.operand started.0 e.among same
+          let there = found_last m i S basis main naming v e.operand started.0 e.among same
           (λ w behind before writer.
           let inside_w = subst (λ x. IsInside x a) (sym writer.object) on in
           let late = latest w (subst (λ x. IsWriterOn ts x w) e.on writer)
@@ -250,8 +253,9 @@ module _ (m : Machine) (i : ImageState) (all ts : List Task) (g : Arrivals) (S :
   home_by false died bytes placed own = home_died died
   home_by true last bytes placed own = home_retired last (bytes, (placed, own))
 
-module _ (m : Machine) (i : ImageState) (all ts : List Task) (g : Arrivals) (S : State)
-    (ground : HasGroundwork m all ts S) (k : IsControlled ts g S) where
+module _ (m : Machine) (i : ImageState) (S : State) (facts : Facts m S) where
+  open facts use {all, ts}
+
   -- what stands at home after a gone
   pub HasHome-gone : HasMain m i all S → HasNaming m i all ts S → HasReturns m i ts S → HasHome m i ts S
       → HasBytes i S.home → HavePlacedObjects i all → EndsItself S.main → (v : OpName)
@@ -259,5 +263,5 @@ module _ (m : Machine) (i : ImageState) (all ts : List Task) (g : Arrivals) (S :
   unfolding is_enabled
   HasHome-gone main naming returns h bytes placed own v on =
       let d = something is_some (get S.mail.gones v) refl on in
-      home_by m i all ts g S ground k main naming returns h v d.0 d.1
-      (AreOrderly-controlled m all ts g S ground k (event.Gone v) on) d.0.retired refl bytes placed own
+      home_by m i S facts main naming returns h v d.0 d.1
+      (AreOrderly-controlled m S facts (event.Gone v) on) d.0.retired refl bytes placed own

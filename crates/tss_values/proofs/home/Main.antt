@@ -51,13 +51,15 @@ use Rattle.tss_values.proofs.returns.Main.{main_at_home}
 use Rattle.tss_values.proofs.home.Beside.{IsInside, operand_named, one_inside, bytes_same}
 use Rattle.tss_values.proofs.UndecodedOperands.{undecoded}
 use Rattle.tss_values.proofs.RoundSteps.{RoundGrows, RoundGoesOn, round_goes_on, drained_inbox, covers_inside, cut_off_apart}
+use Rattle.tss_control.proofs.rounds.Facts.{Facts}
 
 -- ---- the event
 
-module _ (m : Machine) (i : ImageState) (all ts : List Task) (g : Arrivals) (S : State)
-    (ground : HasGroundwork m all ts S) (k : IsControlled ts g S) (code : HasGround i S)
-    (few : NoneAfter S.main.spawned S.main.pieces) (h : HasHome m i ts S) (main : HasMain m i all S)
+module _ (m : Machine) (i : ImageState) (S : State) (facts : Facts m S) (code : HasGround i S)
+    (few : NoneAfter S.main.spawned S.main.pieces) (h : HasHome m i facts.ts S) (main : HasMain m i facts.all S)
     (on : IsEnabled m S event.Main) (own : EndsItself S.main) where
+  open facts use {basis, all, ts, ground, control as k}
+
   abbrev T : State
   T = after_event m S event.Main
 
@@ -89,7 +91,7 @@ module _ (m : Machine) (i : ImageState) (all ts : List Task) (g : Arrivals) (S :
 
   module _ (same : S.main ≡ (flat_beside i m.limits S.main).main) where
     follows : FollowsAfter m i S T
-    follows = follows_main m i S code goes_on (follows_home m i all ts g S ground code few h main same) few
+    follows = follows_main m i S code goes_on (follows_home m i S basis code few h main same) few
 
     -- a task that program order starts next isn't one that the inbox had
     started_new : (z : Started) → started_next m i S ≡ Some z → z.task.number ≡ suc S.main.spawned
@@ -135,7 +137,7 @@ module _ (m : Machine) (i : ImageState) (all ts : List Task) (g : Arrivals) (S :
 
       by : (b : Bool) → is_decoded (phase_of S o) ≡ b → is_decoded (phase_of S o) ≡ true
       by true e = e
-      by false e = elim (undecoded m all ts S ground k.orderly o p at e) [
+      by false e = elim (undecoded m S basis k.orderly o p at e) [
         | inl waits ↦ absurd (true≢false (sym waits ∙ ap (λ b. is_in_inbox b o.task) empty))
         | inr sent ↦ absurd (none-some p (sym (bare.decodes o) ∙ sent))
       ]
@@ -263,7 +265,7 @@ module _ (m : Machine) (i : ImageState) (all ts : List Task) (g : Arrivals) (S :
           → bytes_of T.home p.object ≡ bytes_before s p
       by (inl same) = by_next same (started_next m i S) refl
       by (inr cut) =
-          absurd (none_later m i all ts g S ground code few h main cut o.task (omega (arith, new, r.number)) s starts)
+          absurd (none_later m i S basis code few h main cut o.task (omega (arith, new, r.number)) s starts)
 
   ahead_by : (o : OpName) (p : Operand) (s : Started) → IsFirstAhead us T p.object o p
       → get T.entries p.object.base ≡ None → Starts m i o.task s → RoundGoesOn ts us S T

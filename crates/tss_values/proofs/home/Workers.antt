@@ -23,9 +23,12 @@ use Rattle.tss_values.proofs.Values.{HasWorkers, HasHome}
 use Rattle.tss_values.proofs.home.Beside.{home_left}
 use Rattle.tss_values.proofs.home.Kept.{decoded_kept}
 use Rattle.tss_values.proofs.workers.Unseen.{LeavesAway, away_start, away_exec}
+use Rattle.tss_control.proofs.rounds.Facts.{Facts}
+use Rattle.tss_values.proofs.WorkerFacts.{WorkerFacts}
 
-module _ (m : Machine) (i : ImageState) (all ts : List Task) (g : Arrivals) (S : State)
-    (ground : HasGroundwork m all ts S) (control : IsControlled ts g S) (h : HasHome m i ts S) where
+module _ (m : Machine) (i : ImageState) (S : State) (work : WorkerFacts m i S) (h : HasHome m i work.ts S) where
+  open work use {facts, ts, ground, control}
+
   -- where the stores leave what is away from workers, so is what stands at home
   home_away : (e : Event) → IsEnabled m S e → is_of_front e ≡ false → (after_event m S e).main ≡ S.main
       → (after_event m S e).entries ≡ S.entries → SameObjects S (after_event m S e)
@@ -36,22 +39,21 @@ module _ (m : Machine) (i : ImageState) (all ts : List Task) (g : Arrivals) (S :
         entries = λ b none. ap (λ (x : Numbered Entry). get x b) (sym entries) ∙ none;
         opens = λ o c at. ap (λ (x : Named OpenContents). get x o) (sym same.opens) ∙ at;
         decoded = λ o p at.
-            decoded_kept m S e later control.orderly (AreOrderly-controlled m all ts g S ground control e on) o;
+            decoded_kept m S e later control.orderly (AreOrderly-controlled m S facts e on) o;
         loose = away.loose;
         opening = away.opening;
       }) h
 
-  module _ (buffers : HasBuffers ts S) (image : HasGround i S) (workers : HasWorkers m i S) where
-    -- after a start
-    pub HasHome-start : (w : ℕ) → IsEnabled m S (event.Start w) → HasHome m i ts (after_event m S (event.Start w))
-    HasHome-start w on =
-        let e = event.Start w in
-        home_away e on refl (λ j. (Leaves-after_event m S e j).main) (λ j. (Leaves-after_event m S e j).entries)
-        (quiet_objects m S e tt) (away_start m i all ts g S ground control buffers image workers w)
+  -- after a start
+  pub HasHome-start : (w : ℕ) → IsEnabled m S (event.Start w) → HasHome m i ts (after_event m S (event.Start w))
+  HasHome-start w on =
+      let e = event.Start w in
+      home_away e on refl (λ j. (Leaves-after_event m S e j).main) (λ j. (Leaves-after_event m S e j).entries)
+      (quiet_objects m S e tt) (away_start m i S work w)
 
-    -- and after a stretch
-    pub HasHome-exec : (w : ℕ) → IsEnabled m S (event.Exec w) → HasHome m i ts (after_event m S (event.Exec w))
-    HasHome-exec w on =
-        let e = event.Exec w in
-        home_away e on refl (λ j. (Leaves-after_event m S e j).main) (λ j. (Leaves-after_event m S e j).entries)
-        (quiet_objects m S e tt) (away_exec m i all ts g S ground control buffers image workers w)
+  -- and after a stretch
+  pub HasHome-exec : (w : ℕ) → IsEnabled m S (event.Exec w) → HasHome m i ts (after_event m S (event.Exec w))
+  HasHome-exec w on =
+      let e = event.Exec w in
+      home_away e on refl (λ j. (Leaves-after_event m S e j).main) (λ j. (Leaves-after_event m S e j).entries)
+      (quiet_objects m S e tt) (away_exec m i S work w)

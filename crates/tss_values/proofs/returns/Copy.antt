@@ -34,10 +34,13 @@ use Rattle.tss_program_order.proofs.StoreFrames.{copy-beside, copy-moved}
 use Rattle.tss_control.proofs.rounds.EntriesNames.{operand_of_object, one_object}
 use Rattle.tss_values.proofs.Values.{IsKnown, IsGood, bytes_after, HasReturns}
 use Rattle.tss_values.proofs.returns.Returns.{SameAtHome, same_at_home, place_inside}
+use Rattle.tss_control.proofs.rounds.Facts.{Basis, Facts}
 
 -- ---- objects of the round
 
-module _ (m : Machine) (all ts : List Task) (S : State) (ground : HasGroundwork m all ts S) where
+module _ (m : Machine) (S : State) (basis : Basis m S) where
+  open basis use {ts, ground}
+
   -- an object of the round has been named
   pub object_named : (o : OpName) (x : Range) → object_in ts o ≡ Some x → IsIn x S.main.epoch
   object_named o x e =
@@ -66,8 +69,9 @@ module _ (m : Machine) (all ts : List Task) (S : State) (ground : HasGroundwork 
 
 -- ---- an object goes home once
 
-module _ (m : Machine) (all ts : List Task) (g : Arrivals) (S : State) (ground : HasGroundwork m all ts S)
-    (k : IsControlled ts g S) where
+module _ (m : Machine) (S : State) (facts : Facts m S) where
+  open facts use {basis, ts, control as k}
+
   -- of two versions of one object that go home both are its latest
   pub one_going : (x : Range) (v w : OpName) → object_in ts v ≡ Some x → IsGoingHome S x v → IsGoingHome S x w → v ≡ w
   one_going x v w named a b = by_entry (get S.entries p.0.object.base) refl
@@ -93,7 +97,7 @@ module _ (m : Machine) (all ts : List Task) (g : Arrivals) (S : State) (ground :
           let q = k.entries.operand p.0.object.base e at in
           by_retiring e at
           (sym q.1.2
-          ∙ one_object m all ts S ground k.orderly e.latest v q.1.0 p.0 q.1.1 p.1
+          ∙ one_object m S basis k.orderly e.latest v q.1.0 p.0 q.1.1 p.1
           (ap (λ (x : Range). x.base) q.1.2 ∙ q.0)
           ∙ p.2)
           e.retiring refl
@@ -109,9 +113,11 @@ whole_piece n moved e h = grind (arith, nat_tests)
 piece_within : (n moved : ℕ) → moved ≤ n → moved + min 64 (n - moved) ≤ n
 piece_within n moved h = grind (arith, nat_tests)
 
-module _ (m : Machine) (i : ImageState) (all ts : List Task) (g : Arrivals) (S : State)
-    (ground : HasGroundwork m all ts S) (k : IsControlled ts g S) (h : HasReturns m i ts S) (b : ℕ) (c : CopyState)
-    (there : get S.copies b ≡ Some c) (room : c.object.len ≤ length (buffer_bytes S.contents c.buffer)) where
+module _ (m : Machine) (i : ImageState) (S : State) (facts : Facts m S) (h : HasReturns m i facts.ts S) (b : ℕ)
+    (c : CopyState) (there : get S.copies b ≡ Some c)
+    (room : c.object.len ≤ length (buffer_bytes S.contents c.buffer)) where
+  open facts use {basis, ts, ground}
+
   abbrev T : State
   T = after_event m S (event.Copy b)
 
@@ -135,14 +141,14 @@ module _ (m : Machine) (i : ImageState) (all ts : List Task) (g : Arrivals) (S :
       ap (λ x. (after_copy S b x).mail.gones) there ∙ ap (λ last. (posted_all S.mail (sent_by_copy c last)).gones) is
 
   named : IsIn c.object S.main.epoch
-  named = object_named m all ts S ground c.version c.object (copy_object m all ts S ground b c there)
+  named = object_named m S basis c.version c.object (copy_object m S basis b c there)
 
   -- another object is left
   pub beside : (x : Range) → IsIn x S.main.epoch → x ≢ c.object → SameAtHome S T x
   beside x also apart a inside =
       ap (λ m. byte_at m a) home
       ∙ copy-beside S.home c bytes a (h.within b c there)
-      (objects_apart m all ts S ground x c.object also named apart a inside)
+      (objects_apart m S basis x c.object also named apart a inside)
 
   -- its own bytes come home
   comes : (n : ℕ) → n < c.moved + piece_len c → byte_at T.home (c.object.base + n) ≡ slice_index bytes n
@@ -153,7 +159,7 @@ module _ (m : Machine) (i : ImageState) (all ts : List Task) (g : Arrivals) (S :
   -- another copy
   other_copy : (q : ℕ) (d : CopyState) → q ≢ b → get S.copies q ≡ Some d → SameAtHome S T d.object
   other_copy q d apart at =
-      beside d.object (object_named m all ts S ground d.version d.object (copy_object m all ts S ground q d at))
+      beside d.object (object_named m S basis d.version d.object (copy_object m S basis q d at))
       (λ same. apart (sym (ground.places.copied q d at).1 ∙ ap (bank_of m.sizes) same
       ∙ (ground.places.copied b c there).1))
 
@@ -161,9 +167,9 @@ module _ (m : Machine) (i : ImageState) (all ts : List Task) (g : Arrivals) (S :
   other_gone : (w : OpName) (d : GoneContents) → get S.mail.gones w ≡ Some d → d.retired ≡ true
       → SameAtHome S T d.object
   other_gone w d at last =
-      let named_d = gone_object m all ts S ground w d at in
-      beside d.object (object_named m all ts S ground w d.object named_d) (λ same.
-      let one = one_going m all ts g S ground k d.object w c.version named_d (inr (d, at, last, refl))
+      let named_d = gone_object m S basis w d at in
+      beside d.object (object_named m S basis w d.object named_d) (λ same.
+      let one = one_going m S facts d.object w c.version named_d (inr (d, at, last, refl))
       (inl (b, c, there, refl, sym same)) in
       (ground.places.gones w d at).1 (b, c, there, sym one))
 
@@ -266,8 +272,9 @@ module _ (m : Machine) (i : ImageState) (all ts : List Task) (g : Arrivals) (S :
   returns_by true is = returns_last is
   returns_by false is = returns_more is
 
-module _ (m : Machine) (i : ImageState) (all ts : List Task) (g : Arrivals) (S : State)
-    (ground : HasGroundwork m all ts S) (k : IsControlled ts g S) where
+module _ (m : Machine) (i : ImageState) (S : State) (facts : Facts m S) where
+  open facts use {ts}
+
   -- what is brought home after a copy, where the buffers that are copied have room for their objects
   pub HasReturns-copy : ((bank : ℕ) (c : CopyState) → get S.copies bank ≡ Some c
       → c.object.len ≤ length (buffer_bytes S.contents c.buffer)) → HasReturns m i ts S → (b : ℕ)
@@ -275,4 +282,4 @@ module _ (m : Machine) (i : ImageState) (all ts : List Task) (g : Arrivals) (S :
   unfolding is_enabled
   HasReturns-copy room h b on =
       let c = something is_some (get S.copies b) refl on in
-      returns_by m i all ts g S ground k h b c.0 c.1 (room b c.0 c.1) (is_last_piece c.0) refl
+      returns_by m i S facts h b c.0 c.1 (room b c.0 c.1) (is_last_piece c.0) refl

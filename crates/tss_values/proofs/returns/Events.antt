@@ -25,14 +25,16 @@ use Rattle.tss_values.proofs.ValuesRetire.{HasReturns-retire}
 use Rattle.tss_values.proofs.ValuesGone.{HasReturns-gone}
 use Rattle.tss_values.proofs.returns.Copy.{HasReturns-copy, copy_object}
 use Rattle.tss_values.proofs.returns.Main.{HasReturns-main}
+use Rattle.tss_control.proofs.rounds.Facts.{Facts}
 
-module _ (m : Machine) (i : ImageState) (all ts : List Task) (g : Arrivals) (S : State)
-    (ground : HasGroundwork m all ts S) (k : IsControlled ts g S) where
+module _ (m : Machine) (i : ImageState) (S : State) (facts : Facts m S) where
+  open facts use {basis, all, ts, ground}
+
   -- a buffer that is copied has room for its object
   pub copied_room : HaveFitObjects m.limits all → HasRoom m ts S → (bank : ℕ) (c : CopyState)
       → get S.copies bank ≡ Some c → c.object.len ≤ length (buffer_bytes S.contents c.buffer)
   copied_room fit room bank c at =
-      let p = operand_of_object ts c.version c.object (copy_object m all ts S ground bank c at) in
+      let p = operand_of_object ts c.version c.object (copy_object m S basis bank c at) in
       let o = ground.known.operands c.version p.0 p.1 in
       let small = (fit c.version.task o.task o.spawned c.version.place p.0 o.place).1 in
       let roomy = room.copies bank c at in
@@ -50,7 +52,7 @@ module _ (m : Machine) (i : ImageState) (all ts : List Task) (g : Arrivals) (S :
     -- what is brought home after such an event
     pub HasReturns-beside : (e : Event) → IsBesideWorkers e → IsEnabled m S e
         → HasReturns m i (round_after_event m S ts e) (after_event m S e)
-    HasReturns-beside event.Main q on = HasReturns-main m i all ts S ground h
+    HasReturns-beside event.Main q on = HasReturns-main m i S basis h
     HasReturns-beside event.Take q on =
         returns_kept m i ts S (after_event m S event.Take) (returns_left m S event.Take tt) h
     HasReturns-beside (event.Decode o) q on =
@@ -77,9 +79,9 @@ module _ (m : Machine) (i : ImageState) (all ts : List Task) (g : Arrivals) (S :
         returns_kept m i ts S (after_event m S (event.Idle v)) (returns_left m S (event.Idle v) tt) h
     HasReturns-beside (event.Nack v) q on =
         returns_kept m i ts S (after_event m S (event.Nack v)) (returns_left m S (event.Nack v) tt) h
-    HasReturns-beside (event.Retire v) q on = HasReturns-retire m i all ts g S ground k stored h v on
-    HasReturns-beside (event.Copy b) q on = HasReturns-copy m i all ts g S ground k (copied_room fit room) h b on
-    HasReturns-beside (event.Gone v) q on = HasReturns-gone m i all ts S ground buffers h v on
+    HasReturns-beside (event.Retire v) q on = HasReturns-retire m i S facts stored h v on
+    HasReturns-beside (event.Copy b) q on = HasReturns-copy m i S facts (copied_room fit room) h b on
+    HasReturns-beside (event.Gone v) q on = HasReturns-gone m i S basis buffers h v on
 
 -- in the first state nothing comes home
 pub HasReturns-initial_state : (m : Machine) (i : ImageState) (ts : List Task) → HasReturns m i ts (initial_state i)

@@ -31,6 +31,7 @@ use Rattle.tss_control.proofs.rounds.EntriesNames.{operand_of_object}
 use Rattle.tss_values.proofs.Values.{IsKnown, HasReturns}
 use Rattle.tss_values.proofs.returns.Returns.{SameAtHome, KeepsReturns, returns_kept}
 use Rattle.tss_values.proofs.returns.Copy.{object_named, copy_object, gone_object}
+use Rattle.tss_control.proofs.rounds.Facts.{Basis}
 
 -- ---- named objects
 
@@ -71,7 +72,9 @@ known_by_call ts v p q before Barrier d e = absurd (none-some p e)
 known_by_call ts v p q before Print d e = e
 known_by_call ts v p q before (Unknown n) d e = e
 
-module _ (m : Machine) (i : ImageState) (all ts : List Task) (S : State) (ground : HasGroundwork m all ts S) where
+module _ (m : Machine) (i : ImageState) (S : State) (basis : Basis m S) where
+  open basis use {ts}
+
   abbrev T : State
   T = after_event m S event.Main
 
@@ -96,13 +99,13 @@ module _ (m : Machine) (i : ImageState) (all ts : List Task) (S : State) (ground
               old,
               λ j. buffer_bytes (left j).contents c.buffer,
               main_at_home m S c.object
-                  (object_named m all ts S ground c.version c.object (copy_object m all ts S ground bank c old)),
+                  (object_named m S basis c.version c.object (copy_object m S basis bank c old)),
             );
         gones = λ v g at last.
             let old = ap (λ m. get m v) (sym (λ j. (left j).mail.gones)) ∙ at in (
               old,
               main_at_home m S g.object
-                  (object_named m all ts S ground v g.object (gone_object m all ts S ground v g old)),
+                  (object_named m S basis v g.object (gone_object m S basis v g old)),
             );
       }
 
@@ -115,11 +118,11 @@ module _ (m : Machine) (i : ImageState) (all ts : List Task) (S : State) (ground
         copied = λ bank c p s at known good.
             let old = ap (λ m. get m bank) (sym (λ j. (left j).copies)) ∙ at in
             r.copied bank c p s at
-            (known_before_main c.version c.object (copy_object m all ts S ground bank c old) p s known) good;
+            (known_before_main c.version c.object (copy_object m S basis bank c old) p s known) good;
         within = r.within;
         moved = r.moved;
         gone = λ v g p s at last known good.
             let old = ap (λ m. get m v) (sym (λ j. (left j).mail.gones)) ∙ at in
             r.gone v g p s at last
-            (known_before_main v g.object (gone_object m all ts S ground v g old) p s known) good;
+            (known_before_main v g.object (gone_object m S basis v g old) p s known) good;
       }

@@ -20,8 +20,12 @@ use Rattle.tss_values.proofs.Values.{HasWorkers, HasReturns}
 use Rattle.tss_values.proofs.returns.Copy.{copy_object, gone_object}
 use Rattle.tss_values.proofs.returns.Returns.{KeepsReturns, returns_kept}
 use Rattle.tss_values.proofs.workers.Unseen.{LeavesAway, away_start, away_exec}
+use Rattle.tss_control.proofs.rounds.Facts.{Basis, Facts}
+use Rattle.tss_values.proofs.WorkerFacts.{WorkerFacts}
 
-module _ (m : Machine) (all ts : List Task) (S : State) (ground : HasGroundwork m all ts S) where
+module _ (m : Machine) (S : State) (basis : Basis m S) where
+  open basis use {ts}
+
   -- where the stores leave what is away from workers, what is brought home is left
   returns_away : (T : State) → SameObjects S T → LeavesAway ts S (stores_of T) → KeepsReturns S T
   returns_away T same away = record {
@@ -31,7 +35,7 @@ module _ (m : Machine) (all ts : List Task) (S : State) (ground : HasGroundwork 
           away.copies bank c old,
           λ a inside.
               ap (λ (o : Option ℕ). unwrap_or o 0)
-              (away.going c.object c.version (copy_object m all ts S ground bank c old)
+              (away.going c.object c.version (copy_object m S basis bank c old)
               (inl (bank, c, old, refl, refl)) a
               inside),
         );
@@ -40,26 +44,25 @@ module _ (m : Machine) (all ts : List Task) (S : State) (ground : HasGroundwork 
           old,
           λ a inside.
               ap (λ (o : Option ℕ). unwrap_or o 0)
-              (away.going g.object v (gone_object m all ts S ground v g old) (inr (g, old, last, refl)) a inside),
+              (away.going g.object v (gone_object m S basis v g old) (inr (g, old, last, refl)) a inside),
         );
   }
 
-module _ (m : Machine) (i : ImageState) (all ts : List Task) (g : Arrivals) (S : State)
-    (ground : HasGroundwork m all ts S) (control : IsControlled ts g S) (buffers : HasBuffers ts S)
-    (image : HasGround i S) (workers : HasWorkers m i S)
-    (h : HasReturns m i ts S) where
+module _ (m : Machine) (i : ImageState) (S : State) (work : WorkerFacts m i S) (h : HasReturns m i work.ts S) where
+  open work use {basis, ts}
+
   -- after a start
   pub HasReturns-start : (w : ℕ) → HasReturns m i ts (after_event m S (event.Start w))
   HasReturns-start w =
       let T = after_event m S (event.Start w) in
       returns_kept m i ts S T
-      (returns_away m all ts S ground T (quiet_objects m S (event.Start w) tt)
-      (away_start m i all ts g S ground control buffers image workers w)) h
+      (returns_away m S basis T (quiet_objects m S (event.Start w) tt)
+      (away_start m i S work w)) h
 
   -- and after a stretch
   pub HasReturns-exec : (w : ℕ) → HasReturns m i ts (after_event m S (event.Exec w))
   HasReturns-exec w =
       let T = after_event m S (event.Exec w) in
       returns_kept m i ts S T
-      (returns_away m all ts S ground T (quiet_objects m S (event.Exec w) tt)
-      (away_exec m i all ts g S ground control buffers image workers w)) h
+      (returns_away m S basis T (quiet_objects m S (event.Exec w) tt)
+      (away_exec m i S work w)) h

@@ -50,14 +50,16 @@ use Rattle.tss_values.proofs.room.Versions.{roomy_used, roomy_released, roomy_na
 use Rattle.tss_values.proofs.room.Stores.{space_started, space_made, size_executed, bytes_beside_gone}
 use Rattle.tss_values.proofs.room.Begun.{BegunIn, BeginsNone, begins_same, begins-ready, begins-link, begins-bye, begins-finish, begins-take}
 use Rattle.tss_values.proofs.room.Start.{begun_late, produced_set, place_of, queued_storage}
+use Rattle.tss_control.proofs.rounds.Facts.{Facts}
 
-module _ (m : Machine) (all ts : List Task) (g : Arrivals) (S : State) (ground : HasGroundwork m all ts S)
-    (control : IsControlled ts g S) (room : HasRoom m ts S) where
+module _ (m : Machine) (S : State) (facts : Facts m S) (room : HasRoom m facts.ts S) where
+  open facts use {all, ts, g, ground, control}
+
   -- the buffers of versions that are set or produced have room
   roomy_now : AreRoomy (IsSet ts S) (IsRoomy m S) S.versions
   roomy_now v x e b at (inl set) = room.versions v x b e at set
   roomy_now v x e b at (inr made) =
-      room.versions v x b e at (produced_set m all ts g S ground control v x e made)
+      room.versions v x b e at (produced_set m S facts v x e made)
 
   -- ---- frames
 
@@ -273,7 +275,7 @@ module _ (m : Machine) (all ts : List Task) (g : Arrivals) (S : State) (ground :
       let r = releases_facts ts g S ground.round control.orderly control.holders o c e in
       let own = subst (λ w. IsOwnOrRead g o w c.version) (sym r.producer ∙ produces) r.own in
       subst (IsSet ts S) (sym own)
-      (inr (begun_late m all ts g S ground control o r.operand r.among (ap is_late r.phase)))
+      (inr (begun_late m S facts o r.operand r.among (ap is_late r.phase)))
 
   released : (o : OpName) (x : Option ReleaseContents) → get S.mail.releases o ≡ x
       → AreRoomy (IsSet ts S) (IsRoomy m S) (release_message_taken (without S (event.Release o)) o x).versions
@@ -423,8 +425,8 @@ module _ (m : Machine) (all ts : List Task) (g : Arrivals) (S : State) (ground :
     output_made v y p b there among stored own Output is =
         let here = ap (get S.flight) own ∙ flies in
         space_made m.limits (stores_of S) (operands_of x.task) (storages_of x) v.place p b
-        (place_of m all ts g S ground control v p x among here)
-        (queued_storage m all ts g S ground control v y p b x there among is stored here queued) (ap reads is)
+        (place_of m S facts v p x among here)
+        (queued_storage m S facts v y p b x there among is stored here queued) (ap reads is)
     output_made v y p b there among stored own Inout is =
         long_started b (room.versions v y b there stored (inl (p, among, ap reads is)))
 

@@ -26,6 +26,7 @@ use Rattle.tss_control.specs.Holders.{IsOwnOrRead, IsTrue}
 use Rattle.tss_control.specs.Control.{HasGroundwork, IsControlled}
 use Rattle.tss_values.proofs.Values.{HasBegun, IsSet}
 use Rattle.tss_names.proofs.UnreadyTasks.{unready}
+use Rattle.tss_control.proofs.rounds.Facts.{Facts}
 
 -- an element of a mapped list
 from_mapped : {X Y : Type 0} (f : X → Y) (o : Option X) (y : Y) → option_map f o ≡ Some y → (x : X) × (o ≡ Some x)
@@ -44,8 +45,9 @@ parted_late Leaving e = refl
 parted_late Promised e = absurd (cc)
 parted_late Left e = refl
 
-module _ (m : Machine) (all ts : List Task) (g : Arrivals) (S : State) (ground : HasGroundwork m all ts S)
-    (control : IsControlled ts g S) where
+module _ (m : Machine) (S : State) (facts : Facts m S) where
+  open facts use {ts, g, ground, control}
+
   -- ---- records
 
   -- the operand of a name in its task, where that is in flight

@@ -21,6 +21,7 @@ use Rattle.tss_program_order.proofs.StoreFrames.{IsElsewhere}
 use Rattle.tss_control.proofs.entries.OfVersions.{entry_of_version}
 use Rattle.tss_values.proofs.storages.Homes.{not_going_home}
 use Rattle.tss_values.proofs.storages.Shares.{HoldsStorage, version_not_copied}
+use Rattle.tss_control.proofs.rounds.Facts.{Facts, facts_of}
 
 module _ (ts : List Task) (g : Arrivals) (S : State) (round : IsRounded S ts) (h : IsControlled ts g S)
     (buffers : HasBuffers ts S) (o : OpName) (p : Operand) (s : Source) (k : HoldsStorage ts g S o p s)
@@ -32,6 +33,9 @@ module _ (ts : List Task) (g : Arrivals) (S : State) (round : IsRounded S ts) (h
   own_there = ap (get S.versions) (sym own) ∙ k.told.there
 
   module _ (m : Machine) (all : List Task) (ground : HasGroundwork m all ts S) where
+    abbrev facts : Facts m S
+    facts = facts_of m all ts g S ground h
+
     -- it doesn't write the buffer of a copy
     pub copy_elsewhere : (bank : ℕ) (c : CopyState) → get S.copies bank ≡ Some c → (a : ℕ)
         → IsElsewhere p.object s.storage (Buffer c.buffer) a
@@ -51,12 +55,12 @@ module _ (ts : List Task) (g : Arrivals) (S : State) (round : IsRounded S ts) (h
     -- an object without an entry isn't the writer's
     pub no_entry_apart : (x : Range) → get S.entries x.base ≡ None → x ≢ p.object
     no_entry_apart x none same =
-        let e = entry_of_version m all ts g S ground h o k.told.version own_there in
+        let e = entry_of_version m S facts o k.told.version own_there in
         none-some e.entry
         (sym none ∙ ap (λ (x : Range). get S.entries x.base) (same ∙ sym k.told.object) ∙ e.there)
 
     -- nor is one that is copied home, or whose last version is gone
     pub going_apart : (x : Range) (v : OpName) → IsGoingHome S x v → x ≢ p.object
     going_apart x v going same =
-        not_going_home m all ts g S ground h o k.told.version own_there v
+        not_going_home m S facts o k.told.version own_there v
         (subst (λ x. IsGoingHome S x v) (same ∙ sym k.told.object) going)

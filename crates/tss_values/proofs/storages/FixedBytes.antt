@@ -38,6 +38,8 @@ use Rattle.tss_program_order.proofs.StoreFrames.{IsBeside, exec_stretch-left, ou
 use Rattle.tss_values.proofs.Values.{HasWorkers, HasReturns}
 use Rattle.tss_values.proofs.workers.Runs.{worker_separate}
 use Rattle.tss_values.proofs.storages.FixedOutputs.{HasOutputs}
+use Rattle.tss_control.proofs.rounds.Facts.{Facts}
+use Rattle.tss_values.proofs.WorkerFacts.{WorkerFacts}
 
 -- ---- operands of spawned tasks
 
@@ -116,10 +118,11 @@ HasFixed i S = (a : ℕ) → IsFixed i a → byte_at S.home a ≡ byte_at (loade
 pub HasFixed-initial_state : (i : ImageState) → HasFixed i (initial_state i)
 HasFixed-initial_state i a fixed = refl
 
-module _ (m : Machine) (i : ImageState) (accepted : IsAccepted i) (all ts : List Task) (g : Arrivals) (S : State)
-    (ground : HasGroundwork m all ts S) (control : IsControlled ts g S) (buffers : HasBuffers ts S)
-    (image : HasGround i S) (workers : HasWorkers m i S) (returns : HasReturns m i ts S)
-    (fit : HaveFitOperands m.limits (memory_ranges i) all) (outputs : HasOutputs ts S) where
+module _ (m : Machine) (i : ImageState) (accepted : IsAccepted i) (S : State) (work : WorkerFacts m i S)
+    (returns : HasReturns m i work.ts S) (fit : HaveFitOperands m.limits (memory_ranges i) work.all)
+    (outputs : HasOutputs work.ts S) where
+  open work use {buffers, image, workers, all, ts, ground}
+
   -- a written object has no fixed address
   written_unfixed : (a : ℕ) → IsFixed i a → (o : Operand) → IsFit m.limits (memory_ranges i) o → writes o.mode ≡ true
       → covers o.object a ≡ false
@@ -161,7 +164,7 @@ module _ (m : Machine) (i : ImageState) (accepted : IsAccepted i) (all ts : List
   same-exec a fixed w (Some b) e =
       let busy = ground.stages.workers w b e in
       exec_stretch-left S.code m.limits m.sizes.quantum b (stores_of S) (fixed.0) Home a
-      (worker_separate m i all ts g S ground control buffers image workers w b e) busy.storages
+      (worker_separate m i S work w b e) busy.storages
       (fixed_beside a fixed b.task.number b.task busy.task b.storages)
 
   same-start : (a : ℕ) → IsFixed i a → (w : ℕ) (queue : List ℕ) → S.queue ≡ queue

@@ -31,6 +31,7 @@ use Rattle.tss_control.specs.Members.{operand_among}
 use Rattle.tss_control.specs.Control.{HasGroundwork}
 use Rattle.tss_control.proofs.rounds.Spawned.{operand_among-more}
 use Rattle.tss_control.proofs.rounds.EntriesNames.{decode_among}
+use Rattle.tss_control.proofs.rounds.Facts.{Basis}
 
 -- it is an output of the round
 abbrev pub IsOutputIn : List Task → OpName → Type 0
@@ -55,8 +56,10 @@ takes_output (Some x) Input e = absurd (cc)
 takes_output (Some x) Output e = refl
 takes_output (Some x) Inout e = absurd (cc)
 
-module _ (m : Machine) (all ts : List Task) (S : State) (ground : HasGroundwork m all ts S) (orderly : AreOrderly S)
-    (outputs : HasOutputs ts S) where
+module _ (m : Machine) (S : State) (basis : Basis m S) (orderly : AreOrderly S)
+    (outputs : HasOutputs basis.ts S) where
+  open basis use {all, ts}
+
   same_outputs : (T : State) → T.buffers ≡ S.buffers → HasOutputs ts T
   same_outputs T same = subst (HoldsOutputs ts) (sym same) outputs
 
@@ -66,7 +69,7 @@ module _ (m : Machine) (all ts : List Task) (S : State) (ground : HasGroundwork 
       → (takes ≡ true → operand.mode ≡ Output) → HoldsOutputs ts (buffers_after_decode S.buffers o bank takes)
   decoded_by o operand bank e true output = λ b k at. elim (from_inserted name_order S.buffers o bank b k at) [
     | inl new ↦
-        subst (IsOutputIn ts) (sym new.0) (operand, decode_among m all ts S ground orderly o operand e, output refl)
+        subst (IsOutputIn ts) (sym new.0) (operand, decode_among m S basis orderly o operand e, output refl)
     | inr old ↦ outputs b k old.1
   ]
   decoded_by o operand bank e false output = outputs

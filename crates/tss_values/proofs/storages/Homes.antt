@@ -9,11 +9,14 @@ use Rattle.tss_control.specs.Entries.{IsGoingHome}
 use Rattle.tss_control.specs.Readers.{Arrivals}
 use Rattle.tss_control.specs.Control.{HasGroundwork, IsControlled}
 use Rattle.tss_control.proofs.entries.OfVersions.{HasEntryOf, entry_of_version}
+use Rattle.tss_control.proofs.rounds.Facts.{Facts}
 
-module _ (m : Machine) (all ts : List Task) (g : Arrivals) (S : State) (ground : HasGroundwork m all ts S)
-    (h : IsControlled ts g S) (v : OpName) (y : Version) (there : get S.versions v ≡ Some y) where
+module _ (m : Machine) (S : State) (facts : Facts m S) (v : OpName) (y : Version)
+    (there : get S.versions v ≡ Some y) where
+  open facts use {control as h}
+
   entry : HasEntryOf S y.object
-  entry = entry_of_version m all ts g S ground h v y there
+  entry = entry_of_version m S facts v y there
 
   by_entry : (w : OpName) → IsGoingHome S entry.entry.object w → (b : Bool) → entry.entry.retiring ≡ b → ⊥
   by_entry w going false live =

@@ -24,40 +24,41 @@ use Rattle.tss_values.proofs.returns.Returns.{same_at_home}
 use Rattle.tss_values.proofs.returns.Copy.{object_named, beside}
 use Rattle.tss_values.proofs.stored.Frames.{stored_each, stored_at, stored_kept}
 use Rattle.tss_values.proofs.stored.Taken.{keeps_phase}
+use Rattle.tss_control.proofs.rounds.Facts.{Facts}
 
-module _ (m : Machine) (i : ImageState) (all ts : List Task) (g : Arrivals) (S : State)
-    (ground : HasGroundwork m all ts S) (k : IsControlled ts g S) (h : HasStored m i ts S) (r : HasReturns m i ts S)
-    (b : ℕ)
-    (room : (c : CopyState) → get S.copies b ≡ Some c → c.object.len ≤ length (buffer_bytes S.contents c.buffer))
-  where
-    abbrev T : State
-    T = after_event m S (event.Copy b)
+module _ (m : Machine) (i : ImageState) (S : State) (facts : Facts m S) (h : HasStored m i facts.ts S)
+    (r : HasReturns m i facts.ts S) (b : ℕ)
+    (room : (c : CopyState) → get S.copies b ≡ Some c → c.object.len ≤ length (buffer_bytes S.contents c.buffer)) where
+  open facts use {basis, ts, control as k}
 
-    -- an object with a version is named, and isn't copied
-    version_named : (v : OpName) (y : Version) → get S.versions v ≡ Some y → IsIn y.object S.main.epoch
-    version_named v y e =
-        let p = k.chains.opener v y e in
-        subst (λ x. IsIn x S.main.epoch) p.2
-        (object_named m all ts S ground v p.0.object (object_of_operand ts v p.0 p.1))
+  abbrev T : State
+  T = after_event m S (event.Copy b)
 
-    copy_content : (c : CopyState) → get S.copies b ≡ Some c → (v : OpName) (y : Version) → get S.versions v ≡ Some y
-        → (st : StorageName) → content T y.object st ≡ content S y.object st
-    copy_content c there v y e Home =
-        same_at_home S T y.object
-        (beside m i all ts g S ground k r b c there (room c there) y.object (version_named v y e)
-        (λ same. not_copied_home m all ts g S ground k v y e b c there (sym same)))
-    copy_content c there v y e (Buffer n) =
-        ap (λ bytes. take y.object.len (buffer_bytes bytes n)) (λ j. (Leaves-after_event m S (event.Copy b) j).contents)
+  -- an object with a version is named, and isn't copied
+  version_named : (v : OpName) (y : Version) → get S.versions v ≡ Some y → IsIn y.object S.main.epoch
+  version_named v y e =
+      let p = k.chains.opener v y e in
+      subst (λ x. IsIn x S.main.epoch) p.2
+      (object_named m S basis v p.0.object (object_of_operand ts v p.0 p.1))
 
-    -- copy
-    pub HasStored-copy : IsEnabled m S (event.Copy b) → HasStored m i ts T
-    unfolding is_enabled
-    HasStored-copy on =
-        let c = something is_some (get S.copies b) refl on in
-        let same = Leaves-after_event m S (event.Copy b) in
-        stored_each m i ts T (λ v y e.
-        let there = sym (λ i. get (same i).versions v) ∙ e in
-        stored_kept m i ts S T v y y
-        (keeps_phase ts S T v y (phase_of-copy m S b v) (λ st at. copy_content c.0 c.1 v y there st)
-        (λ i. (same i).workers))
-        (stored_at m i ts S h v y there))
+  copy_content : (c : CopyState) → get S.copies b ≡ Some c → (v : OpName) (y : Version) → get S.versions v ≡ Some y
+      → (st : StorageName) → content T y.object st ≡ content S y.object st
+  copy_content c there v y e Home =
+      same_at_home S T y.object
+      (beside m i S facts r b c there (room c there) y.object (version_named v y e)
+      (λ same. not_copied_home m S facts v y e b c there (sym same)))
+  copy_content c there v y e (Buffer n) =
+      ap (λ bytes. take y.object.len (buffer_bytes bytes n)) (λ j. (Leaves-after_event m S (event.Copy b) j).contents)
+
+  -- copy
+  pub HasStored-copy : IsEnabled m S (event.Copy b) → HasStored m i ts T
+  unfolding is_enabled
+  HasStored-copy on =
+      let c = something is_some (get S.copies b) refl on in
+      let same = Leaves-after_event m S (event.Copy b) in
+      stored_each m i ts T (λ v y e.
+      let there = sym (λ i. get (same i).versions v) ∙ e in
+      stored_kept m i ts S T v y y
+      (keeps_phase ts S T v y (phase_of-copy m S b v) (λ st at. copy_content c.0 c.1 v y there st)
+      (λ i. (same i).workers))
+      (stored_at m i ts S h v y there))

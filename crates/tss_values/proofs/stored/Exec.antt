@@ -32,6 +32,8 @@ use Rattle.tss_values.proofs.Values.{HasStored, HasWorkers}
 use Rattle.tss_program_order.proofs.StoreViews.{exec_stretch-unseen, buffer_unseen}
 use Rattle.tss_values.proofs.stored.Workers.{stored_beside}
 use Rattle.tss_values.proofs.workers.Runs.{worker_holds, worker_separate}
+use Rattle.tss_control.proofs.rounds.Facts.{Facts}
+use Rattle.tss_values.proofs.WorkerFacts.{WorkerFacts}
 
 -- ---- objects
 
@@ -51,9 +53,9 @@ front_left r xs ys same = by r.len refl
 
 -- ---- exec
 
-module _ (m : Machine) (i : ImageState) (all ts : List Task) (g : Arrivals) (S : State)
-    (ground : HasGroundwork m all ts S) (k : IsControlled ts g S) (buffers : HasBuffers ts S) (image : HasGround i S)
-    (workers : HasWorkers m i S) (h : HasStored m i ts S) where
+module _ (m : Machine) (i : ImageState) (S : State) (work : WorkerFacts m i S) (h : HasStored m i work.ts S) where
+  open work use {facts, buffers, ts, ground}
+
   module _ (w : ℕ) (b : Busy) (busy : get S.workers w ≡ Some b) where
     abbrev T : State
     T = after_event m S (event.Exec w)
@@ -76,12 +78,12 @@ module _ (m : Machine) (i : ImageState) (all ts : List Task) (g : Arrivals) (S :
     left_bytes x Home beside =
         same_bytes (byte_at stretched.memory.home) (byte_at S.home) x.base x.len (λ a low high.
         exec_stretch-left S.code m.limits m.sizes.quantum b (stores_of S) x Home a
-        (worker_separate m i all ts g S ground k buffers image workers w b busy)
+        (worker_separate m i S work w b busy)
         (ground.stages.workers w b busy).storages (beside a (inside_range x a low high)))
     left_bytes x (Buffer q) beside =
         front_left x (buffer_bytes stretched.memory.contents q) (buffer_bytes S.contents q) (λ inside.
         exec_stretch-unseen m.limits (λ (s : Stores). buffer_bytes s.contents q) S.code m.sizes.quantum b (stores_of S)
-        (worker_separate m i all ts g S ground k buffers image workers w b busy)
+        (worker_separate m i S work w b busy)
         (ground.stages.workers w b busy).storages (λ j o storage at told writer.
         buffer_unseen m.limits q o.object storage
         (λ is. (beside x.base inside j o storage at told writer).buffer q is refl)))
@@ -109,8 +111,8 @@ module _ (m : Machine) (i : ImageState) (all ts : List Task) (g : Arrivals) (S :
     stored_stretched : HasStored m i ts T
     stored_stretched =
         let x = ground.stages.workers w b busy in
-        stored_beside m i all ts g S ground k buffers h b.task.number b.task x.task b.storages x.storages
-        (worker_holds m i all ts g S ground k buffers image workers w b busy) T (record {
+        stored_beside m i S facts buffers h b.task.number b.task x.task b.storages x.storages
+        (worker_holds m i S work w b busy) T (record {
           versions = λ j. (Leaves-after_event m S (event.Exec w) j).versions;
           phases = phase_of-exec m S w;
           busy = stays_busy b.task.number (w, b, busy, refl);

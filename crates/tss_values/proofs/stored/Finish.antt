@@ -37,6 +37,7 @@ use Rattle.tss_values.proofs.Values.{content, bytes_after, Starts, HasStored, Ha
 use Rattle.tss_values.proofs.stored.Frames.{IsStored, stored_each, stored_at, KeepsStored, stored_kept}
 use Rattle.tss_values.proofs.workers.Hold.{IsHeld, held_at}
 use Rattle.tss_values.proofs.workers.Apart.{placed_from}
+use Rattle.tss_control.proofs.rounds.Facts.{Facts}
 
 -- a busy worker may finish where its task has ended
 ended_by : (o : Option Busy) (b : Busy) → o ≡ Some b → can_finish o ≡ true → has_ended b ≡ true
@@ -46,159 +47,160 @@ released : (Releasing ≡ Told) ⊎ (Releasing ≡ Ready) → ⊥
 released (inl e) = cc
 released (inr e) = cc
 
-module _ (m : Machine) (i : ImageState) (all ts : List Task) (g : Arrivals) (S : State)
-    (ground : HasGroundwork m all ts S) (k : IsControlled ts g S) (h : HasStored m i ts S) (workers : HasWorkers m i S)
-  where
-    module _ (w : ℕ) (b : Busy) (busy : get S.workers w ≡ Some b) where
-      abbrev T : State
-      T = after_event m S (event.Finish w)
+module _ (m : Machine) (i : ImageState) (S : State) (facts : Facts m S) (h : HasStored m i facts.ts S)
+    (workers : HasWorkers m i S) where
+  open facts use {all, ts, g, ground, control as k}
 
-      abbrev x : Flying
-      x = (workers.told w b busy).0
+  module _ (w : ℕ) (b : Busy) (busy : get S.workers w ≡ Some b) where
+    abbrev T : State
+    T = after_event m S (event.Finish w)
 
-      flying : get S.flight b.task.number ≡ Some x
-      flying = (workers.told w b busy).1
+    abbrev x : Flying
+    x = (workers.told w b busy).0
 
-      its_task : x.task ≡ b.task
-      its_task = (workers.told w b busy).2
+    flying : get S.flight b.task.number ≡ Some x
+    flying = (workers.told w b busy).1
 
-      its_storages : b.storages ≡ storages_of x
-      its_storages = (workers.told w b busy).3
+    its_task : x.task ≡ b.task
+    its_task = (workers.told w b busy).2
 
-      workers_after : T.workers ≡ remove S.workers w
-      unfolding after_event
-      workers_after = ap (λ y. (after_finish S w y).workers) busy
+    its_storages : b.storages ≡ storages_of x
+    its_storages = (workers.told w b busy).3
 
-      -- no byte is written
-      content_same : (y : Version) (st : StorageName) → content T y.object st ≡ content S y.object st
-      content_same y st =
-          let same = Leaves-after_event m S (event.Finish w) in
-          λ j. stored_bytes (record { home = (same j).home; contents = (same j).contents }) y.object st
+    workers_after : T.workers ≡ remove S.workers w
+    unfolding after_event
+    workers_after = ap (λ y. (after_finish S w y).workers) busy
 
-      -- ---- another task's operands
+    -- no byte is written
+    content_same : (y : Version) (st : StorageName) → content T y.object st ≡ content S y.object st
+    content_same y st =
+        let same = Leaves-after_event m S (event.Finish w) in
+        λ j. stored_bytes (record { home = (same j).home; contents = (same j).contents }) y.object st
 
-      -- another task stays on its worker
-      stays : (n : ℕ) → n ≢ b.task.number → IsOnWorker S n → IsOnWorker T n
-      stays n other on = (
-        on.0,
-        on.1,
-        ap (λ ws. get ws on.0) workers_after
-            ∙ beside_removed nat_order S.workers w on.0 (λ same. other (sym on.3
-            ∙ ap (λ (b : Busy). b.task.number)
-            (same_Some on.1 b (sym on.2 ∙ ap (get S.workers) same ∙ busy))))
-            ∙ on.2,
-        on.3,
-      )
+    -- ---- another task's operands
 
-      keeps_other : (v : OpName) (y : Version) → v.task ≢ b.task.number → KeepsStored ts S T v y y
-      keeps_other v y other =
-          let same = phase_of-finish-other m S w b x busy flying v other in
-          record {
-            object = refl;
-            storage = refl;
-            produced = refl;
-            bytes = λ st at. content_same y st;
-            waits = λ st p at among writer told. elim told [
-              | inl e ↦ inl (sym same ∙ e)
-              | inr e ↦ inr (sym same ∙ e)
-            ];
-            idle = λ none on. none (stays v.task other on);
-            lets = λ e. sym same ∙ e;
-          }
+    -- another task stays on its worker
+    stays : (n : ℕ) → n ≢ b.task.number → IsOnWorker S n → IsOnWorker T n
+    stays n other on = (
+      on.0,
+      on.1,
+      ap (λ ws. get ws on.0) workers_after
+          ∙ beside_removed nat_order S.workers w on.0 (λ same. other (sym on.3
+          ∙ ap (λ (b : Busy). b.task.number)
+          (same_Some on.1 b (sym on.2 ∙ ap (get S.workers) same ∙ busy))))
+          ∙ on.2,
+      on.3,
+    )
 
-      -- ---- its own
-
-      complete : is_complete x ≡ true
-      complete = (ground.stages.workers w b busy).ready.complete x flying
-
-      unfinished : x.stage ≡ stage.Finished → ⊥
-      unfinished e =
-          let r = k.holders.runners.running w b busy in
-          let same = same_Some r.0 x (sym r.1 ∙ flying) in
-          running≢finished (sym r.2 ∙ ap (λ (x : Flying). x.stage) same ∙ e)
-
-      module _ (v : OpName) (y : Version) (there : get S.versions v ≡ Some y) (own : v.task ≡ b.task.number)
-          (p : Operand) (among : operand_among ts v ≡ Some p) where
-        -- its place in the task
-        operand : slice_get (operands_of b.task) v.place ≡ Some p
-        operand =
-            let is = ground.known.operands v p among in
-            let one = same_Some is.task b.task
-            (sym is.spawned ∙ ap (task_at all) own ∙ (ground.stages.workers w b busy).task) in
-            ap (λ (t : Task). slice_get (operands_of t) v.place) (sym one) ∙ is.place
-
-        -- and its storage
-        placed : (storage : StorageName) × (slice_get b.storages v.place ≡ Some storage)
-            × IsPlaced (placed_in (operands_of b.task) b.storages) v.place
-            (record { object = p.object; storage = storage })
-        placed =
-            placed_from (operands_of b.task) b.storages (ground.stages.workers w b busy).storages v.place p operand
-
-        held : IsHeld ts g S v.task v.place p placed.0
-        held =
-            subst (λ n. IsHeld ts g S n v.place p placed.0) (sym own)
-            (held_at m all ts g S ground k b.task.number x flying complete unfinished v.place p placed.0
-            (ap (λ (t : Task). slice_get (operands_of t) v.place) its_task ∙ operand)
-            (ap (λ (ss : List StorageName). slice_get ss v.place) (sym its_storages) ∙ placed.1))
-
-        lets_go : phase_of T v ≡ Releasing
-        lets_go = phase_of-finish m S w b x busy flying v own held.ready
-
-        module _ (writer : writes p.mode ≡ true) (ended : has_ended b ≡ true) (s : Started)
-            (starts : Starts m i v.task s) where
-          its_end : HasEnd m i (stores_of S) b s
-          its_end =
-              let r = workers.runs w b s busy (subst (λ n. Starts m i n s) own starts) in
-              subst (HasEnd m i (stores_of S) b) (sym r.1) (runs-end m i (stores_of S) b r.0 ended)
-
-          -- a writer has its own version
-          is_version : held.holds.told.version ≡ y
-          is_version =
-              same_Some held.holds.told.version y (sym held.holds.told.there ∙ ap (get S.versions) held_own ∙ there)
-            where
-              held_own : held.source.version ≡ v
-              held_own = subst (λ c. IsOwnOrRead g v c held.source.version) writer held.holds.told.own
-
-          its_bytes : (st : StorageName) → y.storage ≡ Some st → content S y.object st ≡ bytes_after m i s p
-          its_bytes st at =
-              let object = sym (ap (λ (y : Version). y.object) is_version) ∙ held.holds.told.object in
-              let storage : st ≡ placed.0 =
-              same_Some st placed.0
-              (sym at ∙ sym (ap (λ (y : Version). y.storage) is_version) ∙ held.holds.told.storage
-              ∙ ap Some held.told) in
-              (λ j. content S (object j) (storage j))
-              ∙ its_end.bytes v.place (record { object = p.object; storage = placed.0 }) placed.2
-              ∙ sym (ap (λ c. cond c (bytes_of (end_of_started i m.limits s).memory p.object)
-              (bytes_of s.memory p.object)) writer)
-
-      -- ---- all
-
-      module _ (ended : has_ended b ≡ true) where
-        own_stored : (v : OpName) (y : Version) → get S.versions v ≡ Some y → v.task ≡ b.task.number
-            → IsStored m i ts T v y
-        own_stored v y there own = record {
-          produced = λ st p s made at known good. content_same y st ∙ h.produced v y st p s there made at known good;
-          awaited = λ st p s at known mode waits idle.
-              absurd (released
-              (subst (λ f. (f ≡ Told) ⊎ (f ≡ Ready)) (lets_go v y there own p known.operand) waits));
-          releasing = λ st p s at known writer lets ends.
-              content_same y st ∙ its_bytes v y there own p known.operand writer ended s known.starts st at;
+    keeps_other : (v : OpName) (y : Version) → v.task ≢ b.task.number → KeepsStored ts S T v y y
+    keeps_other v y other =
+        let same = phase_of-finish-other m S w b x busy flying v other in
+        record {
+          object = refl;
+          storage = refl;
+          produced = refl;
+          bytes = λ st at. content_same y st;
+          waits = λ st p at among writer told. elim told [
+            | inl e ↦ inl (sym same ∙ e)
+            | inr e ↦ inr (sym same ∙ e)
+          ];
+          idle = λ none on. none (stays v.task other on);
+          lets = λ e. sym same ∙ e;
         }
 
-        stored_finished : HasStored m i ts T
-        stored_finished =
-            stored_each m i ts T (λ v y e.
-            let there = sym (λ j. get (Leaves-after_event m S (event.Finish w) j).versions v) ∙ e in
-            elim (decide_key nat_order v.task b.task.number) [
-              | inl own ↦ own_stored v y there own
-              | inr other ↦
-                  stored_kept m i ts S T v y y (keeps_other v y other) (stored_at m i ts S h v y there)
-            ])
+    -- ---- its own
 
-    -- finish
-    pub HasStored-finish : (w : ℕ) → IsEnabled m S (event.Finish w)
-        → HasStored m i ts (after_event m S (event.Finish w))
-    unfolding is_enabled
-    HasStored-finish w on =
-        let b = something can_finish (get S.workers w) refl on in
-        stored_finished w b.0 b.1 (ended_by (get S.workers w) b.0 b.1 on)
+    complete : is_complete x ≡ true
+    complete = (ground.stages.workers w b busy).ready.complete x flying
+
+    unfinished : x.stage ≡ stage.Finished → ⊥
+    unfinished e =
+        let r = k.holders.runners.running w b busy in
+        let same = same_Some r.0 x (sym r.1 ∙ flying) in
+        running≢finished (sym r.2 ∙ ap (λ (x : Flying). x.stage) same ∙ e)
+
+    module _ (v : OpName) (y : Version) (there : get S.versions v ≡ Some y) (own : v.task ≡ b.task.number)
+        (p : Operand) (among : operand_among ts v ≡ Some p) where
+      -- its place in the task
+      operand : slice_get (operands_of b.task) v.place ≡ Some p
+      operand =
+          let is = ground.known.operands v p among in
+          let one = same_Some is.task b.task
+          (sym is.spawned ∙ ap (task_at all) own ∙ (ground.stages.workers w b busy).task) in
+          ap (λ (t : Task). slice_get (operands_of t) v.place) (sym one) ∙ is.place
+
+      -- and its storage
+      placed : (storage : StorageName) × (slice_get b.storages v.place ≡ Some storage)
+          × IsPlaced (placed_in (operands_of b.task) b.storages) v.place
+          (record { object = p.object; storage = storage })
+      placed =
+          placed_from (operands_of b.task) b.storages (ground.stages.workers w b busy).storages v.place p operand
+
+      held : IsHeld ts g S v.task v.place p placed.0
+      held =
+          subst (λ n. IsHeld ts g S n v.place p placed.0) (sym own)
+          (held_at m S facts b.task.number x flying complete unfinished v.place p placed.0
+          (ap (λ (t : Task). slice_get (operands_of t) v.place) its_task ∙ operand)
+          (ap (λ (ss : List StorageName). slice_get ss v.place) (sym its_storages) ∙ placed.1))
+
+      lets_go : phase_of T v ≡ Releasing
+      lets_go = phase_of-finish m S w b x busy flying v own held.ready
+
+      module _ (writer : writes p.mode ≡ true) (ended : has_ended b ≡ true) (s : Started)
+          (starts : Starts m i v.task s) where
+        its_end : HasEnd m i (stores_of S) b s
+        its_end =
+            let r = workers.runs w b s busy (subst (λ n. Starts m i n s) own starts) in
+            subst (HasEnd m i (stores_of S) b) (sym r.1) (runs-end m i (stores_of S) b r.0 ended)
+
+        -- a writer has its own version
+        is_version : held.holds.told.version ≡ y
+        is_version =
+            same_Some held.holds.told.version y (sym held.holds.told.there ∙ ap (get S.versions) held_own ∙ there)
+          where
+            held_own : held.source.version ≡ v
+            held_own = subst (λ c. IsOwnOrRead g v c held.source.version) writer held.holds.told.own
+
+        its_bytes : (st : StorageName) → y.storage ≡ Some st → content S y.object st ≡ bytes_after m i s p
+        its_bytes st at =
+            let object = sym (ap (λ (y : Version). y.object) is_version) ∙ held.holds.told.object in
+            let storage : st ≡ placed.0 =
+            same_Some st placed.0
+            (sym at ∙ sym (ap (λ (y : Version). y.storage) is_version) ∙ held.holds.told.storage
+            ∙ ap Some held.told) in
+            (λ j. content S (object j) (storage j))
+            ∙ its_end.bytes v.place (record { object = p.object; storage = placed.0 }) placed.2
+            ∙ sym (ap (λ c. cond c (bytes_of (end_of_started i m.limits s).memory p.object)
+            (bytes_of s.memory p.object)) writer)
+
+    -- ---- all
+
+    module _ (ended : has_ended b ≡ true) where
+      own_stored : (v : OpName) (y : Version) → get S.versions v ≡ Some y → v.task ≡ b.task.number
+          → IsStored m i ts T v y
+      own_stored v y there own = record {
+        produced = λ st p s made at known good. content_same y st ∙ h.produced v y st p s there made at known good;
+        awaited = λ st p s at known mode waits idle.
+            absurd (released
+            (subst (λ f. (f ≡ Told) ⊎ (f ≡ Ready)) (lets_go v y there own p known.operand) waits));
+        releasing = λ st p s at known writer lets ends.
+            content_same y st ∙ its_bytes v y there own p known.operand writer ended s known.starts st at;
+      }
+
+      stored_finished : HasStored m i ts T
+      stored_finished =
+          stored_each m i ts T (λ v y e.
+          let there = sym (λ j. get (Leaves-after_event m S (event.Finish w) j).versions v) ∙ e in
+          elim (decide_key nat_order v.task b.task.number) [
+            | inl own ↦ own_stored v y there own
+            | inr other ↦
+                stored_kept m i ts S T v y y (keeps_other v y other) (stored_at m i ts S h v y there)
+          ])
+
+  -- finish
+  pub HasStored-finish : (w : ℕ) → IsEnabled m S (event.Finish w)
+      → HasStored m i ts (after_event m S (event.Finish w))
+  unfolding is_enabled
+  HasStored-finish w on =
+      let b = something can_finish (get S.workers w) refl on in
+      stored_finished w b.0 b.1 (ended_by (get S.workers w) b.0 b.1 on)

@@ -40,6 +40,7 @@ use Rattle.tss_values.proofs.Values.{content, bytes_before, bytes_after, IsKnown
 use Rattle.tss_values.proofs.stored.Frames.{IsStored, stored_each, stored_at, stored_kept, lets_before}
 use Rattle.tss_values.proofs.stored.Quiet.{LeavesBytes, content_left, keeps_alike}
 use Rattle.tss_values.proofs.stored.Settled.{FindsLeft, SettlesStored, stored_settled, waits_still}
+use Rattle.tss_control.proofs.rounds.Facts.{Facts}
 
 sent_not_releasing : Sent ≡ Releasing → ⊥
 sent_not_releasing e = cc
@@ -53,10 +54,12 @@ input_not_output e = cc
 inout_not_output : Inout ≡ Output → ⊥
 inout_not_output e = cc
 
-module _ (m : Machine) (i : ImageState) (all ts : List Task) (g : Arrivals) (S : State)
-    (ground : HasGroundwork m all ts S) (k : IsControlled ts g S) (h : HasStored m i ts S) (home : HasHome m i ts S)
-    (finds : FindsLeft m i ts) (o : OpName) (on : IsEnabled m S (event.Open o)) (order : KeepsOrder S (event.Open o))
-    (c : OpenContents) (opening : get S.mail.opens o ≡ Some c) where
+module _ (m : Machine) (i : ImageState) (S : State) (facts : Facts m S) (h : HasStored m i facts.ts S)
+    (home : HasHome m i facts.ts S) (finds : FindsLeft m i facts.ts) (o : OpName)
+    (on : IsEnabled m S (event.Open o)) (order : KeepsOrder S (event.Open o)) (c : OpenContents)
+    (opening : get S.mail.opens o ≡ Some c) where
+  open facts use {ts, g, control as k}
+
   abbrev T : State
   T = after_event m S (event.Open o)
 
@@ -145,21 +148,21 @@ module _ (m : Machine) (i : ImageState) (all ts : List Task) (g : Arrivals) (S :
 
   module _ (f : Follow) (to : c.follows ≡ Some f) (u : Version) (there : get S.versions f.version ≡ Some u) where
     abbrev U : State
-    U = registered_state m all ts g S ground k o c opening f to u there
+    U = registered_state m S facts o c opening f to u there
 
     u_chains : HasStored m i ts S → SettlesStored m i ts U T f.version
     u_chains h = record {
       chains =
           HasChains-registered ts S U k.chains o c (following c f)
-          (registers_behind m all ts g S ground k o c opening f to u there);
+          (registers_behind m S facts o c opening f to u there);
       others =
-          others_followed S.versions o c f (front_apart m all ts g S ground k o c opening f to u there)
+          others_followed S.versions o c f (front_apart m S facts o c opening f to u there)
           (λ q y e. k.retirement.settled q y e);
       versions =
           versions
           ∙ ap (λ s. (opened_by S.versions o c s).part) to
-          ∙ part_how m all ts g S ground k o c opening f f.how;
-      each = λ w y z e alike at. elim (opened_from m all ts g S ground k o c opening f to u there w y e) [
+          ∙ part_how m S facts o c opening f f.how;
+      each = λ w y z e alike at. elim (opened_from m S facts o c opening f to u there w y e) [
         | inl new ↦
             subst (λ q. IsStored m i ts T q z) (sym new.0)
             (new_stored z (subst (λ b. HeldAlike b z) new.1 alike))
@@ -174,12 +177,12 @@ module _ (m : Machine) (i : ImageState) (all ts : List Task) (g : Arrivals) (S :
           let is =
           same_Some y (linked_to o f u)
           (sym e
-          ∙ behind_followed S.versions o c f (front_apart m all ts g S ground k o c opening f to u there) u there) in
+          ∙ behind_followed S.versions o c f (front_apart m S facts o c opening f to u there) u there) in
           ap (λ (b : Version). content T b.object st) is
           ∙ content_left S T left u.object st
           ∙ h.produced f.version u st q t there (ap (λ (b : Version). b.produced) (sym is) ∙ made)
           (ap (λ (b : Version). b.storage) (sym is) ∙ at) known good;
-      keeps = λ w y e none off lets. elim (opened_from m all ts g S ground k o c opening f to u there w y e) [
+      keeps = λ w y e none off lets. elim (opened_from m S facts o c opening f to u there w y e) [
         | inl new ↦ not_yet (ap (phase_of T) (sym new.0) ∙ lets)
         | inr (inl front) ↦
             still f.version u there (ap (λ (b : Version). b.storage) (sym front.1) ∙ none)
@@ -216,14 +219,15 @@ module _ (m : Machine) (i : ImageState) (all ts : List Task) (g : Arrivals) (S :
       let u = something is_some (get S.versions f.version) refl follows in
       open_behind f to u.0 u.1
 
-module _ (m : Machine) (i : ImageState) (all ts : List Task) (g : Arrivals) (S : State)
-    (ground : HasGroundwork m all ts S) (k : IsControlled ts g S) (h : HasStored m i ts S) (home : HasHome m i ts S)
-    (finds : FindsLeft m i ts) where
+module _ (m : Machine) (i : ImageState) (S : State) (facts : Facts m S) (h : HasStored m i facts.ts S)
+    (home : HasHome m i facts.ts S) (finds : FindsLeft m i facts.ts) where
+  open facts use {ts}
+
   -- open
   pub HasStored-open : (o : OpName) → IsEnabled m S (event.Open o) → KeepsOrder S (event.Open o)
       → HasStored m i ts (after_event m S (event.Open o))
   unfolding is_enabled
   HasStored-open o on order =
       let c = something (can_open_message S) (get S.mail.opens o) refl on in
-      by_follow m i all ts g S ground k h home finds o on order c.0 c.1 c.0.follows refl
+      by_follow m i S facts h home finds o on order c.0 c.1 c.0.follows refl
       (sym (ap (can_open_message S) c.1) ∙ on)

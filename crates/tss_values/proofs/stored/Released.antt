@@ -33,14 +33,16 @@ use Rattle.tss_values.proofs.Values.{content, bytes_after, IsGood, IsKnown, HasS
 use Rattle.tss_values.proofs.stored.Frames.{IsStored, stored_at, stored_kept, opener_holds, told_before}
 use Rattle.tss_values.proofs.stored.Quiet.{LeavesBytes, content_left, keeps_alike}
 use Rattle.tss_values.proofs.stored.Settled.{FindsLeft, HasStored-settled}
+use Rattle.tss_control.proofs.rounds.Facts.{Facts}
 
 told_not_releasing : (Releasing ≡ Told) ⊎ (Releasing ≡ Ready) → ⊥
 told_not_releasing (inl e) = cc
 told_not_releasing (inr e) = cc
 
-module _ (m : Machine) (i : ImageState) (all ts : List Task) (g : Arrivals) (S : State)
-    (ground : HasGroundwork m all ts S) (k : IsControlled ts g S) (h : HasStored m i ts S)
-    (finds : FindsLeft m i ts) where
+module _ (m : Machine) (i : ImageState) (S : State) (facts : Facts m S) (h : HasStored m i facts.ts S)
+    (finds : FindsLeft m i facts.ts) where
+  open facts use {ts, g, ground, control as k}
+
   -- ---- release
 
   module _ (o : OpName) (on : IsEnabled m S (event.Release o)) (order : KeepsOrder S (event.Release o))

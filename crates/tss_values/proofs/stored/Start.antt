@@ -39,6 +39,7 @@ use Rattle.tss_program_order.proofs.StoreViews.{outputs_zeroed-unseen, buffer_un
 use Rattle.tss_values.proofs.stored.Exec.{inside_range, front_left}
 use Rattle.tss_values.proofs.workers.Apart.{held}
 use Rattle.tss_values.proofs.workers.Finds.{queued_unfinished}
+use Rattle.tss_control.proofs.rounds.Facts.{Facts}
 
 -- ---- objects
 
@@ -56,9 +57,10 @@ left_at_start limits s os ss x (Buffer q) beside =
 
 -- ---- start
 
-module _ (m : Machine) (i : ImageState) (all ts : List Task) (g : Arrivals) (S : State)
-    (ground : HasGroundwork m all ts S) (k : IsControlled ts g S) (buffers : HasBuffers ts S)
-    (h : HasStored m i ts S) where
+module _ (m : Machine) (i : ImageState) (S : State) (facts : Facts m S) (buffers : HasBuffers facts.ts S)
+    (h : HasStored m i facts.ts S) where
+  open facts use {all, ts, ground, control as k}
+
   module _ (w n : ℕ) (rest : List ℕ) (queue : S.queue ≡ n ∷ rest) (x : Flying) (flies : get S.flight n ≡ Some x)
       (on : can_start m.sizes.workers w (get S.workers w) (n ∷ rest) ≡ true) where
     abbrev T : State
@@ -81,7 +83,7 @@ module _ (m : Machine) (i : ImageState) (all ts : List Task) (g : Arrivals) (S :
     complete = (ground.stages.queue n (ap (in_queue n) queue ∙ at_front n rest)).complete x flies
 
     unfinished : x.stage ≡ stage.Finished → ⊥
-    unfinished = queued_unfinished m i all ts g S ground k buffers n x flies complete queued
+    unfinished = queued_unfinished m i S facts buffers n x flies complete queued
 
     workers_after : T.workers ≡ insert S.workers w (busy_at_start x)
     workers_after = λ j. (state j).workers
@@ -109,8 +111,8 @@ module _ (m : Machine) (i : ImageState) (all ts : List Task) (g : Arrivals) (S :
     stored_started : HasStored m i ts T
     stored_started =
         let f = ground.numbers.flight n x flies in
-        stored_beside m i all ts g S ground k buffers h n x.task f.task (storages_of x) (length-storages all S n x f)
-        (held m all ts g S ground k buffers n x flies complete unfinished) T (record {
+        stored_beside m i S facts buffers h n x.task f.task (storages_of x) (length-storages all S n x f)
+        (held m S facts buffers n x flies complete unfinished) T (record {
           versions = λ j. (Leaves-after_event m S (event.Start w) j).versions;
           phases = phase_of-start m S w;
           busy = starts_there;

@@ -26,6 +26,7 @@ use Rattle.tss_control.specs.Control.{HasGroundwork}
 use Rattle.tss_values.proofs.Values.{content, HasStored}
 use Rattle.tss_values.proofs.stored.Frames.{stored_each, stored_at, KeepsStored, stored_kept}
 use Rattle.tss_values.proofs.stored.Quiet.{LeavesBytes, content_left}
+use Rattle.tss_control.proofs.rounds.Facts.{Basis}
 
 -- a version that is left, with its bytes and the phase of its opener
 pub keeps_phase : (ts : List Task) (S T : State) (v : OpName) (y : Version) → phase_of T v ≡ phase_of S v
@@ -44,8 +45,9 @@ keeps_phase ts S T v y same bytes workers = record {
   lets = λ e. sym same ∙ e;
 }
 
-module _ (m : Machine) (i : ImageState) (all ts : List Task) (g : Arrivals) (S : State)
-    (ground : HasGroundwork m all ts S) (h : HasStored m i ts S) where
+module _ (m : Machine) (i : ImageState) (S : State) (basis : Basis m S) (h : HasStored m i basis.ts S) where
+  open basis use {ts, ground}
+
   -- ---- take
 
   too_late : (n spawned : ℕ) → 1 ≤ n → n ≤ spawned - 1 → n ≡ spawned → ⊥

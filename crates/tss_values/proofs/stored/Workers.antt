@@ -28,23 +28,25 @@ use Rattle.tss_values.proofs.Values.{content, HasStored}
 use Rattle.tss_values.proofs.stored.Frames.{IsStored, stored_each, stored_at, KeepsStored, stored_kept}
 use Rattle.tss_values.proofs.workers.Hold.{IsHeld, writes_beside}
 use Rattle.tss_values.proofs.workers.Apart.{placed_from}
+use Rattle.tss_control.proofs.rounds.Facts.{Facts}
 
 ready_releasing : Ready ≡ Releasing → ⊥
 ready_releasing e = cc
 
-module _ (m : Machine) (i : ImageState) (all ts : List Task) (g : Arrivals) (S : State)
-    (ground : HasGroundwork m all ts S) (k : IsControlled ts g S) (buffers : HasBuffers ts S) (h : HasStored m i ts S)
-    (n : ℕ) (t : Task) (spawned : task_at all n ≡ Some t) (ss : List StorageName)
-    (count : length ss ≡ length (operands_of t))
+module _ (m : Machine) (i : ImageState) (S : State) (facts : Facts m S) (buffers : HasBuffers facts.ts S)
+    (h : HasStored m i facts.ts S) (n : ℕ) (t : Task) (spawned : task_at facts.all n ≡ Some t)
+    (ss : List StorageName) (count : length ss ≡ length (operands_of t))
     (holds : (j : ℕ) (p : Operand) (storage : StorageName) → slice_get (operands_of t) j ≡ Some p
-    → slice_get ss j ≡ Some storage → IsHeld ts g S n j p storage) where
+    → slice_get ss j ≡ Some storage → IsHeld facts.ts facts.g S n j p storage) where
+  open facts use {all, ts, g, ground, control as k}
+
   -- what the task writes lies beside a version of another task, and one of its own that it doesn't write
   version_beside : (v : OpName) (y : Version) (st : StorageName) (p : Operand) → operand_among ts v ≡ Some p
       → get S.versions v ≡ Some y → y.storage ≡ Some st → (v.task ≢ n) ⊎ (writes p.mode ≡ false) → (a : ℕ)
       → covers y.object a ≡ true → IsBeside (operands_of t) ss st a
   version_beside v y st p among there stored way a inside j o storage at told writer =
       subst (λ s. IsElsewhere o.object s st a) held.told
-      (writes_beside m all ts g S ground k buffers (operand_name n j) o held.source held.holds writer v y st there
+      (writes_beside m S facts buffers (operand_name n j) o held.source held.holds writer v y st there
       stored (λ same. apart same way) a inside)
     where
       held : IsHeld ts g S n j o storage

@@ -30,6 +30,7 @@ use Rattle.tss_program_order.proofs.StoreStart.{placed_in-parts}
 use Rattle.tss_program_order.proofs.StoreFrames.{IsElsewhere, IsBeside}
 use Rattle.tss_maps.proofs.Places.{find_there}
 use Rattle.tss_values.proofs.workers.Hold.{IsHeld, held_at, one_object, writes_beside, holds_other}
+use Rattle.tss_control.proofs.rounds.Facts.{Facts}
 
 -- an operand with its storage stands at its place
 pub placed_from : (os : List Operand) (ss : List StorageName) → length ss ≡ length os → (k : ℕ) (o : Operand)
@@ -83,14 +84,15 @@ module _ (os : List Operand) (ss : List StorageName) (count : length ss ≡ leng
 same_place : (n j k : ℕ) → operand_name n j ≡ operand_name n k → j ≡ k
 same_place n j k e = ap (λ (o : OpName). o.place) e
 
-module _ (m : Machine) (all ts : List Task) (g : Arrivals) (S : State) (ground : HasGroundwork m all ts S)
-    (control : IsControlled ts g S) (buffers : HasBuffers ts S) where
+module _ (m : Machine) (S : State) (facts : Facts m S) (buffers : HasBuffers facts.ts S) where
+  open facts use {ts, g, ground, control}
+
   module _ (n : ℕ) (x : Flying) (flying : get S.flight n ≡ Some x) (complete : is_complete x ≡ true)
       (unfinished : x.stage ≡ stage.Finished → ⊥) where
     -- what it holds
     pub held : (k : ℕ) (p : Operand) (storage : StorageName) → slice_get (operands_of x.task) k ≡ Some p
         → slice_get (storages_of x) k ≡ Some storage → IsHeld ts g S n k p storage
-    held = held_at m all ts g S ground control n x flying complete unfinished
+    held = held_at m S facts n x flying complete unfinished
 
     -- its operands are apart
     pub task_separate : AreSeparate (placed_in (operands_of x.task) (storages_of x))
@@ -100,7 +102,7 @@ module _ (m : Machine) (all ts : List Task) (g : Arrivals) (S : State) (ground :
           let b_ = placed_in-parts (operands_of x.task) (storages_of x) k q f in
           let h = held j a_.0 p.storage a_.1 a_.2 in
           let l = held k b_.0 q.storage b_.1 b_.2 in
-          let same = one_object m all ts g S ground control (operand_name n j) (operand_name n k) a_.0 b_.0 a
+          let same = one_object m S facts (operand_name n j) (operand_name n k) a_.0 b_.0 a
           h.holds.among l.holds.among (ap (λ (r : Range). covers r a) a_.3 ∙ inside)
           (ap (λ (r : Range). covers r a) b_.3 ∙ also) in
           same_place n j k (ground.known.single (operand_name n j) (operand_name n k) a_.0 b_.0 h.holds.among
@@ -127,7 +129,7 @@ module _ (m : Machine) (all ts : List Task) (g : Arrivals) (S : State) (ground :
     task_beside v y other there stored apart a inside k o storage at told writer =
         let h = held k o storage at told in
         subst (λ s. IsElsewhere o.object s other a) h.told
-        (writes_beside m all ts g S ground control buffers (operand_name n k) o h.source h.holds writer v y other there
+        (writes_beside m S facts buffers (operand_name n k) o h.source h.holds writer v y other there
         stored (λ same. apart (ap (λ (o : OpName). o.task) same)) a inside)
 
     -- so it lies beside what another operand holds
@@ -136,8 +138,8 @@ module _ (m : Machine) (all ts : List Task) (g : Arrivals) (S : State) (ground :
     holder_beside q r t l apart a inside k o storage at told writer =
         let h = held k o storage at told in
         subst (λ s. IsElsewhere o.object s t.storage a) h.told
-        (writes_beside m all ts g S ground control buffers (operand_name n k) o h.source h.holds writer t.version
+        (writes_beside m S facts buffers (operand_name n k) o h.source h.holds writer t.version
         l.told.version t.storage l.told.there l.told.storage
-        (holds_other m all ts g S ground control buffers (operand_name n k) o h.source h.holds writer q r t l
+        (holds_other m S facts buffers (operand_name n k) o h.source h.holds writer q r t l
         (λ same. apart (ap (λ (o : OpName). o.task) same))) a
         (ap (λ (x : Range). covers x a) l.told.object ∙ inside))

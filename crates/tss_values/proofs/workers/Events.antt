@@ -25,22 +25,24 @@ use Rattle.tss_values.proofs.workers.Runs.{SameFixed, AllRun, runs_same}
 use Rattle.tss_values.proofs.workers.Kept.{runs_exec}
 use Rattle.tss_values.proofs.workers.Beside.{runs_main, runs_copy, runs_gone}
 use Rattle.tss_values.proofs.workers.Start.{runs_start}
+use Rattle.tss_control.proofs.rounds.Facts.{Facts}
+use Rattle.tss_values.proofs.WorkerFacts.{WorkerFacts}
 
-module _ (m : Machine) (i : ImageState) (all ts : List Task) (g : Arrivals) (S : State)
-    (ground : HasGroundwork m all ts S)
-    (control : IsControlled ts g S) (buffers : HasBuffers ts S) (image : HasGround i S) (accepted : IsAccepted i)
-    (fixed : HasFixed i S) (same : (e : Event) → SameFixed i S (after_event m S e)) (finds : FindsLeft m i ts)
-    (values : HasValues m i all ts S) where
+module _ (m : Machine) (i : ImageState) (S : State) (work : WorkerFacts m i S) (accepted : IsAccepted i)
+    (fixed : HasFixed i S) (same : (e : Event) → SameFixed i S (after_event m S e)) (finds : FindsLeft m i work.ts)
+    (values : HasValues m i work.all work.ts S) where
+  open work use {facts, workers}
+
   -- the stores are the same, and no worker begins
   runs_still : (T : State) → T.home ≡ S.home → T.contents ≡ S.contents → T.workers ≡ S.workers → AllRun m i T
   runs_still T home contents same =
-      runs_same m i all ts g S ground control buffers image values.workers T home contents
+      runs_same m i S work T home contents
       (λ w b there. ap (λ (ws : Numbered Busy). get ws w) (sym same) ∙ there)
 
   finish_by : (w : ℕ) (b : Option Busy) → AllRun m i (after_finish S w b)
   finish_by w None = runs_still S refl refl refl
   finish_by w (Some b) =
-      runs_same m i all ts g S ground control buffers image values.workers (after_finish S w (Some b)) refl refl
+      runs_same m i S work (after_finish S w (Some b)) refl refl
       (λ u c there. (from_removed nat_order S.workers w u c there).1)
 
   runs_finish : (w : ℕ) → AllRun m i (after_event m S (event.Finish w))
@@ -49,7 +51,7 @@ module _ (m : Machine) (i : ImageState) (all ts : List Task) (g : Arrivals) (S :
 
   runs_event : (e : Event) → AllRun m i (after_event m S e)
   runs_event event.Main =
-      runs_main m i all ts g S ground control buffers image values.workers (same event.Main)
+      runs_main m i S work (same event.Main)
   runs_event event.Take =
       runs_still (after_event m S event.Take) (λ j. (Leaves-after_event m S event.Take j).home)
       (λ j. (Leaves-after_event m S event.Take j).contents) (λ j. (Leaves-after_event m S event.Take j).workers)
@@ -74,10 +76,10 @@ module _ (m : Machine) (i : ImageState) (all ts : List Task) (g : Arrivals) (S :
       runs_still (after_event m S (event.Link o)) (λ j. (Leaves-after_event m S (event.Link o) j).home)
       (λ j. (Leaves-after_event m S (event.Link o) j).contents) (λ j. (Leaves-after_event m S (event.Link o) j).workers)
   runs_event (event.Start w) =
-      runs_start m i all ts g S ground control buffers image values.workers accepted fixed values.stored values.room
+      runs_start m i S work accepted fixed values.stored values.room
       finds values.main w (same (event.Start w))
   runs_event (event.Exec w) =
-      runs_exec m i all ts g S ground control buffers image values.workers w (same (event.Exec w))
+      runs_exec m i S work w (same (event.Exec w))
   runs_event (event.Finish w) = runs_finish w
   runs_event (event.Release o) =
       runs_still (after_event m S (event.Release o)) (λ j. (Leaves-after_event m S (event.Release o) j).home)
@@ -97,20 +99,20 @@ module _ (m : Machine) (i : ImageState) (all ts : List Task) (g : Arrivals) (S :
       (λ j. (Leaves-after_event m S (event.Retire v) j).contents)
       (λ j. (Leaves-after_event m S (event.Retire v) j).workers)
   runs_event (event.Copy b) =
-      runs_copy m i all ts g S ground control buffers image values.workers values.returns b (same (event.Copy b))
-  runs_event (event.Gone v) = runs_gone m i all ts g S ground control buffers image values.workers v
+      runs_copy m i S work values.returns b (same (event.Copy b))
+  runs_event (event.Gone v) = runs_gone m i S work v
 
   -- what they were told
   told_before : AreTold (standing_of S)
   told_before w b there =
-      let t = values.workers.told w b there in
+      let t = workers.told w b there in
       record { flying = t.0; there = t.1; task = t.2; storages = t.3 }
 
   -- each event keeps it
   pub HasWorkers-after_event : (e : Event) → IsEnabled m S e → HasWorkers m i (after_event m S e)
   HasWorkers-after_event e on = record {
     told = λ w b there.
-        let t = told_after_event m all ts g S e ground control on told_before w b there in
+        let t = told_after_event m S facts e on told_before w b there in
         (t.flying, t.there, t.task, t.storages);
     runs = λ w b s there starts. runs_event e w b there s starts;
   }

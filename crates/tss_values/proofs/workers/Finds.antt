@@ -37,6 +37,7 @@ use Rattle.tss_values.proofs.stored.Settled.{FindsLeft}
 use Rattle.tss_values.proofs.Values.{Starts, IsKnown, IsGood, IsSet, bytes_before, bytes_after, content, HasStored, HasRoom}
 use Rattle.tss_values.proofs.workers.Hold.{IsHeld}
 use Rattle.tss_values.proofs.workers.Apart.{held}
+use Rattle.tss_control.proofs.rounds.Facts.{Facts}
 
 -- ---- bytes one by one
 
@@ -61,10 +62,11 @@ byte_stored s x (Buffer n) m same a inside =
 
 -- ---- a queued task
 
-module _ (m : Machine) (i : ImageState) (all ts : List Task) (g : Arrivals) (S : State)
-    (ground : HasGroundwork m all ts S)
-    (control : IsControlled ts g S) (buffers : HasBuffers ts S) (n : ℕ) (x : Flying) (flies : get S.flight n ≡ Some x)
-    (complete : is_complete x ≡ true) (queued : x.stage ≡ stage.Queued) where
+module _ (m : Machine) (i : ImageState) (S : State) (facts : Facts m S) (buffers : HasBuffers facts.ts S)
+    (n : ℕ) (x : Flying) (flies : get S.flight n ≡ Some x) (complete : is_complete x ≡ true)
+    (queued : x.stage ≡ stage.Queued) where
+  open facts use {ts, g, control}
+
   -- it isn't on a worker
   pub queued_idle : IsOnWorker S n → ⊥
   queued_idle w =
@@ -80,7 +82,7 @@ module _ (m : Machine) (i : ImageState) (all ts : List Task) (g : Arrivals) (S :
       (told : slice_get (storages_of x) k ≡ Some storage) where
     -- what its operand holds
     abbrev holding : IsHeld ts g S n k p storage
-    holding = held m all ts g S ground control buffers n x flies complete queued_unfinished k p storage at told
+    holding = held m S facts buffers n x flies complete queued_unfinished k p storage at told
 
     abbrev version : OpName
     version = holding.source.version
@@ -108,7 +110,7 @@ module _ (m : Machine) (i : ImageState) (all ts : List Task) (g : Arrivals) (S :
 
     module _ (room : HasRoom m ts S) where
       is_set : (mode : Mode) → p.mode ≡ mode → reads mode ≡ true → IsSet ts S version
-      is_set Input e read = produced_set m all ts g S ground control version state there (made (ap writes e))
+      is_set Input e read = produced_set m S facts version state there (made (ap writes e))
       is_set Output e read = absurd (true≢false (sym read))
       is_set Inout e read =
           inl (p, ap (operand_among ts) (own_written (ap writes e)) ∙ holding.holds.among, ap reads e)

@@ -35,6 +35,7 @@ use Rattle.tss_program_order.proofs.FlatNames.{covers-meet}
 use Rattle.tss_control.proofs.rounds.RoundTasks.{among_tasks}
 use Rattle.tss_values.proofs.storages.Shares.{HoldsStorage, record_holds, one_buffer, one_version, reads_produced, writes_open}
 use Rattle.tss_program_order.proofs.StoreFrames.{IsElsewhere}
+use Rattle.tss_control.proofs.rounds.Facts.{Facts}
 
 -- an operand of a task, with what it was told
 pub record IsHeld (ts : List Task) (g : Arrivals) (S : State) (n k : ℕ) (p : Operand) (storage : StorageName)
@@ -50,8 +51,9 @@ mapped_from : {X Y : Type 0} (f : X → Y) (o : Option X) (y : Y) → option_map
 mapped_from f None y e = absurd (none-some y e)
 mapped_from f (Some x) y e = (x, refl, same_Some (f x) y e)
 
-module _ (m : Machine) (all ts : List Task) (g : Arrivals) (S : State) (ground : HasGroundwork m all ts S)
-    (control : IsControlled ts g S) where
+module _ (m : Machine) (S : State) (facts : Facts m S) where
+  open facts use {all, ts, g, ground, control}
+
   -- ---- operands of a task that has all it needs, and hasn't finished
 
   module _ (n : ℕ) (x : Flying) (flying : get S.flight n ≡ Some x) (complete : is_complete x ≡ true)

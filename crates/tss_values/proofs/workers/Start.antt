@@ -46,6 +46,8 @@ use Rattle.tss_values.proofs.workers.Apart.{placed_from, task_separate}
 use Rattle.tss_values.proofs.workers.Beside.{leaves_started}
 use Rattle.tss_values.proofs.workers.Finds.{byte_stored, queued_unfinished, finds_room, finds_value}
 use Rattle.tss_values.proofs.workers.Runs.{SameFixed, RunsAt, AllRun, runs_with, runs_left}
+use Rattle.tss_control.proofs.rounds.Facts.{Facts}
+use Rattle.tss_values.proofs.WorkerFacts.{WorkerFacts}
 
 -- the operand that is read at an address
 reader_of : (os : List Operand) (a : ℕ) → is_read os a ≡ true
@@ -64,11 +66,11 @@ reads_unwritten Input unwritten = refl
 reads_unwritten Output unwritten = absurd (unwritten refl)
 reads_unwritten Inout unwritten = refl
 
-module _ (m : Machine) (i : ImageState) (all ts : List Task) (g : Arrivals) (S : State)
-    (ground : HasGroundwork m all ts S)
-    (control : IsControlled ts g S) (buffers : HasBuffers ts S) (image : HasGround i S) (workers : HasWorkers m i S)
-    (accepted : IsAccepted i) (fixed : (a : ℕ) → IsFixed i a → byte_at S.home a ≡ byte_at (loaded i) a)
-    (stored : HasStored m i ts S) (room : HasRoom m ts S) (finds : FindsLeft m i ts) (main : HasMain m i all S) where
+module _ (m : Machine) (i : ImageState) (S : State) (work : WorkerFacts m i S) (accepted : IsAccepted i)
+    (fixed : (a : ℕ) → IsFixed i a → byte_at S.home a ≡ byte_at (loaded i) a) (stored : HasStored m i work.ts S)
+    (room : HasRoom m work.ts S) (finds : FindsLeft m i work.ts) (main : HasMain m i work.all S) where
+  open work use {facts, buffers, image, workers, all, ground, control}
+
   -- ---- what it finds
 
   module _ (n : ℕ) (x : Flying) (flies : get S.flight n ≡ Some x) (complete : is_complete x ≡ true)
@@ -94,8 +96,8 @@ module _ (m : Machine) (i : ImageState) (all ts : List Task) (g : Arrivals) (S :
 
     separate : AreSeparate (placed_in os ss)
     separate =
-        task_separate m all ts g S ground control buffers n x flies complete
-        (queued_unfinished m i all ts g S ground control buffers n x flies complete queued)
+        task_separate m S facts buffers n x flies complete
+        (queued_unfinished m i S facts buffers n x flies complete queued)
 
     -- a byte of an operand that reads
     byte_read : (k : ℕ) (o : Operand) → slice_get os k ≡ Some o → reads o.mode ≡ true → (a : ℕ)
@@ -105,7 +107,7 @@ module _ (m : Machine) (i : ImageState) (all ts : List Task) (g : Arrivals) (S :
         worker_byte-there (placed_in os ss) separate k (record { object = o.object; storage = p.0 }) p.2 (stores_of S) a
         inside
         ∙ byte_stored (stores_of S) o.object p.0 memory
-        (finds_value m i all ts g S ground control buffers n x flies complete queued k o p.0 at p.1 stored finds
+        (finds_value m i S facts buffers n x flies complete queued k o p.0 at p.1 stored finds
         (record { task = x.task; memory = memory }) starts read) a inside
 
     loaded_there : (a : ℕ) → IsFixed i a → byte_at S.home a ≡ byte_at memory a
@@ -135,7 +137,7 @@ module _ (m : Machine) (i : ImageState) (all ts : List Task) (g : Arrivals) (S :
       short = λ j o at. (fit j o at).short;
       room = λ j o b at is read.
           let short = (fit j o at).short in
-          let long = finds_room m i all ts g S ground control buffers n x flies complete queued j o (Buffer b) at is
+          let long = finds_room m i S facts buffers n x flies complete queued j o (Buffer b) at is
           room b refl read in
           omega (arith, short, long);
       read = λ a read. let o = reader_of os a read in byte_read o.0 o.1 o.2 o.3 a o.4;
@@ -161,7 +163,7 @@ module _ (m : Machine) (i : ImageState) (all ts : List Task) (g : Arrivals) (S :
     complete = (ground.stages.queue n (ap (in_queue n) queue ∙ at_front n rest)).complete x flies
 
     unfinished : x.stage ≡ stage.Finished → ⊥
-    unfinished = queued_unfinished m i all ts g S ground control buffers n x flies complete queued
+    unfinished = queued_unfinished m i S facts buffers n x flies complete queued
 
     abbrev Begun : Stores
     Begun = outputs_zeroed m.limits (stores_of S) (operands_of x.task) (storages_of x)
@@ -185,8 +187,8 @@ module _ (m : Machine) (i : ImageState) (all ts : List Task) (g : Arrivals) (S :
     begun left u c there = elim (from_inserted nat_order S.workers w (busy_at_start x) u c there) [
       | inl new ↦ subst (λ c. RunsAt m i Begun c) (sym new.1) own_begins
       | inr old ↦
-          runs_left m i all ts g S ground control buffers image workers u c old.1 Begun
-          (leaves_started m i all ts g S ground control buffers image workers n x flies complete unfinished left
+          runs_left m i S work u c old.1 Begun
+          (leaves_started m i S work n x flies complete unfinished left
           c.task.number (others_apart u c old.1))
     ]
 

@@ -24,6 +24,7 @@ use Rattle.tss_names.proofs.NumberLemmas.{taken_newest, last_taken_before}
 use Rattle.tss_names.proofs.BackLemmas.{Standing, standing_by, standing_of, ReadiesOperand, ChangesTask, StartsTask, ExecutesTask, FinishesTask, kept_by_standing}
 use Rattle.tss_names.proofs.StageLemmas.{waiting≢running}
 use Rattle.tss_control.proofs.holders.Stages.{IsRunning, waits}
+use Rattle.tss_control.proofs.rounds.Facts.{Facts}
 
 -- a task in flight is that of a worker, with the storages that it has
 pub record IsToldTo (flight : Numbered Flying) (b : Busy) : Type 0 where
@@ -220,20 +221,20 @@ told_by_standing =
     (λ m ts S T h same. subst AreTold (sym same) h.told)
 
 -- each event keeps it
-pub told_after_event : (m : Machine) (all ts : List Task) (g : Arrivals) (S : State) (e : Event)
-    → HasGroundwork m all ts S → IsControlled ts g S → IsEnabled m S e → AreTold (standing_of S)
+pub told_after_event : (m : Machine) (S : State) (facts : Facts m S) (e : Event) → IsEnabled m S e
+    → AreTold (standing_of S)
     → AreTold (standing_of (after_event m S e))
-told_after_event m all ts g S e ground h on told = told_by_standing m all S e (record {
+told_after_event m S facts e on told = told_by_standing m facts.all S e (record {
   running = record {
     flight = refl;
-    numbers = ground.numbers;
-    stages = ground.stages;
-    orderly = h.orderly;
+    numbers = facts.ground.numbers;
+    stages = facts.ground.stages;
+    orderly = facts.control.orderly;
     runs = record {
-      queued = h.holders.runners.queued;
-      once = h.holders.runners.once;
-      running = h.holders.runners.running;
-      single = h.holders.runners.single;
+      queued = facts.control.holders.runners.queued;
+      once = facts.control.holders.runners.once;
+      running = facts.control.holders.runners.running;
+      single = facts.control.holders.runners.single;
     };
   };
   told = told;

@@ -41,6 +41,8 @@ use Rattle.tss_values.proofs.home.Beside.{IsInside, inside_covers}
 use Rattle.tss_values.proofs.workers.Apart.{held}
 use Rattle.tss_values.proofs.workers.Hold.{IsHeld, one_object, writes_own}
 use Rattle.tss_values.proofs.workers.Runs.{worker_holds, worker_separate}
+use Rattle.tss_control.proofs.rounds.Facts.{Facts}
+use Rattle.tss_values.proofs.WorkerFacts.{WorkerFacts}
 
 -- home has the same at an address
 abbrev pub SameThere : State → Stores → ℕ → Type 0
@@ -66,136 +68,135 @@ away_itself ts S = record {
   copies = λ bank c at. refl;
 }
 
-module _ (m : Machine) (i : ImageState) (all ts : List Task) (g : Arrivals) (S : State)
-    (ground : HasGroundwork m all ts S) (control : IsControlled ts g S) (buffers : HasBuffers ts S)
-    (image : HasGround i S) (workers : HasWorkers m i S)
-  where
-    -- ---- an operand that writes what it holds
+module _ (m : Machine) (i : ImageState) (S : State) (work : WorkerFacts m i S) where
+  open work use {facts, buffers, all, ts, g, ground, control}
 
-    module _ (o : OpName) (p : Operand) (s : Source) (holds : HoldsStorage ts g S o p s) (writer : writes p.mode ≡ true)
-      where
-        -- an object that has no entry isn't its own
-        loose_apart : (a : ℕ) → ((q : OpName) (r : Operand) → operand_among ts q ≡ Some r → IsInside r.object a
-            → get S.entries r.object.base ≡ None) → covers p.object a ≡ false
-        loose_apart a each =
-            false_from_ne_true (covers p.object a) (λ inside.
-            no_entry_apart ts g S ground.round control buffers o p s holds writer m all ground p.object
-            (each o p holds.among (covers_parts p.object a inside)) refl)
+  -- ---- an operand that writes what it holds
 
-        -- nor is one whose first version is being opened
-        opening_apart : (d : OpName) (c : OpenContents) → get S.mail.opens d ≡ Some c → c.follows ≡ None → (a : ℕ)
-            → IsInside c.operand.object a → covers p.object a ≡ false
-        opening_apart d c at first a within =
-            false_from_ne_true (covers p.object a) (λ inside.
-            let opens = control.chains.opens d c at in
-            let same = one_object m all ts g S ground control o d p c.operand a holds.among opens.operand inside
-            (inside_covers c.operand.object a within) in
-            let own = writes_own m all ts g S ground control buffers o p s holds writer in
-            let version : IsVersionOf S c.operand.object o =
-            (holds.told.version, ap (get S.versions) (sym own) ∙ holds.told.there, holds.told.object ∙ same) in
-            let low = opens.behind o version in
-            let high = (opens.first first).first o (inl version) in
-            absurd (omega (arith, low, high)))
+  module _ (o : OpName) (p : Operand) (s : Source) (holds : HoldsStorage ts g S o p s) (writer : writes p.mode ≡ true)
+    where
+      -- an object that has no entry isn't its own
+      loose_apart : (a : ℕ) → ((q : OpName) (r : Operand) → operand_among ts q ≡ Some r → IsInside r.object a
+          → get S.entries r.object.base ≡ None) → covers p.object a ≡ false
+      loose_apart a each =
+          false_from_ne_true (covers p.object a) (λ inside.
+          no_entry_apart ts g S ground.round control buffers o p s holds writer m all ground p.object
+          (each o p holds.among (covers_parts p.object a inside)) refl)
 
-        -- nor is one that goes home
-        going_beside : (y : Range) (v : OpName) → object_in ts v ≡ Some y → IsGoingHome S y v → (a : ℕ)
-            → covers y a ≡ true → covers p.object a ≡ false
-        going_beside y v named going a within =
-            false_from_ne_true (covers p.object a) (λ inside.
-            let r = operand_of_object ts v y named in
-            let same = one_object m all ts g S ground control v o r.0 p a r.1 holds.among
-            (ap (λ (z : Range). covers z a) r.2 ∙ within) inside in
-            going_apart ts g S ground.round control buffers o p s holds writer m all ground y v going
-            (sym r.2 ∙ same))
+      -- nor is one whose first version is being opened
+      opening_apart : (d : OpName) (c : OpenContents) → get S.mail.opens d ≡ Some c → c.follows ≡ None → (a : ℕ)
+          → IsInside c.operand.object a → covers p.object a ≡ false
+      opening_apart d c at first a within =
+          false_from_ne_true (covers p.object a) (λ inside.
+          let opens = control.chains.opens d c at in
+          let same = one_object m S facts o d p c.operand a holds.among opens.operand inside
+          (inside_covers c.operand.object a within) in
+          let own = writes_own m S facts buffers o p s holds writer in
+          let version : IsVersionOf S c.operand.object o =
+          (holds.told.version, ap (get S.versions) (sym own) ∙ holds.told.there, holds.told.object ∙ same) in
+          let low = opens.behind o version in
+          let high = (opens.first first).first o (inl version) in
+          absurd (omega (arith, low, high)))
 
-    -- ---- a task that holds all that it was told
+      -- nor is one that goes home
+      going_beside : (y : Range) (v : OpName) → object_in ts v ≡ Some y → IsGoingHome S y v → (a : ℕ)
+          → covers y a ≡ true → covers p.object a ≡ false
+      going_beside y v named going a within =
+          false_from_ne_true (covers p.object a) (λ inside.
+          let r = operand_of_object ts v y named in
+          let same = one_object m S facts v o r.0 p a r.1 holds.among
+          (ap (λ (z : Range). covers z a) r.2 ∙ within) inside in
+          going_apart ts g S ground.round control buffers o p s holds writer m all ground y v going
+          (sym r.2 ∙ same))
 
-    module _ (n : ℕ) (os : List Operand) (ss : List StorageName)
-        (holding : (k : ℕ) (p : Operand) (storage : StorageName) → slice_get os k ≡ Some p
-        → slice_get ss k ≡ Some storage → IsHeld ts g S n k p storage) where
-      -- home is left at an address beside the objects that it writes
-      home_away : (a : ℕ) → ((o : OpName) (p : Operand) (s : Source) → HoldsStorage ts g S o p s → writes p.mode ≡ true
-          → covers p.object a ≡ false) → AreUnseen m.limits (λ (s : Stores). get s.home.bytes a) os ss
-      home_away a each k p storage at told writer =
-          let h = holding k p storage at told in
-          home_unseen m.limits a p.object storage (λ e. each (operand_name n k) p h.source h.holds writer)
+  -- ---- a task that holds all that it was told
 
-      -- and so are the buffers of copies
-      copy_away : (bank : ℕ) (c : CopyState) → get S.copies bank ≡ Some c
-          → AreUnseen m.limits (λ (s : Stores). buffer_bytes s.contents c.buffer) os ss
-      copy_away bank c there k p storage at told writer =
-          let h = holding k p storage at told in
-          buffer_unseen m.limits c.buffer p.object storage (λ e.
-          (copy_elsewhere ts g S ground.round control buffers (operand_name n k) p h.source h.holds writer m all ground
-          bank c there 0).buffer c.buffer (h.told ∙ e) refl)
+  module _ (n : ℕ) (os : List Operand) (ss : List StorageName)
+      (holding : (k : ℕ) (p : Operand) (storage : StorageName) → slice_get os k ≡ Some p
+      → slice_get ss k ≡ Some storage → IsHeld ts g S n k p storage) where
+    -- home is left at an address beside the objects that it writes
+    home_away : (a : ℕ) → ((o : OpName) (p : Operand) (s : Source) → HoldsStorage ts g S o p s → writes p.mode ≡ true
+        → covers p.object a ≡ false) → AreUnseen m.limits (λ (s : Stores). get s.home.bytes a) os ss
+    home_away a each k p storage at told writer =
+        let h = holding k p storage at told in
+        home_unseen m.limits a p.object storage (λ e. each (operand_name n k) p h.source h.holds writer)
 
-      -- so where what is unseen is left, so is all this
-      away_from : (x : Stores)
-          → ((a : ℕ) → AreUnseen m.limits (λ (s : Stores). get s.home.bytes a) os ss → SameThere S x a)
-          → ((b : OpName) → AreUnseen m.limits (λ (s : Stores). buffer_bytes s.contents b) os ss
-          → buffer_bytes x.contents b ≡ buffer_bytes S.contents b)
-          → LeavesAway ts S x
-      away_from x home buffer = record {
-        loose = λ a each. home a (home_away a (λ o p s holds writer. loose_apart o p s holds writer a each));
-        opening = λ d c at first a inside.
-            home a (home_away a (λ o p s holds writer. opening_apart o p s holds writer d c at first a inside));
-        going = λ y v named going a inside.
-            home a (home_away a (λ o p s holds writer. going_beside o p s holds writer y v named going a inside));
-        copies = λ bank c at. buffer c.buffer (copy_away bank c at);
-      }
+    -- and so are the buffers of copies
+    copy_away : (bank : ℕ) (c : CopyState) → get S.copies bank ≡ Some c
+        → AreUnseen m.limits (λ (s : Stores). buffer_bytes s.contents c.buffer) os ss
+    copy_away bank c there k p storage at told writer =
+        let h = holding k p storage at told in
+        buffer_unseen m.limits c.buffer p.object storage (λ e.
+        (copy_elsewhere ts g S ground.round control buffers (operand_name n k) p h.source h.holds writer m all ground
+        bank c there 0).buffer c.buffer (h.told ∙ e) refl)
 
-    -- ---- exec
+    -- so where what is unseen is left, so is all this
+    away_from : (x : Stores)
+        → ((a : ℕ) → AreUnseen m.limits (λ (s : Stores). get s.home.bytes a) os ss → SameThere S x a)
+        → ((b : OpName) → AreUnseen m.limits (λ (s : Stores). buffer_bytes s.contents b) os ss
+        → buffer_bytes x.contents b ≡ buffer_bytes S.contents b)
+        → LeavesAway ts S x
+    away_from x home buffer = record {
+      loose = λ a each. home a (home_away a (λ o p s holds writer. loose_apart o p s holds writer a each));
+      opening = λ d c at first a inside.
+          home a (home_away a (λ o p s holds writer. opening_apart o p s holds writer d c at first a inside));
+      going = λ y v named going a inside.
+          home a (home_away a (λ o p s holds writer. going_beside o p s holds writer y v named going a inside));
+      copies = λ bank c at. buffer c.buffer (copy_away bank c at);
+    }
 
-    exec_by : (w : ℕ) (b : Option Busy) → get S.workers w ≡ b → LeavesAway ts S (stores_of (after_exec m S w b))
-    exec_by w None e = away_itself ts S
-    exec_by w (Some b) e =
-        let separate = worker_separate m i all ts g S ground control buffers image workers w b e in
-        let count = (ground.stages.workers w b e).storages in
-        away_from b.task.number (operands_of b.task) b.storages
-        (worker_holds m i all ts g S ground control buffers image workers w b e)
-        (stores_of (after_exec m S w (Some b)))
+  -- ---- exec
+
+  exec_by : (w : ℕ) (b : Option Busy) → get S.workers w ≡ b → LeavesAway ts S (stores_of (after_exec m S w b))
+  exec_by w None e = away_itself ts S
+  exec_by w (Some b) e =
+      let separate = worker_separate m i S work w b e in
+      let count = (ground.stages.workers w b e).storages in
+      away_from b.task.number (operands_of b.task) b.storages
+      (worker_holds m i S work w b e)
+      (stores_of (after_exec m S w (Some b)))
+      (λ a unseen.
+      exec_stretch-unseen m.limits (λ (s : Stores). get s.home.bytes a) S.code m.sizes.quantum b (stores_of S)
+      separate count unseen)
+      (λ n unseen.
+      exec_stretch-unseen m.limits (λ (s : Stores). buffer_bytes s.contents n) S.code m.sizes.quantum b (stores_of S)
+      separate count unseen)
+
+  -- a stretch leaves it
+  pub away_exec : (w : ℕ) → LeavesAway ts S (stores_of (after_event m S (event.Exec w)))
+  unfolding after_event
+  away_exec w = exec_by w (get S.workers w) refl
+
+  -- ---- start
+
+  module _ (w n : ℕ) (rest : List ℕ) (queue : S.queue ≡ n ∷ rest) where
+    queued : in_queue n S.queue ≡ true
+    queued = ap (in_queue n) queue ∙ at_front n rest
+
+    unfinished : (x : Flying) → get S.flight n ≡ Some x → x.stage ≡ stage.Finished → ⊥
+    unfinished x flies e =
+        let r = control.holders.runners.queued n queued in
+        queued≢finished (sym r.2 ∙ ap (λ (x : Flying). x.stage) (same_Some r.0 x (sym r.1 ∙ flies)) ∙ e)
+
+    by_task : (x : Option Flying) → get S.flight n ≡ x → LeavesAway ts S (stores_of (start_task m S w n rest x))
+    by_task None e = away_itself ts S
+    by_task (Some x) e =
+        away_from n (operands_of x.task) (storages_of x)
+        (held m S facts buffers n x e ((ground.stages.queue n queued).complete x e)
+        (unfinished x e))
+        (stores_of (start_task m S w n rest (Some x)))
         (λ a unseen.
-        exec_stretch-unseen m.limits (λ (s : Stores). get s.home.bytes a) S.code m.sizes.quantum b (stores_of S)
-        separate count unseen)
-        (λ n unseen.
-        exec_stretch-unseen m.limits (λ (s : Stores). buffer_bytes s.contents n) S.code m.sizes.quantum b (stores_of S)
-        separate count unseen)
+        outputs_zeroed-unseen m.limits (λ (s : Stores). get s.home.bytes a) (stores_of S) (operands_of x.task)
+        (storages_of x) unseen)
+        (λ b unseen.
+        outputs_zeroed-unseen m.limits (λ (s : Stores). buffer_bytes s.contents b) (stores_of S) (operands_of x.task)
+        (storages_of x) unseen)
 
-    -- a stretch leaves it
-    pub away_exec : (w : ℕ) → LeavesAway ts S (stores_of (after_event m S (event.Exec w)))
-    unfolding after_event
-    away_exec w = exec_by w (get S.workers w) refl
+  by_queue : (w : ℕ) (q : List ℕ) → S.queue ≡ q → LeavesAway ts S (stores_of (after_start m S w q))
+  by_queue w [] queue = away_itself ts S
+  by_queue w (n ∷ rest) queue = by_task w n rest queue (get S.flight n) refl
 
-    -- ---- start
-
-    module _ (w n : ℕ) (rest : List ℕ) (queue : S.queue ≡ n ∷ rest) where
-      queued : in_queue n S.queue ≡ true
-      queued = ap (in_queue n) queue ∙ at_front n rest
-
-      unfinished : (x : Flying) → get S.flight n ≡ Some x → x.stage ≡ stage.Finished → ⊥
-      unfinished x flies e =
-          let r = control.holders.runners.queued n queued in
-          queued≢finished (sym r.2 ∙ ap (λ (x : Flying). x.stage) (same_Some r.0 x (sym r.1 ∙ flies)) ∙ e)
-
-      by_task : (x : Option Flying) → get S.flight n ≡ x → LeavesAway ts S (stores_of (start_task m S w n rest x))
-      by_task None e = away_itself ts S
-      by_task (Some x) e =
-          away_from n (operands_of x.task) (storages_of x)
-          (held m all ts g S ground control buffers n x e ((ground.stages.queue n queued).complete x e)
-          (unfinished x e))
-          (stores_of (start_task m S w n rest (Some x)))
-          (λ a unseen.
-          outputs_zeroed-unseen m.limits (λ (s : Stores). get s.home.bytes a) (stores_of S) (operands_of x.task)
-          (storages_of x) unseen)
-          (λ b unseen.
-          outputs_zeroed-unseen m.limits (λ (s : Stores). buffer_bytes s.contents b) (stores_of S) (operands_of x.task)
-          (storages_of x) unseen)
-
-    by_queue : (w : ℕ) (q : List ℕ) → S.queue ≡ q → LeavesAway ts S (stores_of (after_start m S w q))
-    by_queue w [] queue = away_itself ts S
-    by_queue w (n ∷ rest) queue = by_task w n rest queue (get S.flight n) refl
-
-    -- a start leaves it
-    pub away_start : (w : ℕ) → LeavesAway ts S (stores_of (after_event m S (event.Start w)))
-    unfolding after_event
-    away_start w = by_queue w S.queue refl
+  -- a start leaves it
+  pub away_start : (w : ℕ) → LeavesAway ts S (stores_of (after_event m S (event.Start w)))
+  unfolding after_event
+  away_start w = by_queue w S.queue refl
