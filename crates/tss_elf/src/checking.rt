@@ -15,7 +15,7 @@ use crate::refusal::Refusal;
 use tss_base::bounds::{MAX_IMAGE_BYTES, MAX_SEGMENTS};
 
 /// How many bytes a file header has.
-const FILE_HEADER_LEN: usize = 52;
+pub const FILE_HEADER_LEN: usize = 52;
 
 const EXECUTABLE_FILE: u16 = 2;
 

@@ -9,5 +9,7 @@ mod number;
 mod reading;
 mod refusal;
 
+pub use checking::FILE_HEADER_LEN;
+pub use header::HEADER_LEN;
 pub use reading::read_image;
 pub use refusal::ImageFault;

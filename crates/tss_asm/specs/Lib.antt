@@ -1,0 +1,5 @@
+pub mod Labels
+pub mod Program
+pub mod Words
+pub mod Image
+pub mod Faults
