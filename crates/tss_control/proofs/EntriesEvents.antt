@@ -1,6 +1,4 @@
 -- Every event leaves the entries of a controlled state, and asks and refuses rightly.
-use Rattle.std.proofs.Common.{List}
-use Rattle.tss_base.specs.declared.operand.Task.{Task}
 use Rattle.tss_base.specs.declared.machine.Machine.{Machine}
 use Rattle.tss_base.specs.declared.event.Event.{Event}
 use Rattle.tss_base.specs.declared.event.Event.TheVariants as event
@@ -9,8 +7,6 @@ use Rattle.tss_protocol.specs.UnitMachine.{IsEnabled, after_event}
 use Rattle.tss_phases.specs.Orderly.{AreOrderly, KeepsOrder}
 use Rattle.tss_phases.proofs.OrderlyEvents.{orderly-after_event}
 use Rattle.tss_control.specs.Entries.{HasEntries, HasRetirement}
-use Rattle.tss_control.specs.Readers.{Arrivals}
-use Rattle.tss_control.specs.Control.{HasGroundwork, IsControlled}
 use Rattle.tss_control.proofs.entries.QuietEvents.{HasEntries-quiet, HasRetirement-quiet}
 use Rattle.tss_control.proofs.rounds.EntriesDecode.{HasEntries-decode}
 use Rattle.tss_control.proofs.entries.RetirementDecode.{HasRetirement-decode}

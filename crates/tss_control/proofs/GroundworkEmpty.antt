@@ -1,22 +1,18 @@
 -- A state with no message, no task in flight, no entry and no version is controlled where its operands are in order,
 -- whoever has come before. The first state is such a one, and so is a drained state.
-use Rattle.std.proofs.Common.{◌≡◌, ℕ, true, List, [], ◌∷◌, None, refl, sym, ap, ◌∙◌, subst, inl, inr, arith, true≢false}
-use Rattle.std.specs.Prelude.{◌==◌, ◌&&◌, is_none, length}
+use Rattle.std.proofs.Common.{◌≡◌, ℕ, true, [], None, refl, sym, ap, ◌∙◌, subst, inl, inr, true≢false}
 use Rattle.std.specs.Ordering.{nat_cmp}
-use Rattle.std.specs.FinMap.{get, len, get-empty}
-use Rattle.std.proofs.lemmas.Bool.{and_parts}
-use Rattle.std.proofs.lemmas.Bool.Decides.{nat_tests}
+use Rattle.std.specs.FinMap.{get, get-empty}
 use Rattle.std.proofs.lemmas.Option.{none-some}
 use Rattle.tss_base.specs.declared.range.Range.{Range}
 use Rattle.tss_base.specs.declared.operand.OpName.{OpName}
 use Rattle.tss_base.specs.Names.{name_cmp}
 use Rattle.tss_base.specs.Image.{ImageState}
 use Rattle.tss_maps.proofs.Entries.{absent_empty}
-use Rattle.tss_protocol.specs.Mail.{message_count, is_silent}
 use Rattle.tss_protocol.specs.State.{State, initial_state}
 use Rattle.tss_protocol.specs.Stations.{operand_at}
-use Rattle.tss_protocol.specs.Gateway.{is_idle}
-use Rattle.tss_protocol.specs.MainEvent.{has_no_task, has_no_object, is_drained}
+use Rattle.tss_protocol.specs.MainEvent.{is_drained}
+use Rattle.tss_protocol.proofs.DrainedStates.{nothing_drained, has_none}
 use Rattle.tss_locality.proofs.Flights.{record_in}
 use Rattle.tss_phases.specs.Orderly.{AreOrderly}
 use Rattle.tss_control.specs.Members.{IsMember}
@@ -141,48 +137,22 @@ IsBare-initial_state i = record {
   byes = λ o. get-empty name_cmp o;
 }
 
-zero_from_test : (n : ℕ) → (n == 0) ≡ true → n ≡ 0
-zero_from_test n e = grind (arith, nat_tests)
-
-no_number : (ns : List ℕ) → length ns ≡ 0 → ns ≡ []
-no_number [] e = refl
-no_number (n ∷ ns) e = absurd (omega (arith, e))
-
-silent_bare : (S : State) → len S.flight ≡ 0 → length S.queue ≡ 0 → len S.workers ≡ 0 → len S.entries ≡ 0
-    → len S.versions ≡ 0 → message_count S.mail ≡ 0 → IsBare S
-silent_bare S flight queue workers entries versions e = record {
-  flight = λ n. absent_empty S.flight n flight;
-  queue = no_number S.queue queue;
-  workers = λ w. absent_empty S.workers w workers;
-  entries = λ b. absent_empty S.entries b entries;
-  versions = λ v. absent_empty S.versions v versions;
-  decodes = λ o. absent_empty S.mail.decodes o (omega (arith, e));
-  opens = λ o. absent_empty S.mail.opens o (omega (arith, e));
-  uses = λ o. absent_empty S.mail.uses o (omega (arith, e));
-  readies = λ o. absent_empty S.mail.readies o (omega (arith, e));
-  links = λ o. absent_empty S.mail.links o (omega (arith, e));
-  releases = λ o. absent_empty S.mail.releases o (omega (arith, e));
-  byes = λ o. absent_empty S.mail.byes o (omega (arith, e));
-}
-
 -- a drained state
 pub IsBare-drained : (S : State) → is_drained S ≡ true → IsBare S
 IsBare-drained S drained =
-    let outer = and_parts (has_no_task S && has_no_object S) (is_silent S.mail) drained in
-    let inner = and_parts (has_no_task S) (has_no_object S) outer.0 in
-    let i = is_none S.inbox in
-    let g = is_idle S.gateway in
-    let t4 = and_parts (i && g && (len S.flight == 0) && (length S.queue == 0)) (len S.workers == 0) inner.0 in
-    let t3 = and_parts (i && g && (len S.flight == 0)) (length S.queue == 0) t4.0 in
-    let t2 = and_parts (i && g) (len S.flight == 0) t3.0 in
-    let e = len S.entries == 0 in
-    let p = len S.places == 0 in
-    let b = len S.buffers == 0 in
-    let v = len S.versions == 0 in
-    let o4 = and_parts (e && p && b && v) (len S.copies == 0) inner.1 in
-    let o3 = and_parts (e && p && b) v o4.0 in
-    let o2 = and_parts (e && p) b o3.0 in
-    let o1 = and_parts e p o2.0 in
-    silent_bare S (zero_from_test (len S.flight) t2.1) (zero_from_test (length S.queue) t3.1)
-    (zero_from_test (len S.workers) t4.1) (zero_from_test (len S.entries) o1.0)
-    (zero_from_test (len S.versions) o3.1) (zero_from_test (message_count S.mail) outer.1)
+    let h = nothing_drained S drained in
+    let m = has_none S.mail h.messages in
+    record {
+      flight = λ n. absent_empty S.flight n h.flight;
+      queue = h.queue;
+      workers = λ w. absent_empty S.workers w h.workers;
+      entries = λ b. absent_empty S.entries b h.entries;
+      versions = λ v. absent_empty S.versions v h.versions;
+      decodes = λ o. absent_empty S.mail.decodes o m.decodes;
+      opens = λ o. absent_empty S.mail.opens o m.opens;
+      uses = λ o. absent_empty S.mail.uses o m.uses;
+      readies = λ o. absent_empty S.mail.readies o m.readies;
+      links = λ o. absent_empty S.mail.links o m.links;
+      releases = λ o. absent_empty S.mail.releases o m.releases;
+      byes = λ o. absent_empty S.mail.byes o m.byes;
+    }

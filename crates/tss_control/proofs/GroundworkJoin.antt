@@ -14,7 +14,7 @@ use Rattle.tss_control.specs.Chains.{HasChains}
 use Rattle.tss_control.specs.Entries.{HasEntries, HasRetirement}
 use Rattle.tss_control.specs.Readers.{Arrivals, arrivals_after_event, arrivals_from, no_arrivals, HasReaders}
 use Rattle.tss_control.specs.Holders.{HasHolders}
-use Rattle.tss_control.specs.Control.{HasGroundwork, IsControlled}
+use Rattle.tss_control.specs.Control.{IsControlled}
 use Rattle.tss_control.proofs.GroundworkRuns.{ground_of_runs}
 use Rattle.tss_control.proofs.GroundworkEmpty.{IsControlled-bare, IsBare-initial_state}
 use Rattle.tss_control.proofs.rounds.Facts.{Facts, facts_of}

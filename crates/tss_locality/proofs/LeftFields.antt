@@ -1,5 +1,5 @@
 -- Each event leaves the fields that aren't named in its row.
-use Rattle.std.proofs.Common.{ℕ, Bool, true, false, List, [], ◌∷◌, Option, Some, None, refl}
+use Rattle.std.proofs.Common.{◌≡◌, ℕ, Bool, true, false, List, [], ◌∷◌, Option, Some, None, refl, ap, ◌∙◌}
 use Rattle.std.specs.FinMap.{get}
 use Rattle.tss_base.specs.declared.operand.OpName.{OpName}
 use Rattle.tss_base.specs.declared.operand.Operand.{Operand}
@@ -13,7 +13,7 @@ use Rattle.tss_protocol.specs.State.{Flying, Busy, Entry, Version, CopyState, St
 use Rattle.tss_protocol.specs.Renaming.{idle_by, may_retire}
 use Rattle.tss_protocol.specs.MainEvent.{call_next, after_call, main_by}
 use Rattle.tss_protocol.specs.UnitMachine.{without, with_entries, after_take, decode_message_taken, open_message_taken, use_message_taken, ready_message_taken, link_message_taken, bye_message_taken, start_task, after_start, after_exec, after_finish, release_message_taken, idle_message_taken, retire_version, after_copy, gone_message_taken, after_event}
-use Rattle.tss_locality.specs.Leaves.{Leaves}
+use Rattle.tss_locality.specs.Leaves.{changes, if_changed, Leaves}
 
 module _ (m : Machine) (S : State) where
   called : (r : MainState × Option Task) → Leaves event.Main S (after_call S r)
@@ -124,3 +124,51 @@ module _ (m : Machine) (S : State) where
   Leaves-after_event (event.Retire v) = retire_left v (get S.versions v)
   Leaves-after_event (event.Copy b) = copy_left b (get S.copies b)
   Leaves-after_event (event.Gone v) = gone_left v (get S.mail.gones v)
+
+  -- ---- a field that it may not change
+
+  module _ (e : Event) where
+    abbrev T : State
+    T = after_event m S e
+
+    pub left_main : (changes e).main ≡ false → T.main ≡ S.main
+    left_main left = (λ j. (Leaves-after_event e j).main) ∙ ap (λ b. if_changed b T.main S.main) left
+
+    pub left_home : (changes e).home ≡ false → T.home ≡ S.home
+    left_home left = (λ j. (Leaves-after_event e j).home) ∙ ap (λ b. if_changed b T.home S.home) left
+
+    pub left_inbox : (changes e).inbox ≡ false → T.inbox ≡ S.inbox
+    left_inbox left = (λ j. (Leaves-after_event e j).inbox) ∙ ap (λ b. if_changed b T.inbox S.inbox) left
+
+    pub left_gateway : (changes e).gateway ≡ false → T.gateway ≡ S.gateway
+    left_gateway left = (λ j. (Leaves-after_event e j).gateway) ∙ ap (λ b. if_changed b T.gateway S.gateway) left
+
+    pub left_flight : (changes e).flight ≡ false → T.flight ≡ S.flight
+    left_flight left = (λ j. (Leaves-after_event e j).flight) ∙ ap (λ b. if_changed b T.flight S.flight) left
+
+    pub left_queue : (changes e).queue ≡ false → T.queue ≡ S.queue
+    left_queue left = (λ j. (Leaves-after_event e j).queue) ∙ ap (λ b. if_changed b T.queue S.queue) left
+
+    pub left_workers : (changes e).workers ≡ false → T.workers ≡ S.workers
+    left_workers left = (λ j. (Leaves-after_event e j).workers) ∙ ap (λ b. if_changed b T.workers S.workers) left
+
+    pub left_entries : (changes e).entries ≡ false → T.entries ≡ S.entries
+    left_entries left = (λ j. (Leaves-after_event e j).entries) ∙ ap (λ b. if_changed b T.entries S.entries) left
+
+    pub left_places : (changes e).places ≡ false → T.places ≡ S.places
+    left_places left = (λ j. (Leaves-after_event e j).places) ∙ ap (λ b. if_changed b T.places S.places) left
+
+    pub left_buffers : (changes e).buffers ≡ false → T.buffers ≡ S.buffers
+    left_buffers left = (λ j. (Leaves-after_event e j).buffers) ∙ ap (λ b. if_changed b T.buffers S.buffers) left
+
+    pub left_contents : (changes e).contents ≡ false → T.contents ≡ S.contents
+    left_contents left = (λ j. (Leaves-after_event e j).contents) ∙ ap (λ b. if_changed b T.contents S.contents) left
+
+    pub left_versions : (changes e).versions ≡ false → T.versions ≡ S.versions
+    left_versions left = (λ j. (Leaves-after_event e j).versions) ∙ ap (λ b. if_changed b T.versions S.versions) left
+
+    pub left_copies : (changes e).copies ≡ false → T.copies ≡ S.copies
+    left_copies left = (λ j. (Leaves-after_event e j).copies) ∙ ap (λ b. if_changed b T.copies S.copies) left
+
+    pub left_trap : (changes e).trap ≡ false → T.trap ≡ S.trap
+    left_trap left = (λ j. (Leaves-after_event e j).trap) ∙ ap (λ b. if_changed b T.trap S.trap) left

@@ -15,6 +15,7 @@ use Rattle.tss_locality.proofs.States.{InboxOn, state_main, state_home, state_in
 use Rattle.tss_locality.proofs.Sending.{changes_none}
 use Rattle.tss_locality.proofs.TakeEvent.{inbox_arrived}
 use Rattle.tss_locality.proofs.MainStores.{main_stretch_only}
+use Rattle.tss_protocol.proofs.DrainedStates.{none_from_test}
 
 module _ (c : Scope) (m : Machine) (S : State) (p : ConcernsMain c m S) where
   main_changed : (x : MainState) → ChangesOnly c S (record S { main = x })
@@ -26,10 +27,6 @@ module _ (c : Scope) (m : Machine) (S : State) (p : ConcernsMain c m S) where
   called empty (main, Some t) concern =
       state_inbox (beyond c) S (record S { main = main }) (main_changed main) (Some t)
       (subst (λ i. InboxOn (beyond c) i (Some t)) (sym empty) (inbox_arrived c t (concern t refl)))
-
-  none_from_test : (i : Option Task) → is_none i ≡ true → i ≡ None
-  none_from_test None e = refl
-  none_from_test (Some t) e = absurd (cc)
 
   call_only : (call : Call) → call_next m S ≡ Some call → may_call S (Some call) ≡ true →
       ChangesOnly c S (after_call S (main_call m.limits S.home S.main call))

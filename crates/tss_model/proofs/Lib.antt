@@ -1,2 +1,3 @@
+pub mod BudgetLemmas
 mod KnownSteps
 mod KnownRuns

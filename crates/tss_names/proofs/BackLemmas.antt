@@ -21,7 +21,7 @@ use Rattle.tss_names.specs.Tasks.{TasksFact, spawned_by_main}
 use Rattle.tss_names.proofs.FrontLemmas.{Front, front_of, Back, back_of, KeepsFront, KeepsFront-after_event}
 use Rattle.tss_names.proofs.SpawnLemmas.{SpawnsOne, SpawnsAtMostOne, spawns_main}
 use Rattle.tss_names.proofs.TakeLemmas.{TakesTask, takes_take, decodes_decode, acknowledges_ack}
-use Rattle.tss_names.proofs.BudgetLemmas.{within-stretch}
+use Rattle.tss_model.proofs.BudgetLemmas.{within-stretch}
 use Rattle.tss_names.proofs.RunLemmas.{IsKeptAs}
 
 -- where tasks stand

@@ -7,7 +7,6 @@ pub mod RunLemmas
 pub mod NumberLemmas
 pub mod GatewayLemmas
 pub mod SlotLemmas
-pub mod BudgetLemmas
 pub mod BackLemmas
 pub mod QueueLemmas
 pub mod StageLemmas

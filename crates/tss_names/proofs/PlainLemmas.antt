@@ -1,27 +1,18 @@
 -- Plain facts of options, numbers and maps.
-use Rattle.std.proofs.Common.{◌≡◌, ◌≢◌, ℕ, true, Option, Some, None, inl, inr, refl, sym, ap, ◌∙◌, arith, true≢false}
-use Rattle.std.specs.Prelude.{◌==◌, is_none, is_some}
+use Rattle.std.proofs.Common.{◌≡◌, ◌≢◌, true, Option, Some, None, inl, inr, refl, sym, ap, ◌∙◌, true≢false}
+use Rattle.std.specs.Prelude.{is_some}
 use Rattle.std.specs.FinMap.{get, remove}
-use Rattle.std.proofs.lemmas.Bool.Decides.{nat_tests}
 use Rattle.std.proofs.lemmas.Option.{none-some}
 use Rattle.tss_base.specs.declared.operand.OpName.{OpName}
 use Rattle.tss_base.specs.Names.{Named}
 use Rattle.tss_maps.proofs.Keys.{name_order, decide_key}
 use Rattle.tss_maps.proofs.Changes.{at_removed, beside_removed}
-
--- a test that finds nothing
-pub none_from_test : {X : Type 0} (o : Option X) → is_none o ≡ true → o ≡ None
-none_from_test None e = refl
-none_from_test (Some x) e = absurd (true≢false (sym e))
+pub use Rattle.tss_protocol.proofs.DrainedStates.{none_from_test, zero_from_test}
 
 -- a test that finds a name in a set
 pub some_unit : (o : Option (Unit {0})) → is_some o ≡ true → o ≡ Some tt
 some_unit None e = absurd (true≢false (sym e))
 some_unit (Some u) e = refl
-
--- a number that is 0
-pub zero_from_test : (n : ℕ) → (n == 0) ≡ true → n ≡ 0
-zero_from_test n e = grind (arith, nat_tests)
 
 -- where nothing stood, nothing stands after a removal
 pub still_none : {X : Type 0} (m : Named X) (k q : OpName) → get m q ≡ None → get (remove m k) q ≡ None

@@ -1,5 +1,5 @@
 -- A task with an operand that isn't ready.
-use Rattle.std.proofs.Common.{◌≡◌, ℕ, zero, suc, Bool, true, false, List, [], ◌∷◌, Option, Some, None, refl, ap, ◌∙◌}
+use Rattle.std.proofs.Common.{◌≡◌, ℕ, zero, suc, Bool, true, false, List, [], ◌∷◌, Some, None, refl, ap, ◌∙◌}
 use Rattle.std.specs.Prelude.{◌&&◌, is_some, slice_get}
 use Rattle.std.specs.List.{list_all}
 use Rattle.tss_protocol.specs.State.{OperandState}

@@ -1,12 +1,10 @@
 -- The phases that the operand which opened a version may have, as the version stands.
-use Rattle.std.specs.Prelude.{◌≡◌, Bool, true, false, Option, Some, None}
-use Rattle.std.specs.FinMap.{get}
-use Rattle.tss_base.specs.declared.operand.OpName.{OpName}
+use Rattle.std.specs.Prelude.{Bool, true, false, Option, Some, None}
 use Rattle.tss_base.specs.declared.operand.Mode.{Mode}
 use Rattle.tss_base.specs.declared.operand.Mode.TheVariants.{Input, Output, Inout}
-use Rattle.tss_protocol.specs.Mail.{StorageName, OpenContents}
-use Rattle.tss_protocol.specs.State.{State, Version}
-use Rattle.tss_phases.specs.Phase.{Phase, Sent, Waiting, Told, Ready, Releasing, Leaving, Promised, Left, phase_of}
+use Rattle.tss_protocol.specs.Mail.{StorageName}
+use Rattle.tss_protocol.specs.State.{Version}
+use Rattle.tss_phases.specs.Phase.{Phase, Waiting, Told, Ready, Releasing, Leaving, Promised, Left}
 
 -- it waits
 abbrev pub is_waiting : Phase → Bool
@@ -55,8 +53,3 @@ opener_by x mode p false = open_opener x.storage p
 -- of a version that is registered
 abbrev pub version_opener : Version → Mode → Phase → Bool
 version_opener x mode p = opener_by x mode p x.produced
-
--- a version that is being opened, or is registered, agrees with the phase of the operand of this mode that opened it
-pub record AgreesWithOpener (S : State) (v : OpName) (mode : Mode) : Type 0 where
-  pub opening : (c : OpenContents) → get S.mail.opens v ≡ Some c → phase_of S v ≡ Sent
-  pub registered : (x : Version) → get S.versions v ≡ Some x → version_opener x mode (phase_of S v) ≡ true

@@ -1,15 +1,13 @@
 -- Whom a settle tells: the successor of a version that is followed over and gives way to it.
-use Rattle.std.specs.Prelude.{◌≡◌, ℕ, zero, suc, true, Some, ◌⊎◌}
-use Rattle.std.specs.FinMap.{get}
+use Rattle.std.specs.Prelude.{◌≡◌, ℕ, zero, suc, Some, ◌⊎◌}
 use Rattle.tss_base.specs.declared.operand.OpName.{OpName}
-use Rattle.tss_base.specs.declared.marks.How.{How}
 use Rattle.tss_base.specs.declared.marks.How.TheVariants.{Beside, Over}
 use Rattle.tss_base.specs.declared.marks.Follow.{Follow}
 use Rattle.tss_base.specs.Names.{Named}
 use Rattle.tss_protocol.specs.Mail.{StorageName}
 use Rattle.tss_protocol.specs.State.{Version}
 use Rattle.tss_protocol.specs.Settled.{GivesWay}
-use Rattle.tss_protocol.specs.Versions.{may_die, unlinked}
+use Rattle.tss_protocol.specs.Versions.{unlinked}
 
 -- an operand takes a version over, with its storage
 pub record TakesOver (vs : Named Version) (v s : OpName) : Type 0 where

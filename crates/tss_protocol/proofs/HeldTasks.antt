@@ -1,7 +1,7 @@
 -- The numbers of the tasks that the gateway holds: each is that of one of its operands, they rise, and there are no more
 -- of them than of any numbers that have all of these.
 use Rattle.std.proofs.Common.{◌≡◌, ◌≢◌, ℕ, zero, suc, ◌≤◌, ◌<◌, ◌⊎◌, inl, inr, Bool, true, false, List, [], ◌∷◌, length, refl, sym, ap, ◌∙◌, subst, arith}
-use Rattle.std.specs.Prelude.{◌==◌, ◌&&◌, T, map, if◌then◌else◌, slice_get, slice_index_or, Option, Some}
+use Rattle.std.specs.Prelude.{◌==◌, ◌&&◌, T, map, if◌then◌else◌, slice_get, slice_index_or, Some}
 use Rattle.std.specs.List.{All, AllPairs, Any}
 use Rattle.std.specs.declared.cmp.Ordering.{Ordering}
 use Rattle.std.specs.declared.cmp.Ordering.TheVariants.{Less, Equal, Greater}

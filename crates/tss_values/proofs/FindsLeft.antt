@@ -1,14 +1,12 @@
 -- An operand of the round that program order starts finds its object as the last writer before it left it.
-use Rattle.std.proofs.Common.{◌≡◌, ◌<◌, List, Some, sym, subst, arith}
+use Rattle.std.proofs.Common.{◌≡◌, ◌<◌, Some, sym, subst, arith}
 use Rattle.tss_base.specs.declared.operand.OpName.{OpName}
 use Rattle.tss_base.specs.declared.operand.Operand.{Operand}
-use Rattle.tss_base.specs.declared.operand.Task.{Task}
 use Rattle.tss_base.specs.declared.machine.Machine.{Machine}
 use Rattle.tss_base.specs.Image.{ImageState}
 use Rattle.tss_model.specs.InOrder.{Started}
 use Rattle.tss_protocol.specs.State.{State}
 use Rattle.tss_control.specs.Members.{operand_among, NoWriterBetween}
-use Rattle.tss_control.specs.Control.{HasGroundwork}
 use Rattle.tss_program_order.proofs.FlatNumbers.{number_there}
 use Rattle.tss_program_order.proofs.FlatStarts.{started-number}
 use Rattle.tss_names.proofs.NumberLemmas.{number_within}

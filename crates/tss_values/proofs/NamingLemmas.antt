@@ -21,7 +21,6 @@ use Rattle.tss_protocol.specs.State.{State}
 use Rattle.tss_control.specs.Members.{operand_among, IsWriterOn, NoWriterBetween}
 use Rattle.tss_names.specs.Tasks.{task_at}
 use Rattle.tss_program_order.specs.MainInOrder.{steps_taken, flat_beside, IsCutOff}
-use Rattle.tss_control.specs.Control.{HasGroundwork}
 use Rattle.tss_program_order.proofs.FlatNames.{Has, Has-at, same_range-equal}
 use Rattle.tss_program_order.proofs.FlatNaming.{writes_object, IsUnbroken, left_stays, unwritten_left}
 use Rattle.tss_program_order.proofs.FlatNumbers.{number_there, numbers_rise, one_place, spawned_rises, step_one}

@@ -22,7 +22,6 @@ use Rattle.tss_protocol.specs.UnitMachine.{is_enabled, IsEnabled, after_event, a
 use Rattle.tss_phases.proofs.Tests.{something}
 use Rattle.tss_locality.proofs.LeftFields.{Leaves-after_event}
 use Rattle.tss_names.specs.Tasks.{taken_by, IsTaken}
-use Rattle.tss_control.specs.Control.{HasGroundwork}
 use Rattle.tss_names.proofs.SpawnLemmas.{SpawnsAtMostOne, spawns_main}
 use Rattle.tss_names.proofs.TakeLemmas.{takes_take}
 use Rattle.tss_names.proofs.NumberLemmas.{taken_newest, last_taken_now, last_taken_before}

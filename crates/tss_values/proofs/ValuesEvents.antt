@@ -6,13 +6,8 @@ use Rattle.tss_base.specs.declared.event.Event.{Event}
 use Rattle.tss_base.specs.declared.event.Event.TheVariants as event
 use Rattle.tss_base.specs.Image.{ImageState}
 use Rattle.tss_protocol.specs.State.{State, initial_state}
-use Rattle.tss_protocol.specs.Needs.{round_of}
-use Rattle.tss_names.specs.Tasks.{spawned_tasks}
-use Rattle.tss_control.specs.Readers.{arrivals_from, no_arrivals}
 use Rattle.tss_program_order.proofs.RunKeeps.{HasGround-run}
 use Rattle.tss_program_order.proofs.MainEvent.{pieces-run}
-use Rattle.tss_control.proofs.GroundworkRuns.{HasGroundwork-Run}
-use Rattle.tss_control.proofs.GroundworkControl.{IsControlled-Run}
 use Rattle.tss_control.proofs.holders.KeepsOrder.{keeps_order}
 use Rattle.tss_values.proofs.buffers.Events.{HasBuffers-Run}
 use Rattle.tss_values.proofs.room.Events.{HasRoom-after_event}

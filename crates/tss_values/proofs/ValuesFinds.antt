@@ -1,6 +1,5 @@
 -- What an event finds in a state that a run leaves, and what every run has of it.
 use Rattle.std.proofs.Common.{List, []}
-use Rattle.tss_base.specs.declared.operand.Task.{Task}
 use Rattle.tss_base.specs.declared.machine.Machine.{Machine}
 use Rattle.tss_base.specs.declared.event.Event.{Event}
 use Rattle.tss_base.specs.Image.{ImageState, IsAccepted}
@@ -10,13 +9,8 @@ use Rattle.tss_protocol.specs.UnitMachine.{IsEnabled, after_event}
 use Rattle.tss_protocol.specs.Needs.{round_after_event, round_of}
 use Rattle.tss_protocol.specs.Run.{IsRun}
 use Rattle.tss_names.specs.Tasks.{spawned_after_event, spawned_tasks}
-use Rattle.tss_control.specs.Readers.{Arrivals}
-use Rattle.tss_values.specs.Buffers.{HasBuffers}
-use Rattle.tss_control.specs.Control.{HasGroundwork, IsControlled}
-use Rattle.tss_program_order.proofs.RunKeeps.{HasGround, HasGround-run, after_events-keeps}
+use Rattle.tss_program_order.proofs.RunKeeps.{HasGround-run, after_events-keeps}
 use Rattle.tss_program_order.proofs.FlatPieces.{NoneAfter}
-use Rattle.tss_control.proofs.GroundworkRuns.{HasGroundwork-Run}
-use Rattle.tss_control.proofs.GroundworkControl.{IsControlled-Run}
 use Rattle.tss_control.proofs.rounds.FitObjects.{HaveFitObjects, no_objects, HaveFitObjects-after_event}
 use Rattle.tss_names.proofs.RunLemmas.{kept_after}
 use Rattle.tss_values.proofs.ValuesJoin.{ValueFact, values_of_run}
@@ -26,7 +20,6 @@ use Rattle.tss_values.proofs.storages.FixedBytes.{HaveFitOperands, no_operands, 
 use Rattle.tss_model.specs.Memory.{memory_ranges}
 use Rattle.tss_values.proofs.Values.{HasValues}
 use Rattle.tss_values.proofs.storages.FixedOutputs.{HasOutputs, HasOutputs-initial_state, HasOutputs-after_event}
-use Rattle.tss_control.proofs.rounds.Facts.{Facts}
 use Rattle.tss_control.proofs.GroundworkControl.{Facts-Run}
 use Rattle.tss_values.proofs.WorkerFacts.{WorkerFacts}
 

@@ -3,7 +3,6 @@ use Rattle.std.proofs.Common.{◌≡◌, ◌≢◌, ℕ, List, [], Option, Some,
 use Rattle.std.specs.Prelude.{is_some, unwrap_or}
 use Rattle.std.specs.FinMap.{get, remove}
 use Rattle.tss_base.specs.declared.operand.OpName.{OpName}
-use Rattle.tss_base.specs.declared.operand.Task.{Task}
 use Rattle.tss_base.specs.declared.machine.Machine.{Machine}
 use Rattle.tss_base.specs.declared.event.Event.TheVariants as event
 use Rattle.tss_base.specs.Image.{ImageState}
@@ -17,7 +16,6 @@ use Rattle.tss_protocol.specs.UnitMachine.{IsEnabled, is_enabled, after_event, w
 use Rattle.tss_phases.proofs.Tests.{something}
 use Rattle.tss_locality.proofs.LeftFields.{Leaves-after_event}
 use Rattle.tss_values.specs.Buffers.{HasBuffers}
-use Rattle.tss_control.specs.Control.{HasGroundwork}
 use Rattle.tss_values.proofs.Values.{HasReturns}
 use Rattle.tss_values.proofs.returns.Returns.{KeepsReturns, returns_kept}
 use Rattle.tss_control.proofs.rounds.Facts.{Basis}

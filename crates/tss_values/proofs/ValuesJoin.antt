@@ -15,12 +15,9 @@ use Rattle.tss_protocol.specs.UnitMachine.{is_enabled, IsEnabled, after_event}
 use Rattle.tss_protocol.specs.Needs.{round_after_event, round_from, round_of}
 use Rattle.tss_protocol.specs.Run.{after_events, IsRun}
 use Rattle.tss_names.specs.Tasks.{spawned_after_event, spawned_after, spawned_tasks}
-use Rattle.tss_control.specs.Readers.{arrivals_from, no_arrivals}
 use Rattle.tss_program_order.specs.Refinement.{ResultLaw}
 use Rattle.tss_program_order.proofs.RunKeeps.{HasGround-run}
 use Rattle.tss_values.proofs.MainEndings.{EndsItself-Run, no_task_trap}
-use Rattle.tss_control.proofs.GroundworkRuns.{HasGroundwork-Run}
-use Rattle.tss_control.proofs.GroundworkControl.{IsControlled-Run}
 use Rattle.tss_values.proofs.ResultLemmas.{finished_result}
 use Rattle.tss_values.proofs.Values.{HasValues}
 use Rattle.tss_control.proofs.GroundworkControl.{Facts-Run}

@@ -5,13 +5,9 @@ use Rattle.tss_base.specs.declared.range.Range.{Range}
 use Rattle.tss_model.specs.Memory.{bytes_of}
 use Rattle.tss_model.specs.InOrder.{end_of_started}
 use Rattle.tss_protocol.specs.Mail.{StorageName}
-use Rattle.tss_protocol.specs.State.{initial_state}
-use Rattle.tss_protocol.specs.Needs.{round_of}
 use Rattle.tss_protocol.specs.Workers.{stored_bytes}
 use Rattle.tss_protocol.specs.UnitMachine.{stores_of}
 use Rattle.tss_program_order.specs.Refinement.{ProducedBytesLaw}
-use Rattle.tss_names.specs.Tasks.{spawned_tasks}
-use Rattle.tss_control.proofs.GroundworkRuns.{HasGroundwork-Run}
 use Rattle.tss_control.proofs.GroundworkControl.{IsControlled-Run}
 use Rattle.tss_values.proofs.NamingLemmas.{end_bytes}
 use Rattle.tss_values.proofs.ValuesJoin.{HaveValues}

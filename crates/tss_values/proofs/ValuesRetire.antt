@@ -20,8 +20,6 @@ use Rattle.tss_protocol.specs.Versions.{retired}
 use Rattle.tss_protocol.specs.Buffers.{buffer_bytes, sent_by_retire, new_copy, copies_after_retire}
 use Rattle.tss_protocol.specs.UnitMachine.{IsEnabled, is_enabled, after_event, without, can_retire, retire_version}
 use Rattle.tss_locality.proofs.LeftFields.{Leaves-after_event}
-use Rattle.tss_control.specs.Readers.{Arrivals}
-use Rattle.tss_control.specs.Control.{HasGroundwork, IsControlled}
 use Rattle.tss_names.proofs.PlainLemmas.{some_unit}
 use Rattle.tss_values.proofs.Values.{IsKnown, IsGood, bytes_after, content, HasStored, HasReturns}
 use Rattle.tss_control.proofs.rounds.Facts.{Facts}

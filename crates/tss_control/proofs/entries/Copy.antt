@@ -20,7 +20,6 @@ use Rattle.tss_phases.proofs.Tests.{something}
 use Rattle.tss_locality.proofs.LeftFields.{Leaves-after_event}
 use Rattle.tss_control.specs.Members.{IsVersionOf, IsOpenOf, IsMember, total}
 use Rattle.tss_control.specs.Entries.{IsGoingHome, IsLeaving, IsUsed, HasEntries, HasRetirement}
-use Rattle.tss_control.specs.Control.{HasGroundwork}
 use Rattle.tss_control.proofs.rounds.EntriesFrames.{KeepsEntries, DecodesNoMore, entries_kept}
 use Rattle.tss_control.proofs.entries.Decoded.{later_decodes_none}
 use Rattle.tss_control.proofs.rounds.RetirementFrames.{HasRetirement-same}

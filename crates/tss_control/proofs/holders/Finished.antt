@@ -7,7 +7,6 @@ use Rattle.tss_base.specs.declared.operand.OpName.{OpName}
 use Rattle.tss_base.specs.declared.operand.Mode.{Mode}
 use Rattle.tss_base.specs.declared.operand.Mode.TheVariants.{Input, Output, Inout}
 use Rattle.tss_base.specs.declared.operand.Operand.{Operand}
-use Rattle.tss_base.specs.declared.operand.Task.{Task}
 use Rattle.tss_base.specs.declared.machine.Machine.{Machine}
 use Rattle.tss_base.specs.declared.event.Event.TheVariants as event
 use Rattle.tss_maps.proofs.Keys.{nat_order, decide_key}
@@ -29,9 +28,7 @@ use Rattle.tss_phases.proofs.OrderlyLemmas.{fits_at, orderly_releasing, same_inf
 use Rattle.tss_phases.proofs.FinishEvent.{finished_task, apart_further, releases_other, look_ups-finish, look_ups-finish-beyond, look_ups-finish-other, phase_of-finish}
 use Rattle.tss_locality.proofs.LeftFields.{Leaves-after_event}
 use Rattle.tss_control.specs.Members.{operand_among}
-use Rattle.tss_control.specs.Readers.{Arrivals}
 use Rattle.tss_control.specs.Holders.{IsTrue, HasHolders}
-use Rattle.tss_control.specs.Control.{HasGroundwork, IsControlled}
 use Rattle.tss_control.proofs.readers.Links.{links-finish}
 use Rattle.tss_control.proofs.holders.Fits.{Holding, HasOpened, HasCome}
 use Rattle.tss_control.proofs.holders.Turns.{holding_remaining}

@@ -19,7 +19,6 @@ use Rattle.tss_control.specs.Chains.{HasChains}
 use Rattle.tss_control.specs.Entries.{HasRetirement}
 use Rattle.tss_control.specs.Readers.{Arrivals, head_of, HasReaders}
 use Rattle.tss_control.specs.Holders.{HasHolders}
-use Rattle.tss_control.specs.Control.{HasGroundwork, IsControlled}
 use Rattle.tss_control.proofs.rounds.ReleaseFacts.{releases_facts}
 use Rattle.tss_control.proofs.holders.Order.{takes_spawned, readies_waiting, links_waiting, finishes_ready}
 use Rattle.tss_control.proofs.holders.Told.{settle_tells_waiting, nacks_waiting, opens_waiting}

@@ -1,12 +1,11 @@
 -- What operands hold after an open: its own is told its version or waits, and the others are left.
-use Rattle.std.proofs.Common.{◌≡◌, ◌≢◌, ◌⊎◌, suc, Bool, true, false, cond, List, Some, None, refl, sym, ap, ◌∙◌, subst, inl, inr, true≢false}
+use Rattle.std.proofs.Common.{◌≡◌, ◌≢◌, ◌⊎◌, suc, Bool, true, false, cond, Some, None, refl, sym, ap, ◌∙◌, subst, inl, inr, true≢false}
 use Rattle.std.specs.FinMap.{get, len}
 use Rattle.std.proofs.lemmas.Option.{none-some, same_Some}
 use Rattle.tss_base.specs.declared.operand.OpName.{OpName}
 use Rattle.tss_base.specs.declared.operand.Mode.{Mode}
 use Rattle.tss_base.specs.declared.operand.Mode.TheVariants.{Input, Output, Inout}
 use Rattle.tss_base.specs.declared.operand.Operand.{Operand}
-use Rattle.tss_base.specs.declared.operand.Task.{Task}
 use Rattle.tss_base.specs.declared.machine.Machine.{Machine}
 use Rattle.tss_base.specs.declared.event.Event.TheVariants as event
 use Rattle.tss_base.specs.declared.marks.LinkState.{LinkState}
@@ -31,7 +30,6 @@ use Rattle.tss_phases.proofs.OpenEvent.{open_tells, news_open, look_ups-open-own
 use Rattle.tss_control.specs.Members.{operand_among}
 use Rattle.tss_control.specs.Readers.{Arrivals, Has, first_arrivals, set_arrivals, arrivals_opened, arrivals_after_event}
 use Rattle.tss_control.specs.Holders.{link_fits, IsOwnOrRead, IsTrue, HasHolders}
-use Rattle.tss_control.specs.Control.{HasGroundwork, IsControlled}
 use Rattle.tss_control.proofs.readers.Links.{links-open}
 use Rattle.tss_control.proofs.holders.Told.{settle_tells_own}
 use Rattle.tss_control.proofs.holders.Fits.{Needs, Holding, HasOpened, HasCome, HoldsIn, holding_of, holding_mapped, holders_by}

@@ -1,5 +1,5 @@
 -- What operands hold after a bye: the operand has left, or awaits its link, and its task may leave.
-use Rattle.std.proofs.Common.{◌≡◌, ◌≢◌, Bool, true, false, List, Option, Some, None, refl, sym, ap, ◌∙◌, subst, inl, inr, true≢false}
+use Rattle.std.proofs.Common.{◌≡◌, ◌≢◌, Bool, true, false, Option, Some, None, refl, sym, ap, ◌∙◌, subst, inl, inr, true≢false}
 use Rattle.std.specs.Prelude.{◌&&◌, not, if◌then◌else◌, is_some}
 use Rattle.std.specs.FinMap.{get}
 use Rattle.std.proofs.lemmas.Option.{none-some}
@@ -7,7 +7,6 @@ use Rattle.tss_base.specs.declared.operand.OpName.{OpName}
 use Rattle.tss_base.specs.declared.operand.Mode.{Mode}
 use Rattle.tss_base.specs.declared.operand.Mode.TheVariants.{Input, Output, Inout}
 use Rattle.tss_base.specs.declared.operand.Operand.{Operand}
-use Rattle.tss_base.specs.declared.operand.Task.{Task}
 use Rattle.tss_base.specs.declared.machine.Machine.{Machine}
 use Rattle.tss_base.specs.declared.event.Event.TheVariants as event
 use Rattle.tss_base.specs.declared.marks.Farewell.{Farewell}
@@ -33,9 +32,7 @@ use Rattle.tss_phases.proofs.OrderlyLemmas.{leaving_stands, orderly_promised, or
 use Rattle.tss_phases.proofs.ByeEvent.{parted_task, look_ups-bye-own, look_ups-bye-other, parted_record, parted_record_other, leaving_before, phase_of-bye, phase_of-bye-other}
 use Rattle.tss_locality.proofs.LeftFields.{Leaves-after_event}
 use Rattle.tss_control.specs.Members.{operand_among}
-use Rattle.tss_control.specs.Readers.{Arrivals}
 use Rattle.tss_control.specs.Holders.{IsTrue, PromiseFits, HasHolders}
-use Rattle.tss_control.specs.Control.{HasGroundwork, IsControlled}
 use Rattle.tss_control.proofs.readers.Links.{links-bye}
 use Rattle.tss_control.proofs.rounds.Spawned.{among_object}
 use Rattle.tss_control.proofs.holders.Fits.{Holding, HasOpened, HasCome, HoldsIn}

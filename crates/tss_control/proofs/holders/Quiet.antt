@@ -1,7 +1,6 @@
 -- Events that change nothing of which holders speak: ack, start, exec, idle, copy and gone.
-use Rattle.std.proofs.Common.{◌≡◌, ℕ, List}
+use Rattle.std.proofs.Common.{◌≡◌, ℕ}
 use Rattle.tss_base.specs.declared.operand.OpName.{OpName}
-use Rattle.tss_base.specs.declared.operand.Task.{Task}
 use Rattle.tss_base.specs.declared.machine.Machine.{Machine}
 use Rattle.tss_base.specs.declared.event.Event.{Event}
 use Rattle.tss_base.specs.declared.event.Event.TheVariants as event
@@ -12,9 +11,7 @@ use Rattle.tss_phases.specs.Orderly.{KeepsOrder}
 use Rattle.tss_phases.proofs.QuietEvents.{look_ups-ack, look_ups-exec, look_ups-idle, look_ups-copy, look_ups-gone}
 use Rattle.tss_phases.proofs.StartEvent.{look_ups-start}
 use Rattle.tss_locality.proofs.LeftFields.{Leaves-after_event}
-use Rattle.tss_control.specs.Readers.{Arrivals}
 use Rattle.tss_control.specs.Holders.{HasHolders}
-use Rattle.tss_control.specs.Control.{HasGroundwork, IsControlled}
 use Rattle.tss_control.proofs.holders.Fits.{HasHolders-same}
 use Rattle.tss_control.proofs.holders.RunnerEvents.{HasRunners-after_event}
 use Rattle.tss_control.proofs.readers.Links.{links-ack, links-start, links-exec, links-idle, links-copy, links-gone}

@@ -1,40 +1,32 @@
 -- The openers of versions after a release.
-use Rattle.std.proofs.Common.{◌≡◌, ◌≢◌, ◌⊎◌, suc, Bool, true, false, List, ◌++◌, Some, None, refl, sym, ap, ◌∙◌, subst, inl, inr, true≢false}
+use Rattle.std.proofs.Common.{◌≡◌, ◌≢◌, ◌⊎◌, suc, Bool, true, false, ◌++◌, Some, None, refl, sym, ap, ◌∙◌, subst, inl, inr, true≢false}
 use Rattle.std.specs.FinMap.{get, len}
 use Rattle.std.proofs.lemmas.Option.{none-some, same_Some}
 use Rattle.tss_base.specs.declared.operand.OpName.{OpName}
 use Rattle.tss_base.specs.declared.operand.Mode.{Mode}
 use Rattle.tss_base.specs.declared.operand.Mode.TheVariants.{Input, Output, Inout}
 use Rattle.tss_base.specs.declared.operand.Operand.{Operand}
-use Rattle.tss_base.specs.declared.operand.Task.{Task}
 use Rattle.tss_base.specs.declared.machine.Machine.{Machine}
-use Rattle.tss_base.specs.declared.event.Event.TheVariants as event
-use Rattle.tss_base.specs.Names.{Named}
 use Rattle.tss_maps.proofs.Keys.{name_order, decide_key}
 use Rattle.tss_maps.proofs.Changes.{at_inserted, one_value}
 use Rattle.tss_model.specs.Access.{writes}
-use Rattle.tss_protocol.specs.Mail.{StorageName, ReleaseContents, Message}
+use Rattle.tss_protocol.specs.Mail.{StorageName}
 use Rattle.tss_protocol.specs.State.{State, Version}
-use Rattle.tss_protocol.specs.Versions.{Versioned, settled}
-use Rattle.tss_protocol.specs.UnitMachine.{IsEnabled, after_event}
 use Rattle.tss_phases.specs.Phase.{Waiting, Told, Releasing, Leaving, phase_of}
 use Rattle.tss_phases.specs.Told.{tells, phase_told}
 use Rattle.tss_phases.specs.Openers.{produced_opener, open_opener, opener_by, version_opener}
 use Rattle.tss_phases.proofs.SettlingLemmas.{settle_tells_successor}
 use Rattle.tss_phases.proofs.ToldPhases.{second_tells}
-use Rattle.tss_phases.proofs.ReleaseEvent.{version_released, versions_released, heads_told, release_tells}
+use Rattle.tss_phases.proofs.ReleaseEvent.{version_released, release_tells}
 use Rattle.tss_control.specs.Members.{operand_among}
-use Rattle.tss_control.specs.Readers.{Arrivals, Has, head_of, oldest_of}
+use Rattle.tss_control.specs.Readers.{Has, head_of, oldest_of}
 use Rattle.tss_control.specs.Holders.{IsOwnOrRead}
-use Rattle.tss_control.specs.Control.{HasGroundwork, IsControlled}
 use Rattle.tss_control.proofs.rounds.ReadersLists.{has_oldest}
-use Rattle.tss_control.proofs.rounds.ReleaseFacts.{Releases}
 use Rattle.tss_control.proofs.holders.Sent.{told_own, waiting_opener, same_opener}
 use Rattle.tss_control.proofs.holders.Ready.{reader_operand, waiting_input}
 use Rattle.tss_control.proofs.holders.Settled.{from_alike}
 use Rattle.tss_control.proofs.holders.Releases.{z_parts}
 use Rattle.tss_control.proofs.holders.Releasing.{settles, versions, waits, not_waiting, came, now_leaving, other_phase, same_tells}
-use Rattle.tss_control.proofs.rounds.Facts.{Facts}
 use Rattle.tss_control.proofs.holders.Release.{Release, released}
 
 -- one that doesn't write is an input

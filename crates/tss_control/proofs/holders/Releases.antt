@@ -4,22 +4,19 @@ use Rattle.std.specs.FinMap.{get}
 use Rattle.std.proofs.lemmas.Option.{none-some}
 use Rattle.tss_base.specs.declared.operand.OpName.{OpName}
 use Rattle.tss_base.specs.declared.operand.Operand.{Operand}
-use Rattle.tss_base.specs.declared.operand.Task.{Task}
 use Rattle.tss_base.specs.Names.{Named}
 use Rattle.tss_maps.proofs.Keys.{name_order, decide_key}
 use Rattle.tss_maps.proofs.Changes.{at_inserted, beside_inserted, one_value}
 use Rattle.tss_model.specs.Access.{writes}
-use Rattle.tss_protocol.specs.Mail.{Source, ReleaseContents, Message}
+use Rattle.tss_protocol.specs.Mail.{Source, Message}
 use Rattle.tss_protocol.specs.State.{State, Version}
-use Rattle.tss_protocol.specs.Versions.{Versioned, put_version, settled}
+use Rattle.tss_protocol.specs.Versions.{Versioned, settled}
 use Rattle.tss_phases.specs.Phase.{Phase, Ahead, Decoding, Sent, Waiting, Told, Ready, Releasing, Leaving, Promised, Left, phase_of, has_released}
 use Rattle.tss_phases.specs.Openers.{holds_version, has_parted}
 use Rattle.tss_phases.proofs.ReleaseEvent.{version_released}
 use Rattle.tss_control.specs.Members.{operand_among, total}
-use Rattle.tss_control.specs.Readers.{Arrivals, Has}
+use Rattle.tss_control.specs.Readers.{Has}
 use Rattle.tss_control.specs.Holders.{IsTrue, IsOwnOrRead}
-use Rattle.tss_control.specs.Control.{IsControlled}
-use Rattle.tss_control.proofs.rounds.ReleaseFacts.{Releases}
 use Rattle.tss_control.proofs.rounds.ReadersLists.{has_newer}
 use Rattle.tss_control.proofs.rounds.ReadersStates.{all_have_gone}
 use Rattle.tss_control.proofs.readers.Settled.{registered_in_total}

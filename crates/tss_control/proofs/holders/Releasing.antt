@@ -1,19 +1,16 @@
 -- What a release leaves: the versions, whom it tells, and the phases.
-use Rattle.std.proofs.Common.{◌≡◌, ◌≢◌, ◌⊎◌, Bool, true, false, List, ◌++◌, Some, None, refl, sym, ap, ◌∙◌, inl, inr}
+use Rattle.std.proofs.Common.{◌≡◌, ◌≢◌, ◌⊎◌, Bool, true, false, ◌++◌, Some, None, refl, sym, ap, ◌∙◌, inl, inr}
 use Rattle.std.specs.FinMap.{get}
 use Rattle.std.proofs.lemmas.Option.{none-some}
 use Rattle.tss_base.specs.declared.operand.OpName.{OpName}
-use Rattle.tss_base.specs.declared.operand.Task.{Task}
 use Rattle.tss_base.specs.declared.machine.Machine.{Machine}
 use Rattle.tss_base.specs.declared.event.Event.TheVariants as event
-use Rattle.tss_base.specs.Names.{Named}
 use Rattle.tss_maps.proofs.Keys.{name_order}
 use Rattle.tss_maps.proofs.Changes.{at_inserted, beside_inserted, one_value}
-use Rattle.tss_protocol.specs.Mail.{ReleaseContents, Message}
 use Rattle.tss_protocol.specs.State.{State, OperandState, Version}
 use Rattle.tss_protocol.specs.Stations.{operand_at}
-use Rattle.tss_protocol.specs.Versions.{Versioned, released_by, released_at, settled}
-use Rattle.tss_protocol.specs.UnitMachine.{IsEnabled, after_event, without, release_message_taken}
+use Rattle.tss_protocol.specs.Versions.{released_by, released_at, settled}
+use Rattle.tss_protocol.specs.UnitMachine.{after_event, without, release_message_taken}
 use Rattle.tss_phases.specs.Phase.{Waiting, Releasing, Leaving, LookUps, look_ups, phase_of}
 use Rattle.tss_phases.specs.Told.{tells, WaitsIfTold, phase_told}
 use Rattle.tss_phases.specs.Openers.{version_opener}
@@ -22,17 +19,13 @@ use Rattle.tss_phases.specs.Orderly.{IsInformed, AreOrderly, ReleasesRegistered}
 use Rattle.tss_phases.proofs.Received.{received_all}
 use Rattle.tss_phases.proofs.News.{AreNews, news_both}
 use Rattle.tss_phases.proofs.ToldPhases.{not_told, bye_tells}
-use Rattle.tss_phases.proofs.ReleaseEvent.{versions_released, heads_told, bye_promised, sent_by_release, news_heads, news_released, release_sends_here, look_ups-release-own, look_ups-release-other, phase_of-release, phase_of-release-other}
+use Rattle.tss_phases.proofs.ReleaseEvent.{versions_released, bye_promised, sent_by_release, news_heads, news_released, release_sends_here, look_ups-release-own, look_ups-release-other, phase_of-release, phase_of-release-other}
 use Rattle.tss_phases.proofs.OrderlyLemmas.{releasing_stands}
-use Rattle.tss_control.specs.Readers.{Arrivals}
-use Rattle.tss_control.specs.Control.{HasGroundwork, IsControlled}
 use Rattle.tss_control.proofs.readers.Links.{links-release}
-use Rattle.tss_control.proofs.rounds.ReleaseFacts.{Releases}
 use Rattle.tss_control.proofs.holders.Sent.{waiting_opener}
 use Rattle.tss_control.proofs.holders.Settled.{from_alike, SettlesHeld}
 use Rattle.tss_control.proofs.holders.Releases.{z_parts, release_settles}
 use Rattle.tss_control.proofs.holders.KeepsOrder.{AreOrderly-controlled, keeps_order}
-use Rattle.tss_control.proofs.rounds.Facts.{Facts}
 use Rattle.tss_control.proofs.holders.Release.{Release, released}
 
 module _ (m : Machine) (S : State) (release : Release m S) where

@@ -1,10 +1,9 @@
 -- What operands hold after a retire: the version that goes is needed by nobody.
-use Rattle.std.proofs.Common.{◌≡◌, ◌≢◌, ◌≤◌, true, List, Option, Some, None, refl, sym, ap, ◌∙◌, subst, inl, inr, true≢false}
+use Rattle.std.proofs.Common.{◌≡◌, ◌≢◌, ◌≤◌, true, Option, Some, None, refl, sym, ap, ◌∙◌, subst, inl, inr, true≢false}
 use Rattle.std.specs.Prelude.{is_some}
 use Rattle.std.specs.FinMap.{get}
 use Rattle.std.proofs.lemmas.Option.{same_Some}
 use Rattle.tss_base.specs.declared.operand.OpName.{OpName}
-use Rattle.tss_base.specs.declared.operand.Task.{Task}
 use Rattle.tss_base.specs.declared.machine.Machine.{Machine}
 use Rattle.tss_base.specs.declared.event.Event.TheVariants as event
 use Rattle.tss_maps.proofs.Keys.{name_order, decide_key}
@@ -17,9 +16,7 @@ use Rattle.tss_phases.specs.Phase.{LookUps, look_ups, phase_at}
 use Rattle.tss_phases.specs.Openers.{version_opener}
 use Rattle.tss_phases.proofs.Tests.{something, both}
 use Rattle.tss_phases.proofs.QuietEvents.{look_ups-retire}
-use Rattle.tss_control.specs.Readers.{Arrivals}
 use Rattle.tss_control.specs.Holders.{IsTrue, HasHolders}
-use Rattle.tss_control.specs.Control.{HasGroundwork, IsControlled}
 use Rattle.tss_control.proofs.readers.Links.{links-retire}
 use Rattle.tss_control.proofs.readers.Retire.{retires_last, retires_released}
 use Rattle.tss_control.proofs.holders.Fits.{Holding, HasOpened, HasCome, holders_by}

@@ -1,5 +1,5 @@
 -- What operands hold after a take and a decode: an operand that is on its way to its version holds nothing yet.
-use Rattle.std.proofs.Common.{◌≡◌, ◌≢◌, Bool, true, false, List, Option, Some, None, refl, sym, ap, ◌∙◌, subst, inl, inr, true≢false}
+use Rattle.std.proofs.Common.{◌≡◌, ◌≢◌, Bool, true, false, Option, Some, None, refl, sym, ap, ◌∙◌, subst, inl, inr, true≢false}
 use Rattle.std.specs.Prelude.{slice_get, option_map}
 use Rattle.std.specs.FinMap.{get}
 use Rattle.std.proofs.lemmas.Option.{none-some, same_Some}
@@ -31,9 +31,7 @@ use Rattle.tss_phases.proofs.DecodeEvent.{decoding_before, phase_of-decode, look
 use Rattle.tss_locality.proofs.LeftFields.{Leaves-after_event}
 use Rattle.tss_names.specs.Tasks.{task_at}
 use Rattle.tss_control.specs.Members.{operand_among}
-use Rattle.tss_control.specs.Readers.{Arrivals}
 use Rattle.tss_control.specs.Holders.{link_fits, HasHolders}
-use Rattle.tss_control.specs.Control.{HasGroundwork, IsControlled}
 use Rattle.tss_control.proofs.readers.Links.{links-take, links-decode}
 use Rattle.tss_control.proofs.holders.Fits.{Holding}
 use Rattle.tss_control.proofs.holders.Moves.{holding_fresh, links_none}

@@ -6,7 +6,6 @@ use Rattle.std.proofs.lemmas.Option.{none-some, same_Some}
 use Rattle.tss_base.specs.declared.operand.OpName.{OpName}
 use Rattle.tss_base.specs.declared.operand.Operand.{Operand}
 use Rattle.tss_base.specs.declared.operand.Mode.TheVariants.{Input}
-use Rattle.tss_base.specs.declared.operand.Task.{Task}
 use Rattle.tss_base.specs.declared.machine.Machine.{Machine}
 use Rattle.tss_base.specs.declared.event.Event.TheVariants as event
 use Rattle.tss_base.specs.declared.marks.LinkState.TheVariants as link
@@ -30,7 +29,6 @@ use Rattle.tss_control.specs.Members.{operand_among}
 use Rattle.tss_control.specs.Chains.{IsUseInOrder}
 use Rattle.tss_control.specs.Readers.{Arrivals, Has, has_arrived, tail_of, set_arrivals, arrivals_used, arrivals_after_event, IsNewest, HasArrivals}
 use Rattle.tss_control.specs.Holders.{IsOwnOrRead, IsTrue, link_fits, HasHolders}
-use Rattle.tss_control.specs.Control.{HasGroundwork, IsControlled}
 use Rattle.tss_control.proofs.rounds.ReadersLists.{newest_of, newest_at}
 use Rattle.tss_control.proofs.readers.Come.{at_set}
 use Rattle.tss_control.proofs.readers.Use.{sent_link}

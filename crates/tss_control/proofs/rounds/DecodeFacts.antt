@@ -1,22 +1,20 @@
 -- What is known of a decode under way: older members of its object, and that earlier writers have been decoded.
-use Rattle.std.proofs.Common.{◌≡◌, ◌≢◌, ℕ, ◌≤◌, ◌<◌, true, false, List, Some, None, sym, ap, ◌∙◌, subst, inl, inr, arith}
+use Rattle.std.proofs.Common.{◌≡◌, ◌≢◌, ℕ, ◌≤◌, ◌<◌, true, Some, None, sym, ap, ◌∙◌, subst, inl, inr, arith}
 use Rattle.std.specs.FinMap.{get}
 use Rattle.std.proofs.lemmas.Option.{none-some, same_Some}
 use Rattle.tss_base.specs.declared.operand.OpName.{OpName}
 use Rattle.tss_base.specs.declared.operand.Operand.{Operand}
-use Rattle.tss_base.specs.declared.operand.Task.{Task}
 use Rattle.tss_base.specs.declared.machine.Machine.{Machine}
 use Rattle.tss_maps.proofs.Changes.{decide_get}
 use Rattle.tss_protocol.specs.Names.{bank_of}
 use Rattle.tss_protocol.specs.State.{State, Entry}
-use Rattle.tss_protocol.specs.Renaming.{HasTurn, line_of, has_earlier}
+use Rattle.tss_protocol.specs.Renaming.{HasTurn}
 use Rattle.tss_protocol.proofs.TurnLemmas.{none_before_turn}
 use Rattle.tss_phases.specs.Phase.{phase_of, is_decoded}
 use Rattle.tss_phases.specs.Orderly.{AreOrderly}
 use Rattle.tss_control.specs.Members.{operand_among, IsWriterOn, NoWriterBetween, IsMember}
 use Rattle.tss_control.specs.Chains.{HasChains}
 use Rattle.tss_control.specs.Entries.{HasEntries}
-use Rattle.tss_control.specs.Control.{HasGroundwork}
 use Rattle.tss_names.proofs.NumberLemmas.{number_within}
 use Rattle.tss_control.proofs.rounds.EntriesNames.{name_decoded, decode_among, none_later, member_operand, no_version, no_open}
 use Rattle.tss_control.proofs.rounds.Facts.{Basis}

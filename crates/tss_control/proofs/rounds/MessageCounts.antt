@@ -1,5 +1,5 @@
 -- The messages under way and the ready queue stay within their sizes, where a state is controlled.
-use Rattle.std.proofs.Common.{◌≡◌, ℕ, zero, suc, ◌+◌, ◌*◌, ◌<◌, ◌≤◌, Bool, true, false, List, [], ◌∷◌, length, Some, sym, ap, ◌∙◌, arith, true≢false}
+use Rattle.std.proofs.Common.{◌≡◌, ℕ, zero, suc, ◌+◌, ◌*◌, ◌<◌, ◌≤◌, Bool, true, List, [], ◌∷◌, length, Some, sym, ap, ◌∙◌, arith, true≢false}
 use Rattle.std.specs.Prelude.{◌==◌, ◌&&◌, nat_lt, is_some}
 use Rattle.std.specs.List.{list_any}
 use Rattle.std.specs.FinMap.{get, remove, len}
@@ -8,12 +8,10 @@ use Rattle.std.proofs.lemmas.Bool.Decides.{nat_tests}
 use Rattle.std.proofs.lemmas.List.{length-map}
 use Rattle.std.proofs.lemmas.Option.{slice_get_within}
 use Rattle.tss_base.specs.declared.operand.OpName.{OpName}
-use Rattle.tss_base.specs.declared.operand.Task.{Task}
 use Rattle.tss_base.specs.declared.machine.Machine.{Machine}
 use Rattle.tss_base.specs.declared.event.Event.{Event}
 use Rattle.tss_base.specs.Names.{Numbered}
 use Rattle.tss_base.specs.Image.{ImageState}
-use Rattle.tss_maps.specs.Sums.{one_if}
 use Rattle.tss_maps.proofs.Keys.{nat_order}
 use Rattle.tss_maps.proofs.Changes.{beside_removed}
 use Rattle.tss_maps.proofs.Entries.{len_removed}
@@ -28,8 +26,6 @@ use Rattle.tss_phases.proofs.OrderlyLemmas.{using_stands, telling_stands, releas
 use Rattle.tss_phases.proofs.Records.{task_of_record}
 use Rattle.tss_names.specs.MessageCounts.{BoundsMessages}
 use Rattle.tss_control.specs.Runners.{AreApart}
-use Rattle.tss_control.specs.Readers.{Arrivals}
-use Rattle.tss_control.specs.Control.{HasGroundwork, IsControlled}
 use Rattle.tss_names.proofs.MessageLemmas.{more_times}
 use Rattle.tss_names.proofs.NameCounts.{NameTest, IsMeasure, IsMeasure-map, IsMeasure-both, those_in, those_at, those_all, in_tasks, few_in_tasks}
 use Rattle.tss_control.proofs.rounds.Facts.{Facts}

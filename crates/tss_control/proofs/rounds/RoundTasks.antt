@@ -22,7 +22,6 @@ use Rattle.tss_locality.specs.Agreement.{operand_in}
 use Rattle.tss_locality.proofs.Subjects.{arrival_task}
 use Rattle.tss_locality.proofs.RoundObjects.{arrival_operand}
 use Rattle.tss_control.specs.Members.{first_there, operand_among, IsOn, IsWriterOn, NoWriterBetween}
-use Rattle.tss_control.specs.Control.{HasGroundwork}
 use Rattle.tss_program_order.proofs.FlatNames.{same_range-equal, same_range-refl}
 use Rattle.tss_control.proofs.rounds.Rounds.{OperandFound, found_among}
 use Rattle.tss_names.proofs.ListLemmas.{any_at, from_any, all_given, in_filtered, from_filtered, AreRising, AreRising-filter, NoneWritesAfter, last_writer, last_reader}

@@ -1,14 +1,10 @@
 -- In a controlled state each enabled event lowers the measure.
-use Rattle.std.proofs.Common.{List}
-use Rattle.tss_base.specs.declared.operand.Task.{Task}
 use Rattle.tss_base.specs.declared.machine.Machine.{Machine}
 use Rattle.tss_base.specs.declared.event.Event.{Event}
 use Rattle.tss_base.specs.declared.event.Event.TheVariants as event
 use Rattle.tss_base.specs.Machine.{IsAdmissible}
 use Rattle.tss_protocol.specs.State.{State}
 use Rattle.tss_protocol.specs.UnitMachine.{IsEnabled, after_event}
-use Rattle.tss_control.specs.Readers.{Arrivals}
-use Rattle.tss_control.specs.Control.{HasGroundwork, IsControlled}
 use Rattle.tss_progress.proofs.bound.Measure.{IsLowered}
 use Rattle.tss_progress.proofs.bound.Main.{lowered_main}
 use Rattle.tss_progress.proofs.bound.Exec.{lowered_exec}

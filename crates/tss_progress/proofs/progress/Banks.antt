@@ -8,7 +8,6 @@ use Rattle.std.proofs.lemmas.Option.{none-some, same_Some}
 use Rattle.tss_base.specs.declared.range.Range.{Range}
 use Rattle.tss_base.specs.declared.operand.OpName.{OpName}
 use Rattle.tss_base.specs.declared.operand.Operand.{Operand}
-use Rattle.tss_base.specs.declared.operand.Task.{Task}
 use Rattle.tss_base.specs.declared.machine.Machine.{Machine}
 use Rattle.tss_base.specs.declared.marks.Follow.{Follow}
 use Rattle.tss_model.specs.Access.{operands_of}
@@ -20,8 +19,7 @@ use Rattle.tss_locality.proofs.Flights.{from_mapped}
 use Rattle.tss_phases.specs.Phase.{Phase, Ahead, Decoding, Sent, Waiting, Told, Ready, Releasing, Leaving, Promised, Left, phase_of, is_decoded}
 use Rattle.tss_names.specs.Tasks.{task_at}
 use Rattle.tss_control.specs.Members.{operand_among}
-use Rattle.tss_control.specs.Readers.{Arrivals, has_arrived}
-use Rattle.tss_control.specs.Control.{HasGroundwork, IsControlled}
+use Rattle.tss_control.specs.Readers.{has_arrived}
 use Rattle.tss_control.proofs.rounds.EntriesNames.{decode_among, decoded_apart, name_decoded}
 use Rattle.tss_program_order.proofs.FlatNames.{same_range-equal, same_range-refl}
 use Rattle.tss_progress.proofs.progress.CalmStates.{flying_operand}

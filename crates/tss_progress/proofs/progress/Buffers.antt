@@ -1,12 +1,11 @@
 -- Each held buffer is that of an open under way, of a version, of one that is gone with its message under way, or of
 -- one that is copied home. Every event keeps this.
-use Rattle.std.proofs.Common.{◌≡◌, ℕ, ◌+◌, Bool, true, false, List, Option, Some, None, refl, sym, ap, ◌∙◌, inl, inr, true≢false}
+use Rattle.std.proofs.Common.{◌≡◌, ℕ, ◌+◌, Bool, true, false, Option, Some, None, refl, sym, ap, ◌∙◌, inl, inr, true≢false}
 use Rattle.std.specs.Prelude.{is_some}
 use Rattle.std.specs.FinMap.{get, remove, get-empty}
 use Rattle.std.proofs.lemmas.Bool.{and_parts}
 use Rattle.std.proofs.lemmas.Option.{none-some, same_Some}
 use Rattle.tss_base.specs.declared.operand.OpName.{OpName}
-use Rattle.tss_base.specs.declared.operand.Task.{Task}
 use Rattle.tss_base.specs.declared.machine.Machine.{Machine}
 use Rattle.tss_base.specs.declared.event.Event.{Event}
 use Rattle.tss_base.specs.declared.event.Event.TheVariants as event
@@ -22,8 +21,6 @@ use Rattle.tss_protocol.specs.Versions.{retired}
 use Rattle.tss_protocol.specs.Buffers.{can_retire_from, sent_by_retire, new_copy, copies_after_retire, is_last_piece, piece_len, copies_after_copy, sent_by_copy}
 use Rattle.tss_protocol.specs.MainEvent.{call_next}
 use Rattle.tss_protocol.specs.UnitMachine.{IsEnabled, is_enabled, after_event, without, can_retire, retire_version, after_copy, gone_message_taken}
-use Rattle.tss_control.specs.Readers.{Arrivals}
-use Rattle.tss_control.specs.Control.{HasGroundwork, IsControlled}
 use Rattle.tss_names.proofs.PlainLemmas.{name_apart, none_from_test}
 use Rattle.tss_progress.proofs.progress.Drained.{HaveHolders}
 use Rattle.tss_progress.proofs.progress.Holders.{Holder, Held, same_buffer, no_home}

@@ -7,7 +7,6 @@ use Rattle.std.proofs.lemmas.Bool.{and_from, eq-eqb}
 use Rattle.std.proofs.lemmas.Option.{none-some}
 use Rattle.tss_base.specs.declared.operand.OpName.{OpName}
 use Rattle.tss_base.specs.declared.operand.Operand.{Operand}
-use Rattle.tss_base.specs.declared.operand.Task.{Task}
 use Rattle.tss_base.specs.declared.machine.Machine.{Machine}
 use Rattle.tss_base.specs.declared.marks.LinkState.TheVariants as link
 use Rattle.tss_base.specs.declared.marks.Farewell.{Farewell}
@@ -22,9 +21,8 @@ use Rattle.tss_protocol.specs.Stations.{operand_at}
 use Rattle.tss_phases.specs.Phase.{Phase, Ahead, Decoding, Sent, Waiting, Told, Ready, Releasing, Leaving, Promised, Left, is_ahead, record_phase, station_phase, look_ups, phase_of, has_released}
 use Rattle.tss_phases.proofs.PhaseLemmas.{phase_decoding, phase_silent}
 use Rattle.tss_control.specs.Members.{operand_among, registered_of, opening_reader, uses_of, total}
-use Rattle.tss_control.specs.Readers.{Arrivals, Has, oldest_of, released_among, Holds, AreChained}
+use Rattle.tss_control.specs.Readers.{Has, oldest_of, released_among, Holds, AreChained}
 use Rattle.tss_control.specs.Holders.{link_fits}
-use Rattle.tss_control.specs.Control.{HasGroundwork, IsControlled}
 use Rattle.tss_control.proofs.rounds.Spawned.{among_object}
 use Rattle.tss_control.proofs.rounds.Facts.{Facts}
 

@@ -1,22 +1,20 @@
 -- In a drained state nothing is anywhere, and in a finished one no event is enabled.
-use Rattle.std.proofs.Common.{◌≡◌, ℕ, Bool, true, false, length, None, ap, inl, inr, arith}
-use Rattle.std.specs.Prelude.{◌==◌, ◌&&◌, ◌||◌, not, is_none, is_some}
-use Rattle.std.specs.FinMap.{get, len}
+use Rattle.std.proofs.Common.{◌≡◌, ℕ, Bool, true, false, None, ap, inl, inr}
+use Rattle.std.specs.Prelude.{◌&&◌, ◌||◌, not, is_some}
+use Rattle.std.specs.FinMap.{get}
 use Rattle.std.proofs.lemmas.Bool.{and_parts, and_left, and_right, or_cases, not_from_true}
 use Rattle.tss_base.specs.declared.operand.OpName.{OpName}
 use Rattle.tss_base.specs.declared.machine.Machine.{Machine}
 use Rattle.tss_base.specs.declared.event.Event.{Event}
 use Rattle.tss_base.specs.declared.event.Event.TheVariants as event
 use Rattle.tss_maps.proofs.Entries.{absent_empty}
-use Rattle.tss_protocol.specs.Mail.{message_count, is_silent}
 use Rattle.tss_protocol.specs.State.{State}
-use Rattle.tss_protocol.specs.Gateway.{is_idle}
-use Rattle.tss_protocol.specs.MainEvent.{has_no_task, has_no_object, is_drained, call_next, may_call}
+use Rattle.tss_protocol.specs.MainEvent.{is_drained, call_next, may_call}
 use Rattle.tss_protocol.specs.Result.{IsFinished}
 use Rattle.tss_protocol.specs.Workers.{can_start, can_exec, can_finish}
 use Rattle.tss_protocol.specs.UnitMachine.{is_enabled, can_take, can_decode_message, can_open_message, can_use_message, can_retire}
 use Rattle.tss_progress.specs.Progress.{FinishedLaw}
-use Rattle.tss_names.proofs.PlainLemmas.{none_from_test, zero_from_test}
+use Rattle.tss_protocol.proofs.DrainedStates.{nothing_drained, has_none}
 use Rattle.tss_control.proofs.GroundworkEmpty.{IsBare, IsBare-drained}
 
 -- nothing is where no bare state has anything: in the inbox, among the copies and the other messages
@@ -30,32 +28,20 @@ record IsEmpty (S : State) : Type 0 where
   retires : (v : OpName) → get S.mail.retires v ≡ None
   gones : (v : OpName) → get S.mail.gones v ≡ None
 
-silent_empty : (S : State) → IsBare S → S.inbox ≡ None → len S.copies ≡ 0 → message_count S.mail ≡ 0 → IsEmpty S
-silent_empty S bare inbox copies e = record {
-  bare = bare;
-  inbox = inbox;
-  copies = λ b. absent_empty S.copies b copies;
-  acks = λ o. absent_empty S.mail.acks o (omega (arith, e));
-  idles = λ v. absent_empty S.mail.idles v (omega (arith, e));
-  nacks = λ v. absent_empty S.mail.nacks v (omega (arith, e));
-  retires = λ v. absent_empty S.mail.retires v (omega (arith, e));
-  gones = λ v. absent_empty S.mail.gones v (omega (arith, e));
-}
-
 empty_when_drained : (S : State) → is_drained S ≡ true → IsEmpty S
 empty_when_drained S drained =
-    let outer = and_parts (has_no_task S && has_no_object S) (is_silent S.mail) drained in
-    let inner = and_parts (has_no_task S) (has_no_object S) outer.0 in
-    let i = is_none S.inbox in
-    let g = is_idle S.gateway in
-    let t4 = and_parts (i && g && (len S.flight == 0) && (length S.queue == 0)) (len S.workers == 0) inner.0 in
-    let t3 = and_parts (i && g && (len S.flight == 0)) (length S.queue == 0) t4.0 in
-    let t2 = and_parts (i && g) (len S.flight == 0) t3.0 in
-    let t1 = and_parts i g t2.0 in
-    let o = (len S.entries == 0) && (len S.places == 0) && (len S.buffers == 0) && (len S.versions == 0) in
-    silent_empty S (IsBare-drained S drained) (none_from_test S.inbox t1.0)
-    (zero_from_test (len S.copies) (and_parts o (len S.copies == 0) inner.1).1)
-    (zero_from_test (message_count S.mail) outer.1)
+    let h = nothing_drained S drained in
+    let m = has_none S.mail h.messages in
+    record {
+      bare = IsBare-drained S drained;
+      inbox = h.inbox;
+      copies = λ b. absent_empty S.copies b h.copies;
+      acks = λ o. absent_empty S.mail.acks o m.acks;
+      idles = λ v. absent_empty S.mail.idles v m.idles;
+      nacks = λ v. absent_empty S.mail.nacks v m.nacks;
+      retires = λ v. absent_empty S.mail.retires v m.retires;
+      gones = λ v. absent_empty S.mail.gones v m.gones;
+    }
 
 -- main that has ended, or finds a trap held, does nothing
 main_over : (a b : Bool) (c : Bool) → (a || b) ≡ true → (not a && not b && c) ≡ false

@@ -1,11 +1,10 @@
 -- A state in which no event is enabled is finished: the oldest task in flight has a decode that may happen, and without
 -- a task in flight nothing is left.
-use Rattle.std.proofs.Common.{◌≡◌, ℕ, ◌≤◌, Bool, true, false, List, Option, Some, None, refl, sym, ap, ◌∙◌, inl, inr, arith, true≢false}
+use Rattle.std.proofs.Common.{◌≡◌, ℕ, ◌≤◌, Bool, true, false, Option, Some, None, refl, sym, ap, ◌∙◌, inl, inr, arith, true≢false}
 use Rattle.std.specs.FinMap.{get}
 use Rattle.std.proofs.lemmas.Bool.{cases_eq}
 use Rattle.tss_base.specs.declared.operand.OpName.{OpName}
 use Rattle.tss_base.specs.declared.operand.Operand.{Operand}
-use Rattle.tss_base.specs.declared.operand.Task.{Task}
 use Rattle.tss_base.specs.declared.machine.Machine.{Machine}
 use Rattle.tss_base.specs.declared.event.Event.{Event}
 use Rattle.tss_base.specs.declared.event.Event.TheVariants as event
@@ -25,8 +24,6 @@ use Rattle.tss_protocol.specs.UnitMachine.{IsEnabled}
 use Rattle.tss_phases.specs.Phase.{Decoding, record_phase, station_phase, is_ahead, look_ups, phase_of}
 use Rattle.tss_phases.proofs.PhaseLemmas.{phase_silent}
 use Rattle.tss_phases.proofs.Shown.{is_still}
-use Rattle.tss_control.specs.Readers.{Arrivals}
-use Rattle.tss_control.specs.Control.{HasGroundwork, IsControlled}
 use Rattle.tss_progress.proofs.progress.Choice.{IsStuck, enabled_or_stuck}
 use Rattle.tss_progress.proofs.progress.Stuck.{IsQuiet, quiet_when_stuck}
 use Rattle.tss_progress.proofs.progress.Phases.{HasLetGo}

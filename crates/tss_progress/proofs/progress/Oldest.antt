@@ -1,6 +1,6 @@
 -- The oldest task in flight of a quiet state: all that was before it has left, so none of its operands waits, and one
 -- is still to be decoded.
-use Rattle.std.proofs.Common.{◌≡◌, ℕ, ◌<◌, ◌≤◌, ◌⊎◌, Bool, true, false, List, Option, Some, None, refl, sym, ap, ◌∙◌, subst, inl, inr, arith, true≢false}
+use Rattle.std.proofs.Common.{◌≡◌, ℕ, ◌<◌, ◌≤◌, ◌⊎◌, Bool, true, false, Option, Some, None, refl, sym, ap, ◌∙◌, subst, inl, inr, arith, true≢false}
 use Rattle.std.specs.Prelude.{slice_get, is_some}
 use Rattle.std.specs.FinMap.{get}
 use Rattle.std.proofs.lemmas.Bool.{cases_order}
@@ -10,7 +10,6 @@ use Rattle.tss_base.specs.declared.operand.OpName.{OpName}
 use Rattle.tss_base.specs.declared.operand.Mode.{Mode}
 use Rattle.tss_base.specs.declared.operand.Mode.TheVariants.{Input, Output, Inout}
 use Rattle.tss_base.specs.declared.operand.Operand.{Operand}
-use Rattle.tss_base.specs.declared.operand.Task.{Task}
 use Rattle.tss_base.specs.declared.machine.Machine.{Machine}
 use Rattle.tss_base.specs.declared.marks.Follow.{Follow}
 use Rattle.tss_model.specs.Access.{writes}
@@ -24,8 +23,7 @@ use Rattle.tss_phases.specs.Openers.{open_opener, opener_by}
 use Rattle.tss_phases.proofs.Shown.{ready_shows}
 use Rattle.tss_control.specs.Members.{operand_among, IsOn, IsWriterOn}
 use Rattle.tss_control.specs.Chains.{IsFollowed}
-use Rattle.tss_control.specs.Readers.{Arrivals, Has}
-use Rattle.tss_control.specs.Control.{HasGroundwork, IsControlled}
+use Rattle.tss_control.specs.Readers.{Has}
 use Rattle.tss_progress.proofs.progress.CalmStates.{flying_operand, no_reader_waits}
 use Rattle.tss_progress.proofs.progress.Stuck.{IsQuiet, calm_of}
 use Rattle.tss_progress.proofs.progress.Versions.{AllLeft, none_behind}

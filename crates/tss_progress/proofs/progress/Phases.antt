@@ -19,9 +19,7 @@ use Rattle.tss_locality.proofs.Flights.{record_in}
 use Rattle.tss_phases.specs.Phase.{Phase, Ahead, Decoding, Sent, Waiting, Told, Ready, Releasing, Leaving, Promised, Left, inbox_has, look_ups, phase_of}
 use Rattle.tss_phases.proofs.Shown.{left_shows, ahead_shows}
 use Rattle.tss_phases.proofs.OrderlyLemmas.{left_by_absence}
-use Rattle.tss_control.specs.Readers.{Arrivals}
 use Rattle.tss_control.specs.Runners.{IsAtStage, is_late}
-use Rattle.tss_control.specs.Control.{HasGroundwork, IsControlled}
 use Rattle.tss_progress.proofs.progress.CalmStates.{is_calm, calm_phase, flying_operand}
 use Rattle.tss_progress.proofs.progress.Stuck.{IsQuiet, calm_of}
 use Rattle.tss_control.proofs.rounds.Facts.{Facts}

@@ -5,7 +5,6 @@ use Rattle.std.specs.FinMap.{get}
 use Rattle.std.proofs.lemmas.Bool.{and_from, lt-ltb}
 use Rattle.std.proofs.lemmas.Option.{none-some}
 use Rattle.tss_base.specs.declared.operand.OpName.{OpName}
-use Rattle.tss_base.specs.declared.operand.Task.{Task}
 use Rattle.tss_base.specs.declared.machine.Key.TheVariants.{Workers}
 use Rattle.tss_base.specs.declared.machine.Machine.{Machine}
 use Rattle.tss_base.specs.declared.event.Event.{Event}
@@ -20,8 +19,6 @@ use Rattle.tss_protocol.specs.Buffers.{can_retire_from}
 use Rattle.tss_protocol.specs.Workers.{can_start, can_exec, can_finish, has_ended}
 use Rattle.tss_protocol.specs.UnitMachine.{is_enabled, can_open_message, can_use_message, can_retire}
 use Rattle.tss_control.specs.Chains.{OpensAfter}
-use Rattle.tss_control.specs.Readers.{Arrivals}
-use Rattle.tss_control.specs.Control.{HasGroundwork, IsControlled}
 use Rattle.tss_progress.proofs.progress.CalmStates.{IsCalm}
 use Rattle.tss_progress.proofs.progress.Choice.{IsStuck}
 use Rattle.tss_control.proofs.rounds.Facts.{Facts}

@@ -1,5 +1,5 @@
 -- Versions in a quiet state: one whose readers have all left doesn't stay.
-use Rattle.std.proofs.Common.{◌≡◌, ℕ, ◌<◌, Bool, true, false, List, Option, Some, None, refl, sym, ap, ◌∙◌, subst, inl, inr, arith, true≢false}
+use Rattle.std.proofs.Common.{◌≡◌, ℕ, ◌<◌, Bool, true, false, Option, Some, None, refl, sym, ap, ◌∙◌, subst, inl, inr, arith, true≢false}
 use Rattle.std.specs.Prelude.{◌==◌, ◌&&◌, not, is_none}
 use Rattle.std.specs.FinMap.{get}
 use Rattle.std.proofs.lemmas.Bool.{and_from}
@@ -7,7 +7,6 @@ use Rattle.std.proofs.lemmas.Bool.Decides.{nat_tests}
 use Rattle.std.proofs.lemmas.Option.{none-some, same_Some}
 use Rattle.tss_base.specs.declared.range.Range.{Range}
 use Rattle.tss_base.specs.declared.operand.OpName.{OpName}
-use Rattle.tss_base.specs.declared.operand.Task.{Task}
 use Rattle.tss_base.specs.declared.machine.Machine.{Machine}
 use Rattle.tss_base.specs.declared.marks.Follow.{Follow}
 use Rattle.tss_protocol.specs.State.{State, Entry, Version}
@@ -15,8 +14,7 @@ use Rattle.tss_protocol.specs.Versions.{is_count}
 use Rattle.tss_phases.specs.Phase.{Left, phase_of, has_released}
 use Rattle.tss_control.specs.Members.{total, IsVersionOf}
 use Rattle.tss_control.specs.Entries.{IsLeaving}
-use Rattle.tss_control.specs.Readers.{Arrivals, Has}
-use Rattle.tss_control.specs.Control.{HasGroundwork, IsControlled}
+use Rattle.tss_control.specs.Readers.{Has}
 use Rattle.tss_progress.proofs.progress.CalmStates.{AllReleased, nobody_asks, total_registered, all_released, none_released_behind}
 use Rattle.tss_progress.proofs.progress.Stuck.{IsQuiet, calm_of}
 use Rattle.tss_control.proofs.rounds.Facts.{Facts}

@@ -7,7 +7,6 @@ use Rattle.std.specs.FinMap.{FinMap, get, entries, values}
 use Rattle.std.proofs.lemmas.Bool.{and_from, or_left, or_right}
 use Rattle.std.proofs.lemmas.List.Folds.{list_all-map}
 use Rattle.std.proofs.lemmas.Option.{slice_get-map}
-use Rattle.tss_base.specs.declared.operand.Task.{Task}
 use Rattle.tss_base.specs.declared.machine.Machine.{Machine}
 use Rattle.tss_base.specs.declared.marks.Stage.{Stage}
 use Rattle.tss_base.specs.declared.marks.Stage.TheVariants as stage
@@ -19,8 +18,6 @@ use Rattle.tss_protocol.specs.State.{State, OperandState, Flying}
 use Rattle.tss_protocol.specs.Stations.{operand_at, is_ready}
 use Rattle.tss_protocol.specs.Needs.{runs_or_finished, is_past, is_in_queue, needed_tasks, waits_rightly, HasNoFalseWait}
 use Rattle.tss_locality.proofs.Flights.{record_in}
-use Rattle.tss_control.specs.Readers.{Arrivals}
-use Rattle.tss_control.specs.Control.{HasGroundwork, IsControlled}
 use Rattle.tss_progress.proofs.progress.Phases.{HasLetGo, fails_somewhere}
 use Rattle.tss_names.proofs.ListLemmas.{AreRising}
 use Rattle.tss_control.proofs.rounds.RoundTasks.{among_tasks}

@@ -1,5 +1,5 @@
 -- No false wait: in a state without messages a task that waits needs one that hasn't finished.
-use Rattle.std.proofs.Common.{◌≡◌, ◌≢◌, ℕ, ◌<◌, ◌⊎◌, Bool, true, false, List, Option, Some, None, refl, sym, ap, ◌∙◌, subst, inl, inr, arith, true≢false}
+use Rattle.std.proofs.Common.{◌≡◌, ◌≢◌, ℕ, ◌<◌, ◌⊎◌, Bool, true, false, Option, Some, None, refl, sym, ap, ◌∙◌, subst, inl, inr, arith, true≢false}
 use Rattle.std.specs.Prelude.{slice_get}
 use Rattle.std.specs.List.{list_all}
 use Rattle.std.specs.FinMap.{get}
@@ -20,8 +20,7 @@ use Rattle.tss_protocol.specs.Needs.{is_past, needed_tasks}
 use Rattle.tss_phases.specs.Phase.{Waiting, phase_of, has_released}
 use Rattle.tss_phases.specs.Openers.{open_opener, opener_by}
 use Rattle.tss_control.specs.Members.{operand_among, IsOn, IsWriterOn, NoWriterBetween}
-use Rattle.tss_control.specs.Readers.{Arrivals, Has}
-use Rattle.tss_control.specs.Control.{HasGroundwork, IsControlled}
+use Rattle.tss_control.specs.Readers.{Has}
 use Rattle.tss_progress.proofs.progress.CalmStates.{no_reader_waits, none_released_behind}
 use Rattle.tss_progress.proofs.progress.Phases.{HasLetGo}
 use Rattle.tss_names.proofs.ListLemmas.{AreRising}

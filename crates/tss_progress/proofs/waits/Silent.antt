@@ -1,6 +1,6 @@
 -- A state without messages: an operand in flight that isn't ready waits, and one whose task has finished or left has
 -- released its version.
-use Rattle.std.proofs.Common.{◌≡◌, Bool, true, false, List, Option, Some, None, refl, sym, ap, ◌∙◌, inl, inr, arith, true≢false}
+use Rattle.std.proofs.Common.{◌≡◌, Bool, true, false, Option, Some, None, refl, sym, ap, ◌∙◌, inl, inr, arith, true≢false}
 use Rattle.std.specs.Prelude.{◌==◌, not, is_some, nat_lt, slice_get}
 use Rattle.std.specs.FinMap.{get}
 use Rattle.std.proofs.lemmas.Bool.{or_from, eqb-true, le-ltb, not-true}
@@ -27,9 +27,7 @@ use Rattle.tss_phases.proofs.PhaseLemmas.{phase_silent}
 use Rattle.tss_phases.proofs.Shown.{is_still}
 use Rattle.tss_phases.proofs.OrderlyLemmas.{left_by_absence}
 use Rattle.tss_control.specs.Members.{operand_among}
-use Rattle.tss_control.specs.Readers.{Arrivals}
 use Rattle.tss_control.specs.Runners.{is_late}
-use Rattle.tss_control.specs.Control.{HasGroundwork, IsControlled}
 use Rattle.tss_control.proofs.rounds.Spawned.{of_spawned}
 use Rattle.tss_progress.proofs.progress.CalmStates.{IsCalm}
 use Rattle.tss_progress.proofs.progress.Phases.{HasLetGo}

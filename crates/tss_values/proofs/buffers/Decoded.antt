@@ -1,12 +1,11 @@
 -- Holders of buffers after a decode: an output takes a buffer of its own name, which nobody had.
-use Rattle.std.proofs.Common.{◌≡◌, ◌≢◌, ◌⊎◌, inl, inr, ℕ, ◌≤◌, List, [], ◌∷◌, Option, Some, None, refl, sym, ap, ◌∙◌, arith}
+use Rattle.std.proofs.Common.{◌≡◌, ◌≢◌, ◌⊎◌, inl, inr, ℕ, ◌≤◌, [], ◌∷◌, Option, Some, None, refl, sym, ap, ◌∙◌, arith}
 use Rattle.std.specs.FinMap.{get, insert}
 use Rattle.std.proofs.lemmas.Option.{none-some}
 use Rattle.tss_base.specs.declared.operand.OpName.{OpName}
 use Rattle.tss_base.specs.declared.operand.Mode.{Mode}
 use Rattle.tss_base.specs.declared.operand.Mode.TheVariants.{Input, Output, Inout}
 use Rattle.tss_base.specs.declared.operand.Operand.{Operand}
-use Rattle.tss_base.specs.declared.operand.Task.{Task}
 use Rattle.tss_base.specs.declared.machine.Machine.{Machine}
 use Rattle.tss_base.specs.declared.event.Event.TheVariants as event
 use Rattle.tss_base.specs.Names.{Named}
@@ -19,8 +18,6 @@ use Rattle.tss_protocol.specs.Renaming.{takes_buffer, buffers_after_decode, open
 use Rattle.tss_protocol.specs.UnitMachine.{after_event, without, decode_message_taken}
 use Rattle.tss_control.specs.Members.{operand_among}
 use Rattle.tss_values.specs.Buffers.{HasBuffer, HasBuffers}
-use Rattle.tss_control.specs.Readers.{Arrivals}
-use Rattle.tss_control.specs.Control.{HasGroundwork, IsControlled}
 use Rattle.tss_control.proofs.rounds.EntriesNames.{decode_among}
 use Rattle.tss_values.proofs.buffers.Kept.{PassesBuffers, buffers_kept}
 use Rattle.tss_control.proofs.rounds.Facts.{Facts}

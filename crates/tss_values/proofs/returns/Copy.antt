@@ -6,7 +6,6 @@ use Rattle.std.specs.FinMap.{get}
 use Rattle.tss_base.specs.declared.range.Range.{Range}
 use Rattle.tss_base.specs.declared.operand.OpName.{OpName}
 use Rattle.tss_base.specs.declared.operand.Operand.{Operand}
-use Rattle.tss_base.specs.declared.operand.Task.{Task}
 use Rattle.tss_base.specs.declared.machine.Machine.{Machine}
 use Rattle.tss_base.specs.declared.event.Event.TheVariants as event
 use Rattle.tss_base.specs.Image.{ImageState}
@@ -25,9 +24,7 @@ use Rattle.tss_locality.specs.Rounds.{object_in, IsIn}
 use Rattle.tss_locality.proofs.LeftFields.{Leaves-after_event}
 use Rattle.tss_locality.proofs.RoundObjects.{arrival_operand, found_in_round}
 use Rattle.tss_control.specs.Members.{operand_among}
-use Rattle.tss_control.specs.Readers.{Arrivals}
 use Rattle.tss_control.specs.Entries.{IsGoingHome}
-use Rattle.tss_control.specs.Control.{HasGroundwork, IsControlled}
 use Rattle.tss_program_order.proofs.FlatNames.{covers-meet}
 use Rattle.tss_program_order.proofs.StoreRuns.{stored_by}
 use Rattle.tss_program_order.proofs.StoreFrames.{copy-beside, copy-moved}

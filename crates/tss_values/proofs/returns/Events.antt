@@ -15,8 +15,6 @@ use Rattle.tss_protocol.specs.Buffers.{buffer_bytes}
 use Rattle.tss_protocol.specs.Needs.{round_after_event}
 use Rattle.tss_protocol.specs.UnitMachine.{IsEnabled, after_event}
 use Rattle.tss_values.specs.Buffers.{HasBuffers}
-use Rattle.tss_control.specs.Readers.{Arrivals}
-use Rattle.tss_control.specs.Control.{HasGroundwork, IsControlled}
 use Rattle.tss_control.proofs.rounds.FitObjects.{HaveFitObjects}
 use Rattle.tss_control.proofs.rounds.EntriesNames.{operand_of_object}
 use Rattle.tss_values.proofs.Values.{HasStored, HasReturns, HasRoom}

@@ -1,8 +1,7 @@
 -- What is brought home after a worker's start, and after a stretch.
-use Rattle.std.proofs.Common.{◌≡◌, ℕ, List, Option, Some, inl, inr, refl, sym, ap, ◌∙◌}
+use Rattle.std.proofs.Common.{◌≡◌, ℕ, Option, Some, inl, inr, refl, sym, ap, ◌∙◌}
 use Rattle.std.specs.Prelude.{unwrap_or}
 use Rattle.std.specs.FinMap.{get}
-use Rattle.tss_base.specs.declared.operand.Task.{Task}
 use Rattle.tss_base.specs.declared.machine.Machine.{Machine}
 use Rattle.tss_base.specs.declared.event.Event.TheVariants as event
 use Rattle.tss_base.specs.Image.{ImageState}
@@ -10,17 +9,13 @@ use Rattle.tss_base.specs.Names.{Named, Numbered}
 use Rattle.tss_protocol.specs.Mail.{GoneContents}
 use Rattle.tss_protocol.specs.State.{State, CopyState}
 use Rattle.tss_protocol.specs.UnitMachine.{after_event, stores_of}
-use Rattle.tss_values.specs.Buffers.{HasBuffers}
-use Rattle.tss_control.specs.Readers.{Arrivals}
-use Rattle.tss_control.specs.Control.{HasGroundwork, IsControlled}
 use Rattle.tss_control.proofs.rounds.EntriesFrames.{SameObjects}
 use Rattle.tss_control.proofs.rounds.EntriesQuiet.{quiet_objects}
-use Rattle.tss_program_order.proofs.RunKeeps.{HasGround}
-use Rattle.tss_values.proofs.Values.{HasWorkers, HasReturns}
+use Rattle.tss_values.proofs.Values.{HasReturns}
 use Rattle.tss_values.proofs.returns.Copy.{copy_object, gone_object}
 use Rattle.tss_values.proofs.returns.Returns.{KeepsReturns, returns_kept}
 use Rattle.tss_values.proofs.workers.Unseen.{LeavesAway, away_start, away_exec}
-use Rattle.tss_control.proofs.rounds.Facts.{Basis, Facts}
+use Rattle.tss_control.proofs.rounds.Facts.{Basis}
 use Rattle.tss_values.proofs.WorkerFacts.{WorkerFacts}
 
 module _ (m : Machine) (S : State) (basis : Basis m S) where

@@ -22,7 +22,7 @@ use Rattle.tss_protocol.specs.Stations.{storages_of}
 use Rattle.tss_protocol.specs.Buffers.{buffer_bytes}
 use Rattle.tss_protocol.specs.MainEvent.{flat_of, call_next, after_call, main_by}
 use Rattle.tss_protocol.specs.UnitMachine.{after_event, start_task, after_start, after_exec, after_copy, stores_of}
-use Rattle.tss_locality.proofs.LeftFields.{Leaves-after_event}
+use Rattle.tss_locality.proofs.LeftFields.{left_home}
 use Rattle.tss_values.specs.Buffers.{HasBuffers}
 use Rattle.tss_names.specs.Tasks.{task_at, with_spawned, spawned_by_main, spawned_after_event}
 use Rattle.tss_control.specs.Readers.{Arrivals}
@@ -213,37 +213,23 @@ module _ (m : Machine) (i : ImageState) (accepted : IsAccepted i) (S : State) (w
   pub same_fixed : (a : ℕ) → IsFixed i a → (e : Event) → byte_at (after_event m S e).home a ≡ byte_at S.home a
   unfolding after_event
   same_fixed a fixed event.Main = same-main a fixed (call_next m S)
-  same_fixed a fixed event.Take =
-      same-home a (after_event m S event.Take) (λ i. (Leaves-after_event m S event.Take i).home)
-  same_fixed a fixed (event.Decode o) =
-      same-home a (after_event m S (event.Decode o)) (λ i. (Leaves-after_event m S (event.Decode o) i).home)
-  same_fixed a fixed (event.Ack o) =
-      same-home a (after_event m S (event.Ack o)) (λ i. (Leaves-after_event m S (event.Ack o) i).home)
-  same_fixed a fixed (event.Open o) =
-      same-home a (after_event m S (event.Open o)) (λ i. (Leaves-after_event m S (event.Open o) i).home)
-  same_fixed a fixed (event.Use o) =
-      same-home a (after_event m S (event.Use o)) (λ i. (Leaves-after_event m S (event.Use o) i).home)
-  same_fixed a fixed (event.Ready o) =
-      same-home a (after_event m S (event.Ready o)) (λ i. (Leaves-after_event m S (event.Ready o) i).home)
-  same_fixed a fixed (event.Link o) =
-      same-home a (after_event m S (event.Link o)) (λ i. (Leaves-after_event m S (event.Link o) i).home)
+  same_fixed a fixed event.Take = same-home a (after_event m S event.Take) (left_home m S event.Take refl)
+  same_fixed a fixed (event.Decode o) = same-home a (after_event m S (event.Decode o)) (left_home m S (event.Decode o) refl)
+  same_fixed a fixed (event.Ack o) = same-home a (after_event m S (event.Ack o)) (left_home m S (event.Ack o) refl)
+  same_fixed a fixed (event.Open o) = same-home a (after_event m S (event.Open o)) (left_home m S (event.Open o) refl)
+  same_fixed a fixed (event.Use o) = same-home a (after_event m S (event.Use o)) (left_home m S (event.Use o) refl)
+  same_fixed a fixed (event.Ready o) = same-home a (after_event m S (event.Ready o)) (left_home m S (event.Ready o) refl)
+  same_fixed a fixed (event.Link o) = same-home a (after_event m S (event.Link o)) (left_home m S (event.Link o) refl)
   same_fixed a fixed (event.Start w) = same-start a fixed w S.queue refl
   same_fixed a fixed (event.Exec w) = same-exec a fixed w (get S.workers w) refl
-  same_fixed a fixed (event.Finish w) =
-      same-home a (after_event m S (event.Finish w)) (λ i. (Leaves-after_event m S (event.Finish w) i).home)
-  same_fixed a fixed (event.Release o) =
-      same-home a (after_event m S (event.Release o)) (λ i. (Leaves-after_event m S (event.Release o) i).home)
-  same_fixed a fixed (event.Bye o) =
-      same-home a (after_event m S (event.Bye o)) (λ i. (Leaves-after_event m S (event.Bye o) i).home)
-  same_fixed a fixed (event.Idle v) =
-      same-home a (after_event m S (event.Idle v)) (λ i. (Leaves-after_event m S (event.Idle v) i).home)
-  same_fixed a fixed (event.Nack v) =
-      same-home a (after_event m S (event.Nack v)) (λ i. (Leaves-after_event m S (event.Nack v) i).home)
-  same_fixed a fixed (event.Retire v) =
-      same-home a (after_event m S (event.Retire v)) (λ i. (Leaves-after_event m S (event.Retire v) i).home)
+  same_fixed a fixed (event.Finish w) = same-home a (after_event m S (event.Finish w)) (left_home m S (event.Finish w) refl)
+  same_fixed a fixed (event.Release o) = same-home a (after_event m S (event.Release o)) (left_home m S (event.Release o) refl)
+  same_fixed a fixed (event.Bye o) = same-home a (after_event m S (event.Bye o)) (left_home m S (event.Bye o) refl)
+  same_fixed a fixed (event.Idle v) = same-home a (after_event m S (event.Idle v)) (left_home m S (event.Idle v) refl)
+  same_fixed a fixed (event.Nack v) = same-home a (after_event m S (event.Nack v)) (left_home m S (event.Nack v) refl)
+  same_fixed a fixed (event.Retire v) = same-home a (after_event m S (event.Retire v)) (left_home m S (event.Retire v) refl)
   same_fixed a fixed (event.Copy b) = same-copy a fixed b (get S.copies b) refl
-  same_fixed a fixed (event.Gone v) =
-      same-home a (after_event m S (event.Gone v)) (λ i. (Leaves-after_event m S (event.Gone v) i).home)
+  same_fixed a fixed (event.Gone v) = same-home a (after_event m S (event.Gone v)) (left_home m S (event.Gone v) refl)
 
   -- so it stays as loaded
   pub HasFixed-after_event : HasFixed i S → (e : Event) → HasFixed i (after_event m S e)

@@ -25,7 +25,7 @@ use Rattle.tss_protocol.specs.Renaming.{takes_buffer, buffers_after_decode, buff
 use Rattle.tss_protocol.specs.MainEvent.{call_next, may_call, has_no_task, has_no_object}
 use Rattle.tss_protocol.specs.Needs.{round_after_main, round_after_event}
 use Rattle.tss_protocol.specs.UnitMachine.{IsEnabled, is_enabled, after_event, without, decode_message_taken, gone_message_taken}
-use Rattle.tss_locality.proofs.LeftFields.{Leaves-after_event}
+use Rattle.tss_locality.proofs.LeftFields.{Leaves-after_event, left_buffers}
 use Rattle.tss_phases.specs.Orderly.{AreOrderly}
 use Rattle.tss_control.specs.Members.{operand_among}
 use Rattle.tss_control.specs.Control.{HasGroundwork}
@@ -148,35 +148,20 @@ module _ (m : Machine) (S : State) (basis : Basis m S) (orderly : AreOrderly S)
   pub HasOutputs-after_event : (e : Event) → IsEnabled m S e
       → HasOutputs (round_after_event m S ts e) (after_event m S e)
   HasOutputs-after_event event.Main on = outputs-main on
-  HasOutputs-after_event event.Take on =
-      same_outputs (after_event m S event.Take) (λ i. (Leaves-after_event m S event.Take i).buffers)
+  HasOutputs-after_event event.Take on = same_outputs (after_event m S event.Take) (left_buffers m S event.Take refl)
   HasOutputs-after_event (event.Decode o) on = outputs-decode o
-  HasOutputs-after_event (event.Ack o) on =
-      same_outputs (after_event m S (event.Ack o)) (λ i. (Leaves-after_event m S (event.Ack o) i).buffers)
-  HasOutputs-after_event (event.Open o) on =
-      same_outputs (after_event m S (event.Open o)) (λ i. (Leaves-after_event m S (event.Open o) i).buffers)
-  HasOutputs-after_event (event.Use o) on =
-      same_outputs (after_event m S (event.Use o)) (λ i. (Leaves-after_event m S (event.Use o) i).buffers)
-  HasOutputs-after_event (event.Ready o) on =
-      same_outputs (after_event m S (event.Ready o)) (λ i. (Leaves-after_event m S (event.Ready o) i).buffers)
-  HasOutputs-after_event (event.Link o) on =
-      same_outputs (after_event m S (event.Link o)) (λ i. (Leaves-after_event m S (event.Link o) i).buffers)
-  HasOutputs-after_event (event.Start w) on =
-      same_outputs (after_event m S (event.Start w)) (λ i. (Leaves-after_event m S (event.Start w) i).buffers)
-  HasOutputs-after_event (event.Exec w) on =
-      same_outputs (after_event m S (event.Exec w)) (λ i. (Leaves-after_event m S (event.Exec w) i).buffers)
-  HasOutputs-after_event (event.Finish w) on =
-      same_outputs (after_event m S (event.Finish w)) (λ i. (Leaves-after_event m S (event.Finish w) i).buffers)
-  HasOutputs-after_event (event.Release o) on =
-      same_outputs (after_event m S (event.Release o)) (λ i. (Leaves-after_event m S (event.Release o) i).buffers)
-  HasOutputs-after_event (event.Bye o) on =
-      same_outputs (after_event m S (event.Bye o)) (λ i. (Leaves-after_event m S (event.Bye o) i).buffers)
-  HasOutputs-after_event (event.Idle v) on =
-      same_outputs (after_event m S (event.Idle v)) (λ i. (Leaves-after_event m S (event.Idle v) i).buffers)
-  HasOutputs-after_event (event.Nack v) on =
-      same_outputs (after_event m S (event.Nack v)) (λ i. (Leaves-after_event m S (event.Nack v) i).buffers)
-  HasOutputs-after_event (event.Retire v) on =
-      same_outputs (after_event m S (event.Retire v)) (λ i. (Leaves-after_event m S (event.Retire v) i).buffers)
-  HasOutputs-after_event (event.Copy b) on =
-      same_outputs (after_event m S (event.Copy b)) (λ i. (Leaves-after_event m S (event.Copy b) i).buffers)
+  HasOutputs-after_event (event.Ack o) on = same_outputs (after_event m S (event.Ack o)) (left_buffers m S (event.Ack o) refl)
+  HasOutputs-after_event (event.Open o) on = same_outputs (after_event m S (event.Open o)) (left_buffers m S (event.Open o) refl)
+  HasOutputs-after_event (event.Use o) on = same_outputs (after_event m S (event.Use o)) (left_buffers m S (event.Use o) refl)
+  HasOutputs-after_event (event.Ready o) on = same_outputs (after_event m S (event.Ready o)) (left_buffers m S (event.Ready o) refl)
+  HasOutputs-after_event (event.Link o) on = same_outputs (after_event m S (event.Link o)) (left_buffers m S (event.Link o) refl)
+  HasOutputs-after_event (event.Start w) on = same_outputs (after_event m S (event.Start w)) (left_buffers m S (event.Start w) refl)
+  HasOutputs-after_event (event.Exec w) on = same_outputs (after_event m S (event.Exec w)) (left_buffers m S (event.Exec w) refl)
+  HasOutputs-after_event (event.Finish w) on = same_outputs (after_event m S (event.Finish w)) (left_buffers m S (event.Finish w) refl)
+  HasOutputs-after_event (event.Release o) on = same_outputs (after_event m S (event.Release o)) (left_buffers m S (event.Release o) refl)
+  HasOutputs-after_event (event.Bye o) on = same_outputs (after_event m S (event.Bye o)) (left_buffers m S (event.Bye o) refl)
+  HasOutputs-after_event (event.Idle v) on = same_outputs (after_event m S (event.Idle v)) (left_buffers m S (event.Idle v) refl)
+  HasOutputs-after_event (event.Nack v) on = same_outputs (after_event m S (event.Nack v)) (left_buffers m S (event.Nack v) refl)
+  HasOutputs-after_event (event.Retire v) on = same_outputs (after_event m S (event.Retire v)) (left_buffers m S (event.Retire v) refl)
+  HasOutputs-after_event (event.Copy b) on = same_outputs (after_event m S (event.Copy b)) (left_buffers m S (event.Copy b) refl)
   HasOutputs-after_event (event.Gone v) on = outputs-gone v

@@ -4,7 +4,6 @@ use Rattle.std.specs.FinMap.{get, insert}
 use Rattle.std.proofs.lemmas.Bool.{and_from, le-leb, lt-ltb}
 use Rattle.std.proofs.lemmas.Option.{same_Some}
 use Rattle.tss_base.specs.declared.range.Range.{Range}
-use Rattle.tss_base.specs.declared.operand.Task.{Task}
 use Rattle.tss_base.specs.declared.machine.Machine.{Machine}
 use Rattle.tss_base.specs.declared.event.Event.TheVariants as event
 use Rattle.tss_base.specs.Range.{end_of}
@@ -22,17 +21,12 @@ use Rattle.tss_protocol.specs.UnitMachine.{after_event, after_exec, stores_of}
 use Rattle.tss_phases.proofs.QuietEvents.{phase_of-exec}
 use Rattle.tss_locality.proofs.LeftFields.{Leaves-after_event}
 use Rattle.tss_names.specs.Stages.{IsOnWorker}
-use Rattle.tss_values.specs.Buffers.{HasBuffers}
-use Rattle.tss_control.specs.Readers.{Arrivals}
-use Rattle.tss_control.specs.Control.{HasGroundwork, IsControlled}
 use Rattle.tss_program_order.proofs.FlatLoads.{same_bytes}
-use Rattle.tss_program_order.proofs.RunKeeps.{HasGround}
 use Rattle.tss_program_order.proofs.StoreFrames.{IsBeside, exec_stretch-left}
-use Rattle.tss_values.proofs.Values.{HasStored, HasWorkers}
+use Rattle.tss_values.proofs.Values.{HasStored}
 use Rattle.tss_program_order.proofs.StoreViews.{exec_stretch-unseen, buffer_unseen}
 use Rattle.tss_values.proofs.stored.Workers.{stored_beside}
 use Rattle.tss_values.proofs.workers.Runs.{worker_holds, worker_separate}
-use Rattle.tss_control.proofs.rounds.Facts.{Facts}
 use Rattle.tss_values.proofs.WorkerFacts.{WorkerFacts}
 
 -- ---- objects

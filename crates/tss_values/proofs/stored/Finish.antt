@@ -27,9 +27,7 @@ use Rattle.tss_locality.proofs.LeftFields.{Leaves-after_event}
 use Rattle.tss_control.specs.Members.{operand_among}
 use Rattle.tss_names.specs.Stages.{IsOnWorker}
 use Rattle.tss_names.specs.Tasks.{task_at}
-use Rattle.tss_control.specs.Readers.{Arrivals}
 use Rattle.tss_control.specs.Holders.{IsOwnOrRead}
-use Rattle.tss_control.specs.Control.{HasGroundwork, IsControlled}
 use Rattle.tss_names.proofs.StageLemmas.{running≢finished}
 use Rattle.tss_program_order.proofs.StoreBytes.{IsPlaced}
 use Rattle.tss_program_order.proofs.StoreFollows.{HasEnd, runs-end}

@@ -18,7 +18,6 @@ use Rattle.tss_phases.proofs.MainEvent.{phase_of-main}
 use Rattle.tss_locality.specs.Rounds.{object_in}
 use Rattle.tss_locality.proofs.LeftFields.{Leaves-after_event}
 use Rattle.tss_control.specs.Chains.{HasChains}
-use Rattle.tss_control.specs.Control.{HasGroundwork}
 use Rattle.tss_control.proofs.rounds.EntriesNames.{object_of_operand}
 use Rattle.tss_values.proofs.Values.{content, IsKnown, HasStored}
 use Rattle.tss_values.proofs.returns.Returns.{same_at_home}

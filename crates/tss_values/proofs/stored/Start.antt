@@ -6,7 +6,6 @@ use Rattle.std.proofs.lemmas.Bool.{and_parts}
 use Rattle.std.proofs.lemmas.Option.{none-some, same_Some}
 use Rattle.tss_base.specs.declared.range.Range.{Range}
 use Rattle.tss_base.specs.declared.operand.Operand.{Operand}
-use Rattle.tss_base.specs.declared.operand.Task.{Task}
 use Rattle.tss_base.specs.declared.machine.Limits.{Limits}
 use Rattle.tss_base.specs.declared.machine.Machine.{Machine}
 use Rattle.tss_base.specs.declared.event.Event.TheVariants as event
@@ -26,8 +25,6 @@ use Rattle.tss_phases.proofs.StartEvent.{phase_of-start}
 use Rattle.tss_locality.proofs.LeftFields.{Leaves-after_event}
 use Rattle.tss_names.specs.Stages.{IsOnWorker}
 use Rattle.tss_values.specs.Buffers.{HasBuffers}
-use Rattle.tss_control.specs.Readers.{Arrivals}
-use Rattle.tss_control.specs.Control.{HasGroundwork, IsControlled}
 use Rattle.tss_names.proofs.PlainLemmas.{none_from_test}
 use Rattle.tss_program_order.proofs.FlatLoads.{same_bytes}
 use Rattle.tss_names.proofs.QueueLemmas.{in_queue, at_front}

@@ -20,9 +20,7 @@ use Rattle.tss_phases.proofs.TakeEvent.{phase_of-take-other}
 use Rattle.tss_phases.proofs.Tests.{something}
 use Rattle.tss_locality.proofs.LeftFields.{Leaves-after_event}
 use Rattle.tss_names.specs.Tasks.{taken_by}
-use Rattle.tss_control.specs.Readers.{Arrivals}
 use Rattle.tss_values.specs.Buffers.{HasBuffers}
-use Rattle.tss_control.specs.Control.{HasGroundwork}
 use Rattle.tss_values.proofs.Values.{content, HasStored}
 use Rattle.tss_values.proofs.stored.Frames.{stored_each, stored_at, KeepsStored, stored_kept}
 use Rattle.tss_values.proofs.stored.Quiet.{LeavesBytes, content_left}

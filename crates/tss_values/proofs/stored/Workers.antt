@@ -20,8 +20,6 @@ use Rattle.tss_control.specs.Members.{operand_among}
 use Rattle.tss_names.specs.Stages.{IsOnWorker}
 use Rattle.tss_names.specs.Tasks.{task_at}
 use Rattle.tss_values.specs.Buffers.{HasBuffers}
-use Rattle.tss_control.specs.Readers.{Arrivals}
-use Rattle.tss_control.specs.Control.{HasGroundwork, IsControlled}
 use Rattle.tss_values.proofs.storages.Shares.{writes_open}
 use Rattle.tss_program_order.proofs.StoreFrames.{IsElsewhere, IsBeside}
 use Rattle.tss_values.proofs.Values.{content, HasStored}

@@ -9,7 +9,6 @@ use Rattle.std.proofs.lemmas.Option.{none-some, same_Some}
 use Rattle.tss_base.specs.declared.range.Range.{Range}
 use Rattle.tss_base.specs.declared.operand.OpName.{OpName}
 use Rattle.tss_base.specs.declared.operand.Operand.{Operand}
-use Rattle.tss_base.specs.declared.operand.Task.{Task}
 use Rattle.tss_base.specs.declared.machine.Machine.{Machine}
 use Rattle.tss_base.specs.declared.marks.Stage.TheVariants as stage
 use Rattle.tss_base.specs.Range.{Covers}
@@ -21,8 +20,6 @@ use Rattle.tss_protocol.specs.State.{State, Flying, Version}
 use Rattle.tss_protocol.specs.Stations.{is_complete, storages_of}
 use Rattle.tss_protocol.specs.Workers.{Stores, Placed, placed_in, placed_at, storage_byte, byte_in, worker_byte}
 use Rattle.tss_values.specs.Buffers.{HasBuffers}
-use Rattle.tss_control.specs.Readers.{Arrivals}
-use Rattle.tss_control.specs.Control.{HasGroundwork, IsControlled}
 use Rattle.tss_values.proofs.storages.Shares.{HoldsStorage, one_buffer}
 use Rattle.tss_program_order.proofs.StoreBytes.{IsPlaced, AreSeparate, worker_byte-there}
 use Rattle.tss_program_order.proofs.StoreRuns.{InScope}

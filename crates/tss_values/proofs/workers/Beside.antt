@@ -5,7 +5,6 @@ use Rattle.std.specs.Prelude.{◌-◌, slice_index}
 use Rattle.std.specs.FinMap.{get}
 use Rattle.tss_base.specs.declared.operand.OpName.{OpName}
 use Rattle.tss_base.specs.declared.operand.Operand.{Operand}
-use Rattle.tss_base.specs.declared.operand.Task.{Task}
 use Rattle.tss_base.specs.declared.machine.Machine.{Machine}
 use Rattle.tss_base.specs.declared.event.Event.TheVariants as event
 use Rattle.tss_base.specs.declared.marks.Stage.TheVariants as stage
@@ -22,24 +21,20 @@ use Rattle.tss_protocol.specs.UnitMachine.{stores_of, after_event, after_copy, g
 use Rattle.tss_locality.proofs.LeftFields.{Leaves-after_event}
 use Rattle.tss_locality.specs.Rounds.{IsIn}
 use Rattle.tss_control.specs.Members.{operand_among}
-use Rattle.tss_values.specs.Buffers.{HasBuffers}
-use Rattle.tss_control.specs.Readers.{Arrivals}
-use Rattle.tss_control.specs.Control.{HasGroundwork, IsControlled}
 use Rattle.tss_program_order.proofs.FlatFixed.{IsFixed}
 use Rattle.tss_control.proofs.rounds.Rounds.{found_among}
 use Rattle.tss_locality.proofs.RoundObjects.{arrival_operand}
-use Rattle.tss_program_order.proofs.RunKeeps.{HasGround, after_event-ground, outputs_zeroed-ranges}
+use Rattle.tss_program_order.proofs.RunKeeps.{after_event-ground, outputs_zeroed-ranges}
 use Rattle.tss_values.proofs.room.Stores.{bytes_beside_gone}
 use Rattle.tss_values.proofs.storages.Shares.{HoldsStorage, version_not_gone}
 use Rattle.tss_values.proofs.storages.Homes.{not_copied_home}
 use Rattle.tss_program_order.proofs.StoreStart.{room_stays}
 use Rattle.tss_program_order.proofs.StoreFrames.{copy-beside, outputs_zeroed-left}
-use Rattle.tss_values.proofs.Values.{HasWorkers, HasReturns}
+use Rattle.tss_values.proofs.Values.{HasReturns}
 use Rattle.tss_values.proofs.returns.Copy.{object_named, objects_apart, copy_object}
 use Rattle.tss_values.proofs.returns.Main.{main_at_home}
 use Rattle.tss_values.proofs.workers.Apart.{task_separate, holder_beside}
 use Rattle.tss_values.proofs.workers.Runs.{SameFixed, AllRun, LeavesHeld, runs_left}
-use Rattle.tss_control.proofs.rounds.Facts.{Facts}
 use Rattle.tss_values.proofs.WorkerFacts.{WorkerFacts}
 
 module _ (m : Machine) (i : ImageState) (S : State) (work : WorkerFacts m i S) where

@@ -1,7 +1,6 @@
 -- Every event leaves each busy worker with what it was told, and where program order has its task.
-use Rattle.std.proofs.Common.{◌≡◌, ℕ, List, Option, Some, None, refl, sym, ap, ◌∙◌}
+use Rattle.std.proofs.Common.{◌≡◌, ℕ, Option, Some, None, refl, sym, ap, ◌∙◌}
 use Rattle.std.specs.FinMap.{get}
-use Rattle.tss_base.specs.declared.operand.Task.{Task}
 use Rattle.tss_base.specs.declared.machine.Machine.{Machine}
 use Rattle.tss_base.specs.declared.event.Event.{Event}
 use Rattle.tss_base.specs.declared.event.Event.TheVariants as event
@@ -12,12 +11,8 @@ use Rattle.tss_maps.proofs.Changes.{from_removed}
 use Rattle.tss_protocol.specs.State.{State, Busy}
 use Rattle.tss_protocol.specs.UnitMachine.{IsEnabled, after_event, after_finish}
 use Rattle.tss_locality.proofs.LeftFields.{Leaves-after_event}
-use Rattle.tss_values.specs.Buffers.{HasBuffers}
-use Rattle.tss_control.specs.Readers.{Arrivals}
-use Rattle.tss_control.specs.Control.{HasGroundwork, IsControlled}
 use Rattle.tss_names.proofs.BackLemmas.{standing_of}
 use Rattle.tss_values.proofs.storages.FixedBytes.{HasFixed}
-use Rattle.tss_program_order.proofs.RunKeeps.{HasGround}
 use Rattle.tss_values.proofs.stored.Settled.{FindsLeft}
 use Rattle.tss_values.proofs.Values.{HasWorkers, HasValues}
 use Rattle.tss_values.proofs.workers.Told.{AreTold, told_after_event}
@@ -25,7 +20,6 @@ use Rattle.tss_values.proofs.workers.Runs.{SameFixed, AllRun, runs_same}
 use Rattle.tss_values.proofs.workers.Kept.{runs_exec}
 use Rattle.tss_values.proofs.workers.Beside.{runs_main, runs_copy, runs_gone}
 use Rattle.tss_values.proofs.workers.Start.{runs_start}
-use Rattle.tss_control.proofs.rounds.Facts.{Facts}
 use Rattle.tss_values.proofs.WorkerFacts.{WorkerFacts}
 
 module _ (m : Machine) (i : ImageState) (S : State) (work : WorkerFacts m i S) (accepted : IsAccepted i)

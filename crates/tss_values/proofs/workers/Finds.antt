@@ -10,7 +10,6 @@ use Rattle.tss_base.specs.declared.operand.OpName.{OpName}
 use Rattle.tss_base.specs.declared.operand.Mode.{Mode}
 use Rattle.tss_base.specs.declared.operand.Mode.TheVariants.{Input, Output, Inout}
 use Rattle.tss_base.specs.declared.operand.Operand.{Operand}
-use Rattle.tss_base.specs.declared.operand.Task.{Task}
 use Rattle.tss_base.specs.declared.machine.Machine.{Machine}
 use Rattle.tss_base.specs.declared.marks.Stage.TheVariants as stage
 use Rattle.tss_base.specs.Image.{ImageState}
@@ -25,10 +24,9 @@ use Rattle.tss_protocol.specs.Buffers.{buffer_bytes}
 use Rattle.tss_protocol.specs.Workers.{Stores, storage_byte, stored_bytes}
 use Rattle.tss_control.specs.Members.{operand_among, NoWriterBetween}
 use Rattle.tss_values.specs.Buffers.{HasBuffers}
-use Rattle.tss_control.specs.Readers.{Arrivals, Has, IsArrival}
+use Rattle.tss_control.specs.Readers.{Has, IsArrival}
 use Rattle.tss_names.specs.Stages.{IsOnWorker}
 use Rattle.tss_control.specs.Holders.{IsOwnOrRead}
-use Rattle.tss_control.specs.Control.{HasGroundwork, IsControlled}
 use Rattle.tss_values.proofs.room.Start.{produced_set}
 use Rattle.tss_names.proofs.StageLemmas.{queued≢running, queued≢finished}
 use Rattle.tss_values.proofs.storages.Shares.{reads_produced}

@@ -28,7 +28,6 @@ use Rattle.tss_values.specs.Buffers.{HasBuffers}
 use Rattle.tss_control.specs.Readers.{Arrivals}
 use Rattle.tss_control.specs.Runners.{is_late}
 use Rattle.tss_control.specs.Holders.{IsOwnOrRead}
-use Rattle.tss_control.specs.Control.{HasGroundwork, IsControlled}
 use Rattle.tss_control.proofs.rounds.Rounds.{found_among}
 use Rattle.tss_control.proofs.holders.Order.{ready_in}
 use Rattle.tss_program_order.proofs.FlatNames.{covers-meet}

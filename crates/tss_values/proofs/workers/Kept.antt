@@ -3,7 +3,6 @@ use Rattle.std.proofs.Common.{◌≡◌, ◌≢◌, ℕ, inl, inr, true, List, O
 use Rattle.std.specs.FinMap.{get}
 use Rattle.tss_base.specs.declared.operand.OpName.{OpName}
 use Rattle.tss_base.specs.declared.operand.Operand.{Operand}
-use Rattle.tss_base.specs.declared.operand.Task.{Task}
 use Rattle.tss_base.specs.declared.machine.Machine.{Machine}
 use Rattle.tss_base.specs.declared.event.Event.TheVariants as event
 use Rattle.tss_base.specs.Image.{SegmentState, ImageState}
@@ -15,19 +14,14 @@ use Rattle.tss_protocol.specs.Mail.{Source}
 use Rattle.tss_protocol.specs.State.{State, Busy}
 use Rattle.tss_protocol.specs.Workers.{Stores, storage_byte, exec_stretch, busy_after}
 use Rattle.tss_protocol.specs.UnitMachine.{stores_of, after_event, after_exec}
-use Rattle.tss_values.specs.Buffers.{HasBuffers}
-use Rattle.tss_control.specs.Readers.{Arrivals}
-use Rattle.tss_control.specs.Control.{HasGroundwork, IsControlled}
 use Rattle.tss_program_order.proofs.FlatFixed.{IsFixed}
 use Rattle.tss_program_order.proofs.FlatOrder.{flat_stepped-ranges, started_at-by}
-use Rattle.tss_program_order.proofs.RunKeeps.{HasGround, after_exec-kept}
+use Rattle.tss_program_order.proofs.RunKeeps.{after_exec-kept}
 use Rattle.tss_values.proofs.room.Stores.{size_executed}
 use Rattle.tss_values.proofs.storages.Shares.{HoldsStorage}
 use Rattle.tss_program_order.proofs.StoreFrames.{exec_stretch-left}
 use Rattle.tss_program_order.proofs.StoreFollows.{RunsInOrder, runs-exec}
-use Rattle.tss_values.proofs.Values.{HasWorkers}
 use Rattle.tss_values.proofs.workers.Runs.{SameFixed, RunsAt, AllRun, runs_with, LeavesHeld, runs_left, worker_separate, worker_beside}
-use Rattle.tss_control.proofs.rounds.Facts.{Facts}
 use Rattle.tss_values.proofs.WorkerFacts.{WorkerFacts}
 
 module _ (m : Machine) (i : ImageState) (S : State) (work : WorkerFacts m i S) where

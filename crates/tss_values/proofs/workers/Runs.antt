@@ -20,23 +20,18 @@ use Rattle.tss_protocol.specs.Stations.{is_complete, storages_of}
 use Rattle.tss_protocol.specs.Buffers.{buffer_bytes}
 use Rattle.tss_protocol.specs.Workers.{Stores, Placed, placed_in, storage_byte}
 use Rattle.tss_protocol.specs.UnitMachine.{stores_of}
-use Rattle.tss_values.specs.Buffers.{HasBuffers}
-use Rattle.tss_control.specs.Readers.{Arrivals}
-use Rattle.tss_control.specs.Control.{HasGroundwork, IsControlled}
 use Rattle.tss_program_order.proofs.FlatFixed.{IsFixed}
 use Rattle.tss_program_order.proofs.FlatNumbers.{one_place}
 use Rattle.tss_program_order.proofs.FlatStarted.{started-fit}
-use Rattle.tss_program_order.proofs.RunKeeps.{HasGround}
 use Rattle.tss_names.proofs.StageLemmas.{running≢finished}
 use Rattle.tss_values.proofs.storages.Shares.{HoldsStorage}
 use Rattle.tss_program_order.proofs.StoreBytes.{IsPlaced, AreSeparate}
 use Rattle.tss_program_order.proofs.StoreStart.{placed_in-parts}
 use Rattle.tss_program_order.proofs.StoreFrames.{IsBeside}
 use Rattle.tss_program_order.proofs.StoreFollows.{RunsInOrder, runs-beside}
-use Rattle.tss_values.proofs.Values.{Starts, HasWorkers}
+use Rattle.tss_values.proofs.Values.{Starts}
 use Rattle.tss_values.proofs.workers.Hold.{IsHeld}
 use Rattle.tss_values.proofs.workers.Apart.{scope_left, held, task_separate, holder_beside}
-use Rattle.tss_control.proofs.rounds.Facts.{Facts}
 use Rattle.tss_values.proofs.WorkerFacts.{WorkerFacts}
 
 -- memory that can't be written shows at home what was loaded there

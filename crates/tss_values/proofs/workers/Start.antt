@@ -25,28 +25,24 @@ use Rattle.tss_protocol.specs.State.{State, Flying, Busy}
 use Rattle.tss_protocol.specs.Stations.{is_complete, storages_of}
 use Rattle.tss_protocol.specs.Workers.{Stores, Placed, placed_in, placed_at, byte_in, worker_byte, busy_with, busy_at_start, outputs_zeroed}
 use Rattle.tss_protocol.specs.UnitMachine.{stores_of, after_event, start_task, after_start}
-use Rattle.tss_values.specs.Buffers.{HasBuffers}
-use Rattle.tss_control.specs.Readers.{Arrivals}
-use Rattle.tss_control.specs.Control.{HasGroundwork, IsControlled}
 use Rattle.tss_program_order.proofs.FlatFixed.{IsFixed, fixed_apart, flat_stepped-fixed}
 use Rattle.tss_program_order.proofs.FlatOperands.{IsFit}
 use Rattle.tss_program_order.proofs.FlatOrder.{started_at-by}
 use Rattle.tss_program_order.proofs.FlatStarted.{started-fit}
 use Rattle.tss_program_order.proofs.FlatTaskRuns.{is_read}
 use Rattle.tss_names.proofs.QueueLemmas.{in_queue, at_front}
-use Rattle.tss_program_order.proofs.RunKeeps.{HasGround, outputs_zeroed-ranges}
+use Rattle.tss_program_order.proofs.RunKeeps.{outputs_zeroed-ranges}
 use Rattle.tss_names.proofs.StageEvents.{length-storages}
 use Rattle.tss_names.proofs.StageLemmas.{queued≢running}
 use Rattle.tss_values.proofs.stored.Settled.{FindsLeft}
 use Rattle.tss_program_order.proofs.StoreBytes.{AreSeparate, covers_parts, worker_byte-there}
 use Rattle.tss_program_order.proofs.StoreStart.{FindsOperands, placed_in-parts}
 use Rattle.tss_program_order.proofs.StoreFollows.{RunsInOrder, runs-start}
-use Rattle.tss_values.proofs.Values.{Starts, HasWorkers, HasStored, HasRoom, HasMain}
+use Rattle.tss_values.proofs.Values.{Starts, HasStored, HasRoom, HasMain}
 use Rattle.tss_values.proofs.workers.Apart.{placed_from, task_separate}
 use Rattle.tss_values.proofs.workers.Beside.{leaves_started}
 use Rattle.tss_values.proofs.workers.Finds.{byte_stored, queued_unfinished, finds_room, finds_value}
 use Rattle.tss_values.proofs.workers.Runs.{SameFixed, RunsAt, AllRun, runs_with, runs_left}
-use Rattle.tss_control.proofs.rounds.Facts.{Facts}
 use Rattle.tss_values.proofs.WorkerFacts.{WorkerFacts}
 
 -- the operand that is read at an address
