@@ -1,22 +1,10 @@
--- The machine of the tests is admissible.
+-- The sizes of the tests' machine lie in their ranges.
 use Rattle.std.proofs.Common.{◌≡◌, ℕ, Some, subst, arith}
 use Rattle.std.proofs.lemmas.Option.{same_Some, none-some}
-use Rattle.tss_base.specs.declared.machine.Limits.{Limits}
 use Rattle.tss_base.specs.declared.machine.Sizes.{Sizes}
 use Rattle.tss_base.specs.declared.machine.Key.{Key}
 use Rattle.tss_base.specs.declared.machine.Key.TheVariants.{MainBudget, TaskBudget, MaxTasks, MaxOperands, ObjectBytes, EpochObjects, OutputBytes, Stations, Slots, Workers, Banks, Entries, Versions, Buffers, Quantum, Window}
-use Rattle.tss_base.specs.Machine.{AreLimits, AreSizes, IsInRange}
-
-abbrev pub test_limits : Limits
-test_limits = record {
-  main_budget = 1000;
-  task_budget = 100;
-  max_tasks = 16;
-  max_operands = 7;
-  object_bytes = 128;
-  epoch_objects = 16;
-  output_bytes = 64;
-}
+use Rattle.tss_base.specs.Machine.{AreSizes, IsInRange}
 
 abbrev pub test_sizes : Sizes
 test_sizes = record {
@@ -34,24 +22,6 @@ test_sizes = record {
 -- a number that is given lies in the range of its key
 given : (k : Key) (v n : ℕ) → IsInRange k v → Some v ≡ Some n → IsInRange k n
 given k v n h e = subst (IsInRange k) (same_Some v n e) h
-
-pub limits_are : AreLimits test_limits
-limits_are MainBudget n e = given MainBudget 1000 n (omega arith, omega arith) e
-limits_are TaskBudget n e = given TaskBudget 100 n (omega arith, omega arith) e
-limits_are MaxTasks n e = given MaxTasks 16 n (omega arith, omega arith) e
-limits_are MaxOperands n e = given MaxOperands 7 n (omega arith, omega arith) e
-limits_are ObjectBytes n e = given ObjectBytes 128 n (omega arith, omega arith) e
-limits_are EpochObjects n e = given EpochObjects 16 n (omega arith, omega arith) e
-limits_are OutputBytes n e = given OutputBytes 64 n (omega arith, omega arith) e
-limits_are Stations n e = absurd (none-some n e)
-limits_are Slots n e = absurd (none-some n e)
-limits_are Workers n e = absurd (none-some n e)
-limits_are Banks n e = absurd (none-some n e)
-limits_are Entries n e = absurd (none-some n e)
-limits_are Versions n e = absurd (none-some n e)
-limits_are Buffers n e = absurd (none-some n e)
-limits_are Quantum n e = absurd (none-some n e)
-limits_are Window n e = absurd (none-some n e)
 
 pub sizes_are : AreSizes test_sizes
 sizes_are Stations n e = given Stations 1 n (omega arith, omega arith) e

@@ -1,7 +1,10 @@
 -- The greatest counts of a run, each with its size.
-use Rattle.std.specs.Prelude.{ℕ, List, [], ◌∷◌, ◌++◌, codes, decimal, flat_map}
+use Rattle.std.specs.Prelude.{ℕ, ◌≤◌, List, [], ◌∷◌, ◌++◌, codes, decimal, flat_map}
 use Rattle.tss_base.specs.declared.counts.Counts.{Counts}
 use Rattle.tss_base.specs.declared.counts.Peaks.{Peaks}
+use Rattle.tss_base.specs.declared.machine.Machine.{Machine}
+use Rattle.tss_base.specs.declared.bounds.TheConstants.{MAX_OPERANDS}
+use Rattle.tss_base.specs.Machine.{AreSizes}
 use Rattle.tss_report.specs.declared.peaks.Count.{Count}
 use Rattle.tss_report.specs.declared.peaks.Count.TheVariants.{Messages, Slots, Ready, Workers, Entries, Versions, Buffers}
 use Rattle.tss_report.specs.Pieces.{joined}
@@ -47,3 +50,8 @@ counts_text peaks size = flat_map (peak_text peaks size) all_counts
 -- the number of events, and the greatest of each count
 abbrev pub peaks_text : Counts → Peaks → List ℕ
 peaks_text size p = events_text p.events ++ counts_text p.counts size
+
+-- a machine whose sizes can be printed with peaks: the operands of a task and each size lie in their ranges
+pub record HasRanges (m : Machine) : Type 0 where
+  pub operands : m.limits.max_operands ≤ MAX_OPERANDS
+  pub sizes : AreSizes m.sizes

@@ -10,6 +10,7 @@ use Rattle.tss_base.specs.declared.ending.Ending.TheVariants.{Exit, MainTrap, Ta
 use Rattle.tss_base.specs.declared.counts.Counts.{Counts}
 use Rattle.tss_base.specs.declared.counts.Peaks.{Peaks}
 use Rattle.tss_model.specs.Memory.{Memory}
+use Rattle.tss_model.specs.InOrder.{ReferenceState}
 
 -- the lines that say how a run ended, how many tasks were spawned, and what was printed, by their parts
 abbrev pub ending_text : Ending → List ℕ
@@ -43,8 +44,8 @@ abbrev pub told_peaks : Option Peaks → Counts → List ℕ
 told_peaks None size = []
 told_peaks (Some p) size = peaks_text size p
 
--- the report of a run: the ending, the tasks, the output, the rows by which memory differs from memory as loaded, and
--- the peaks, each with its size
-abbrev pub report_text : Ending → ℕ → List ℕ → Memory → Memory → Option Peaks → Counts → List ℕ
-report_text ending tasks output old new peaks size =
-    summary_text ending tasks output ++ (memory_text ending old new ++ told_peaks peaks size)
+-- the report of a run that came to this: the ending, the tasks, the output, the rows by which memory differs from memory
+-- as loaded, and the peaks, each with its size
+abbrev pub report_text : ReferenceState → Memory → Option Peaks → Counts → List ℕ
+report_text run before peaks size =
+    summary_text run.ending run.tasks run.output ++ (memory_text run.ending before run.memory ++ told_peaks peaks size)

@@ -1,11 +1,10 @@
 // The greatest counts of a run, each with its size.
 ghost use Rattle.std.specs.Prelude.{◌≡◌, ◌≤◌};
-ghost use Rattle.tss_base.specs.Machine.{IsAdmissible};
 ghost use Rattle.tss_protocol.specs.Counts.{sizes_of as sizes_for};
 ghost use Rattle.tss_report.specs.Pieces.{Emits};
-ghost use Rattle.tss_report.specs.Peaks.{count_name, count_in, events_text, peak_text, counts_text, peaks_text};
+ghost use Rattle.tss_report.specs.Peaks.{HasRanges, count_name, count_in, events_text, peak_text, counts_text, peaks_text};
 
-use crate::pieces::Pieces;
+use crate::writer::PieceWriter;
 use itoa::Buffer;
 use tss_base::{Counts, Machine, Peaks};
 use tss_outside::{Failed, Sink};
@@ -67,14 +66,17 @@ impl Count {
 
 /// The sizes of the counts of a machine.
 fn sizes_of(machine: &Machine) -> Counts
-    requires { IsAdmissible machine.now }
+    requires { HasRanges machine.now }
     ensures { result ≡ sizes_for machine.now }
 {
     let sizes = &machine.sizes;
     let operands = machine.limits.max_operands;
     let slots = sizes.stations * sizes.slots;
+    let decodes = sizes.window * operands;
+    let wakes = 2 * slots * operands;
+    let places = sizes.banks * sizes.versions;
     Counts {
-        messages: operands + 2 * slots * operands + sizes.banks * sizes.versions,
+        messages: decodes + wakes + places,
         slots: sizes.slots,
         ready: slots,
         workers: sizes.workers,
@@ -85,68 +87,58 @@ fn sizes_of(machine: &Machine) -> Counts
 }
 
 /// Puts how many events a run has.
-fn put_events<K: Sink>(pieces: &mut Pieces, out: &mut K, events: u64) -> Result<(), Failed>
-    ensures { Emits (K.written out.old) pieces.old (K.written out.new) pieces.new
-        (K.faults out.old) (K.faults out.new) result (events_text events) }
+fn put_events<K: Sink>(to: &mut PieceWriter<'_, K>, events: u64) -> Result<(), Failed>
+    ensures { Emits K.Sink to.old to.new result (events_text events) }
 {
     let mut number = Buffer::new();
-    pieces.put_all(out, &[b"events ", number.format(events).as_bytes(), b"\n"])
+    to.put_all(&[b"events ", number.format(events).as_bytes(), b"\n"])
 }
 
 /// Puts the greatest of a count, and its size.
 fn put_peak<K: Sink>(
-    pieces: &mut Pieces,
-    out: &mut K,
+    to: &mut PieceWriter<'_, K>,
     peaks: &Counts,
     sizes: &Counts,
     count: Count,
 ) -> Result<(), Failed>
-    ensures { Emits (K.written out.old) pieces.old (K.written out.new) pieces.new
-        (K.faults out.old) (K.faults out.new) result (peak_text peaks.now sizes.now count) }
+    ensures { Emits K.Sink to.old to.new result (peak_text peaks.now sizes.now count) }
 {
     let mut number = Buffer::new();
     let mut size = Buffer::new();
-    pieces.put_all(
-        out,
-        &[
-            b"peak ",
-            count.name().as_bytes(),
-            b" ",
-            number.format(count.number_in(peaks)).as_bytes(),
-            b" of ",
-            size.format(count.number_in(sizes)).as_bytes(),
-            b"\n",
-        ],
-    )
+    to.put_all(&[
+        b"peak ",
+        count.name().as_bytes(),
+        b" ",
+        number.format(count.number_in(peaks)).as_bytes(),
+        b" of ",
+        size.format(count.number_in(sizes)).as_bytes(),
+        b"\n",
+    ])
 }
 
 /// Puts the greatest of each count, and its size.
 fn put_counts<K: Sink>(
-    pieces: &mut Pieces,
-    out: &mut K,
+    to: &mut PieceWriter<'_, K>,
     peaks: &Counts,
     sizes: &Counts,
 ) -> Result<(), Failed>
-    ensures { Emits (K.written out.old) pieces.old (K.written out.new) pieces.new
-        (K.faults out.old) (K.faults out.new) result (counts_text peaks.now sizes.now) }
+    ensures { Emits K.Sink to.old to.new result (counts_text peaks.now sizes.now) }
 {
     for count in COUNTS.iter() {
-        put_peak(pieces, out, peaks, sizes, *count)?;
+        put_peak(to, peaks, sizes, *count)?;
     }
     Ok(())
 }
 
 /// Puts the number of events, and the greatest of each count with its size.
 pub(crate) fn put_peaks<K: Sink>(
-    pieces: &mut Pieces,
-    out: &mut K,
+    to: &mut PieceWriter<'_, K>,
     peaks: &Peaks,
     machine: &Machine,
 ) -> Result<(), Failed>
-    requires { IsAdmissible machine.now }
-    ensures { Emits (K.written out.old) pieces.old (K.written out.new) pieces.new
-        (K.faults out.old) (K.faults out.new) result (peaks_text (sizes_for machine.now) peaks.now) }
+    requires { HasRanges machine.now }
+    ensures { Emits K.Sink to.old to.new result (peaks_text (sizes_for machine.now) peaks.now) }
 {
-    put_events(pieces, out, peaks.events)?;
-    put_counts(pieces, out, &peaks.counts, &sizes_of(machine))
+    put_events(to, peaks.events)?;
+    put_counts(to, &peaks.counts, &sizes_of(machine))
 }

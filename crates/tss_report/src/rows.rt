@@ -7,7 +7,7 @@ ghost use Rattle.tss_report.specs.Pieces.{Emits};
 ghost use Rattle.tss_report.specs.Rows.{row_line, row_text, rows_text, range_text, changed_text};
 
 use crate::digits::{hex_word, write_hex};
-use crate::pieces::Pieces;
+use crate::writer::PieceWriter;
 use tss_base::{Image, Range};
 use tss_memory::{Space, copy_as_loaded};
 use tss_outside::{Failed, Sink};
@@ -16,21 +16,19 @@ use tss_outside::{Failed, Sink};
 const ROW: u32 = 16;
 
 /// Puts the line of a row.
-fn put_line<K: Sink>(pieces: &mut Pieces, out: &mut K, at: u32, bytes: &[u8]) -> Result<(), Failed>
+fn put_line<K: Sink>(to: &mut PieceWriter<'_, K>, at: u32, bytes: &[u8]) -> Result<(), Failed>
     requires { length bytes.now ≤ 16 }
-    ensures { Emits (K.written out.old) pieces.old (K.written out.new) pieces.new
-        (K.faults out.old) (K.faults out.new) result (row_line at bytes.now) }
+    ensures { Emits K.Sink to.old to.new result (row_line at bytes.now) }
 {
     let mut digits = [0; 32];
     let text = &mut digits[..2 * bytes.len()];
     write_hex(bytes, text);
-    pieces.put_all(out, &[b"row ", &hex_word(at), b" ", text, b"\n"])
+    to.put_all(&[b"row ", &hex_word(at), b" ", text, b"\n"])
 }
 
 /// Puts the line of a row in which a byte has changed, where the row lies in the range of memory at the place `i`.
 fn put_row<K: Sink>(
-    pieces: &mut Pieces,
-    out: &mut K,
+    to: &mut PieceWriter<'_, K>,
     image: &Image,
     space: &Space,
     i: u32,
@@ -39,9 +37,7 @@ fn put_row<K: Sink>(
     requires ranges { space.now.ranges ≡ (loaded image.now).ranges }
     requires inside { IsInside space.now.ranges i row.now }
     requires len { row.now.len ≤ 16 }
-    ensures { Emits (K.written out.old) pieces.old (K.written out.new) pieces.new
-        (K.faults out.old) (K.faults out.new) result
-        (row_text (loaded image.now) space.now row.now) }
+    ensures { Emits K.Sink to.old to.new result (row_text (loaded image.now) space.now row.now) }
 {
     let mut bytes = [0; 16];
     let before = &mut bytes[..row.len as usize];
@@ -50,13 +46,12 @@ fn put_row<K: Sink>(
     if now == before {
         return Ok(());
     }
-    put_line(pieces, out, row.base, now)
+    put_line(to, row.base, now)
 }
 
 /// Puts the rows of a range that have changed, where it lies in the range of memory at the place `i`.
 fn put_rows<K: Sink>(
-    pieces: &mut Pieces,
-    out: &mut K,
+    to: &mut PieceWriter<'_, K>,
     image: &Image,
     space: &Space,
     i: u32,
@@ -65,24 +60,21 @@ fn put_rows<K: Sink>(
     requires ranges { space.now.ranges ≡ (loaded image.now).ranges }
     requires inside { IsInside space.now.ranges i r.now }
     requires end { end_of r.now ≤ memory_end }
-    ensures { Emits (K.written out.old) pieces.old (K.written out.new) pieces.new
-        (K.faults out.old) (K.faults out.new) result
-        (rows_text (loaded image.now) space.now r.now) }
+    ensures { Emits K.Sink to.old to.new result (rows_text (loaded image.now) space.now r.now) }
 {
     for k in 0..(r.len + 15) / ROW {
         let row = Range {
             base: r.base + ROW * k,
             len: ROW.min(r.len - ROW * k),
         };
-        put_row(pieces, out, image, space, i, &row)?;
+        put_row(to, image, space, i, &row)?;
     }
     Ok(())
 }
 
 /// Puts the rows that have changed of the range of memory at the place `i`, where it can be written.
 fn put_range<K: Sink>(
-    pieces: &mut Pieces,
-    out: &mut K,
+    to: &mut PieceWriter<'_, K>,
     image: &Image,
     space: &Space,
     i: u32,
@@ -90,30 +82,25 @@ fn put_range<K: Sink>(
     requires ranges { space.now.ranges ≡ (loaded image.now).ranges }
     requires there { i < length space.now.ranges }
     ensures { (m : MemoryRange) → slice_get space.now.ranges i ≡ Some m →
-        Emits (K.written out.old) pieces.old (K.written out.new) pieces.new
-        (K.faults out.old) (K.faults out.new) result
-        (range_text (loaded image.now) space.now m) }
+        Emits K.Sink to.old to.new result (range_text (loaded image.now) space.now m) }
 {
     match space.range_at(i) {
-        Some((r, true)) => put_rows(pieces, out, image, space, i, &r),
+        Some((r, true)) => put_rows(to, image, space, i, &r),
         _ => Ok(()),
     }
 }
 
 /// Puts the rows of memory that have changed since it was loaded.
 pub(crate) fn put_changed<K: Sink>(
-    pieces: &mut Pieces,
-    out: &mut K,
+    to: &mut PieceWriter<'_, K>,
     image: &Image,
     space: &Space,
 ) -> Result<(), Failed>
     requires ranges { space.now.ranges ≡ (loaded image.now).ranges }
-    ensures { Emits (K.written out.old) pieces.old (K.written out.new) pieces.new
-        (K.faults out.old) (K.faults out.new) result
-        (changed_text (loaded image.now) space.now) }
+    ensures { Emits K.Sink to.old to.new result (changed_text (loaded image.now) space.now) }
 {
     for i in 0..image.count() + 1 {
-        put_range(pieces, out, image, space, i)?;
+        put_range(to, image, space, i)?;
     }
     Ok(())
 }

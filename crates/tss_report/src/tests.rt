@@ -1,7 +1,7 @@
 // What no clause says: the sizes of the pieces. And reports whose texts were written down by the rules of a report.
 ghost use Rattle.std.specs.Prelude.{◌≡◌, IfOk};
-ghost use Rattle.tss_base.specs.Machine.{IsAdmissible};
 ghost use Rattle.tss_model.specs.Memory.{loaded};
+ghost use Rattle.tss_report.specs.Peaks.{HasRanges};
 
 use crate::write_report;
 use std::alloc::Global;
@@ -47,7 +47,7 @@ const LATE: Peaks = Peaks {
 
 /// A machine with one station of 8 slots, and 7 operands a task.
 fn machine() -> Machine
-    ensures { IsAdmissible result }
+    ensures { HasRanges result }
 {
     Machine {
         limits: Limits {

@@ -1,1 +1,5 @@
+pub mod Words
+pub mod MachineCheck
+pub mod Work
 pub mod Answer
+pub mod Call

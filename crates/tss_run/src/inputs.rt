@@ -1,28 +1,16 @@
-// The files that a command names, and what their bytes are.
-ghost use Rattle.std.specs.Prelude.{◌≡◌, ◌≤◌, ℕ, List, IfOk, option_map};
+// The files that a command reads, and what their bytes are.
+ghost use Rattle.std.specs.Prelude.{◌≡◌, ◌≤◌, ℕ, List, IfOk};
 ghost use Rattle.tss_base.specs.Machine.{IsAdmissible};
 ghost use Rattle.tss_outside.specs.Outside.{Rose};
-ghost use Rattle.tss_run.specs.Answer.{words_of, inorder_names as inorder_names_of, described_machine as described_machine_of, accepted_image as accepted_image_of, machine_from, image_from, Gives, Reads, IsRead};
+ghost use Rattle.tss_run.specs.Work.{described_machine as described_machine_of, accepted_image as accepted_image_of, machine_from, image_from, Gives, Reads, IsRead};
 
-use crate::outcome::{Input, Refusal};
+use crate::outcome::{BadMachine, Input, Refusal};
 use std::alloc::Global;
 use tss_base::bounds::{IMAGE_FILE_BYTES, MACHINE_FILE_BYTES};
 use tss_base::{Image, Machine};
 use tss_elf::{ImageFault, read_image};
 use tss_machine::read_machine;
 use tss_outside::{FileFault, Files};
-
-/// The image and the machine that `inorder IMAGE MACHINE` names. None where the words are no such command.
-pub fn inorder_names(words: &[String]) -> Option<(&str, &str)>
-    ensures { option_map (λ n. record { image = n.0.now; machine = n.1.now }) result ≡ inorder_names_of (words_of words.now) }
-{
-    match words {
-        [command, image, machine] if command.as_str() == "inorder" => {
-            Some((image.as_str(), machine.as_str()))
-        }
-        _ => None,
-    }
-}
 
 /// The bytes of a file, of which there may be `limit`.
 fn read<F: Files>(
@@ -51,9 +39,8 @@ fn described_machine(alloc: Global, bytes: &[u8]) -> Result<Machine, Refusal>
 {
     match read_machine(alloc, bytes) {
         Ok(machine) => Ok(machine),
-        // Only want of memory has no number.
-        Err(fault) => match fault.number() {
-            Some(_) => Err(Refusal::Machine(fault)),
+        Err(fault) => match BadMachine::new(fault) {
+            Some(bad) => Err(Refusal::Machine(bad)),
             None => Err(Refusal::NoMemory),
         },
     }

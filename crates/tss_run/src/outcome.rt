@@ -1,16 +1,64 @@
 // What comes of a command.
-ghost use Rattle.std.specs.Prelude.{◌≡◌};
+ghost use Rattle.std.specs.Prelude.{◌≡◌, option_map};
+ghost use Rattle.tss_machine.specs.Fault.{number_of};
+ghost use Rattle.tss_run.specs.MachineCheck.{bad_machine_of};
 ghost use Rattle.tss_run.specs.declared.outcome.Refusal.TheVariants as refusal;
 
+use std::marker::Model;
 use tss_base::{Image, Machine, NoMemory};
 use tss_inorder::Reference;
 use tss_machine::MachineFault;
 
-/// A file that a command reads.
+/// A file that a command reads, by what it is to the command.
 #[derive(Clone, Copy, Debug, PartialEq, Eq)]
 pub enum Input {
     Machine,
     Image,
+}
+
+/// The first check that a machine description fails, with its key. It is never want of memory.
+#[derive(Drop)]
+pub struct BadMachine {
+    number: u32,
+    fault: MachineFault,
+}
+
+impl Model for BadMachine {
+    ghost use Rattle.std.specs.Prelude.{◌≡◌, Some};
+    ghost use Rattle.tss_machine.specs.Fault.{number_of, key_of};
+    ghost use Rattle.tss_run.specs.MachineCheck.{BadMachineState};
+
+    ghost Value = { BadMachineState };
+
+    ghost view = { λ s. record { number = s.number; key = key_of s.fault } };
+
+    ghost invariant = { λ s. number_of s.fault ≡ Some s.number };
+}
+
+impl BadMachine {
+    /// The check that a fault tells. None where the fault is want of memory.
+    pub fn new(fault: MachineFault) -> Option<BadMachine>
+        ensures { result ≡ bad_machine_of fault }
+    {
+        match fault.number() {
+            Some(number) => Some(BadMachine { number, fault }),
+            None => None,
+        }
+    }
+
+    /// The number of the check, from 1 to 6.
+    pub fn number(&self) -> u32
+        ensures { result ≡ self.now.number }
+    {
+        self.number
+    }
+
+    /// The key that fails it, if it is about a key.
+    pub fn key(&self) -> Option<&[u8]>
+        ensures { option_map (λ k. k.now) result ≡ self.now.key }
+    {
+        self.fault.key()
+    }
 }
 
 /// Why a command has no report: the first cause in the order of the work.
@@ -23,11 +71,19 @@ pub enum Refusal {
     /// A file has too many bytes.
     TooLong(Input),
     /// The machine description fails a check.
-    Machine(MachineFault),
+    Machine(BadMachine),
     /// The image fails the check of this number.
     Image(u32),
     /// Memory ran out.
     NoMemory,
+}
+
+impl From<NoMemory> for Refusal {
+    ghost from_gives = { λ _ e. e ≡ refusal.NoMemory };
+
+    fn from(_e: NoMemory) -> Refusal {
+        Refusal::NoMemory
+    }
 }
 
 /// A program that was run: the machine, the image, and what the execution in program order came to.
@@ -38,10 +94,9 @@ pub struct Run {
     pub reference: Reference,
 }
 
-impl From<NoMemory> for Refusal {
-    ghost from_gives = { λ _ e. e ≡ refusal.NoMemory };
-
-    fn from(_e: NoMemory) -> Refusal {
-        Refusal::NoMemory
-    }
+/// What a command that isn't refused has to tell.
+#[derive(Drop)]
+pub enum Report {
+    /// The execution in program order.
+    InOrder(Run),
 }

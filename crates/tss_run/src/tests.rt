@@ -1,6 +1,7 @@
 // What the program answers, through its top call.
 mod images;
 mod outside;
+mod process;
 mod programs;
 mod usage;
 

@@ -1,12 +1,13 @@
 // Files and sinks that fail.
 ghost use Rattle.std.specs.Prelude.{All, IsTrue, take};
 ghost use Rattle.tss_outside.specs.MemFiles.{is_known};
-ghost use Rattle.tss_run.specs.Answer.{words_of};
+ghost use Rattle.tss_run.specs.Words.{words_of};
 
 use super::{description, expect, image, words};
 use crate::answering::tss_main;
 use std::alloc::Global;
 use std::process::Abort;
+use std::rt::Files;
 use std::test::Fail;
 use tss_outside::{HonestFiles, HonestSink, MemFiles, MemSink, RealFiles};
 
@@ -114,15 +115,40 @@ fn honest_files_and_an_honest_sink_have_no_faults(rt: HostRuntime) -> Result<(),
     Ok(())
 }
 
+/// Checks the answer on the machine's own files.
+fn expect_real(
+    rt: &(impl Abort + Files),
+    alloc: Global,
+    image: &str,
+    machine: &str,
+    status: u8,
+    text: &[u8],
+) -> Result<(), Fail> {
+    let words = words(alloc, &["inorder", image, machine])?;
+    let mut files = RealFiles::new(rt, words.as_slice());
+    let mut out = MemSink::new(alloc, 256)?;
+    assert_eq!(rt;
+        tss_main(alloc, words.as_slice(), &mut files, &mut out),
+        status
+    );
+    assert!(rt; out.bytes() == text);
+    Ok(())
+}
+
 #[test]
-fn a_missing_file_and_a_folder_are_not_read(rt: HostRuntime) -> Result<(), Fail> {
+fn real_files_are_read_and_missing_ones_and_folders_are_not(rt: HostRuntime) -> Result<(), Fail> {
     let alloc = rt.alloc();
     std::fs::create_dir(&rt, "folder")?;
-    for name in ["missing", "folder"] {
-        let words = words(alloc, &["inorder", name, name])?;
-        let mut files = RealFiles::new(&rt, words.as_slice());
-        let mut out = HonestSink::new();
-        assert_eq!(rt; tss_main(alloc, words.as_slice(), &mut files, &mut out), 7);
-    }
+    std::fs::write(&rt, "image", image(alloc, EXIT_SEVEN)?.as_slice())?;
+    std::fs::write(&rt, "machine", description(alloc, "", "")?.as_str())?;
+    let report = b"end exit 7\ntasks 0\noutput 0\n\n";
+    expect_real(&rt, alloc, "image", "machine", 0, report)?;
+    expect_real(&rt, alloc, "image", "missing", 7, b"read machine\n")?;
+    expect_real(&rt, alloc, "missing", "machine", 7, b"read image\n")?;
+    expect_real(&rt, alloc, "image", "folder", 7, b"read machine\n")?;
+    expect_real(&rt, alloc, "folder", "machine", 7, b"read image\n")?;
+    std::fs::remove_dir(&rt, "folder")?;
+    std::fs::remove_file(&rt, "image")?;
+    std::fs::remove_file(&rt, "machine")?;
     Ok(())
 }

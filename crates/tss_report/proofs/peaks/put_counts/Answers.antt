@@ -6,18 +6,15 @@ use Rattle.tss_report.proofs.PeakLemmas.{counts_from, count_at, all_left, none_l
 use Rattle.tss_report.proofs.peaks.put_counts.Goals as goal
 
 pub loop-count-init : goal.loop-count-init
-loop-count-init g c =
-    none_put (g.K.Sink.written c.args.out.now) c.args.pieces.now (g.K.Sink.faults c.args.out.now) _ _
-    (all_left c.args.peaks.now c.args.sizes.now)
+loop-count-init g c = none_put g.K.Sink c.args.to.now _ _ (all_left c.args.peaks.now c.args.sizes.now)
 
 pub returns-in_err-put_peak : goal.returns-in_err-put_peak
 returns-in_err-put_peak g c =
-    let failed = c.in_err-put_peak.ensures in
     failed_put c.loop-count.invariant
     (peak_text c.args.peaks.now c.args.sizes.now (count_at c.loop-count.count-index))
     (counts_from c.args.peaks.now c.args.sizes.now (c.loop-count.count-index + 1))
     (counts_next c.args.peaks.now c.args.sizes.now c.loop-count.count-index (omega arith))
-    failed.err failed.cause failed.never_falls c.from_residual.ensures.0
+    c.in_err-put_peak.ensures c.from_residual.ensures.0
 
 pub loop-count-preserved : goal.loop-count-preserved
 loop-count-preserved g c =
@@ -25,7 +22,7 @@ loop-count-preserved g c =
     (peak_text c.args.peaks.now c.args.sizes.now (count_at c.loop-count.count-index))
     (counts_from c.args.peaks.now c.args.sizes.now (c.loop-count.count-index + 1))
     (counts_next c.args.peaks.now c.args.sizes.now c.loop-count.count-index (omega arith))
-    c.in_ok-put_peak.ensures.ok c.put_peak.ensures.never_falls
+    c.in_ok-put_peak.ensures
 
 pub returns : goal.returns
 returns g c =

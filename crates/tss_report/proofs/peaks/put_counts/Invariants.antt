@@ -6,6 +6,4 @@ use Rattle.tss_report.proofs.peaks.put_counts.Given as goal
 
 abbrev pub invariant-loop-count : goal.invariant-loop-count
 invariant-loop-count g l =
-    HasPut (g.K.Sink.written l.initial.out) l.initial.pieces (g.K.Sink.written l.out) l.pieces
-    (g.K.Sink.faults l.initial.out) (g.K.Sink.faults l.out)
-    (counts_text l.peaks l.sizes) (counts_from l.peaks l.sizes l.count-index)
+    HasPut g.K.Sink l.initial.to l.to (counts_text l.peaks l.sizes) (counts_from l.peaks l.sizes l.count-index)

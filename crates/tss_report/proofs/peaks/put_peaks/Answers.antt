@@ -8,22 +8,15 @@ use Rattle.tss_report.proofs.peaks.put_peaks.Goals as goal
 pub returns-in_err-put_events : goal.returns-in_err-put_events
 returns-in_err-put_events g c =
     let peaks = c.args.peaks.now in
-    let size = sizes_of c.args.machine.now in
-    let failed = c.in_err-put_events.ensures in
-    failed_put
-    (none_put (g.K.Sink.written c.args.out.now) c.args.pieces.now (g.K.Sink.faults c.args.out.now)
-    (peaks_text size peaks) (peaks_text size peaks) refl)
-    (events_text peaks.events) (counts_text peaks.counts size) refl
-    failed.err failed.cause failed.never_falls c.from_residual.ensures.0
+    let text = peaks_text (sizes_of c.args.machine.now) peaks in
+    failed_put (none_put g.K.Sink c.args.to.now text text refl) (events_text peaks.events)
+    (counts_text peaks.counts (sizes_of c.args.machine.now)) refl c.in_err-put_events.ensures c.from_residual.ensures.0
 
 pub returns : goal.returns
 returns g c =
     let peaks = c.args.peaks.now in
-    let size = sizes_of c.args.machine.now in
+    let text = peaks_text (sizes_of c.args.machine.now) peaks in
     last_put
-    (more_put
-    (none_put (g.K.Sink.written c.args.out.now) c.args.pieces.now (g.K.Sink.faults c.args.out.now)
-    (peaks_text size peaks) (peaks_text size peaks) refl)
-    (events_text peaks.events) (counts_text peaks.counts size) refl
-    c.in_ok-put_events.ensures.ok c.put_events.ensures.never_falls)
+    (more_put (none_put g.K.Sink c.args.to.now text text refl) (events_text peaks.events)
+    (counts_text peaks.counts (sizes_of c.args.machine.now)) refl c.in_ok-put_events.ensures)
     (same_text (ap (counts_text peaks.counts) c.sizes_of.ensures) c.put_counts.ensures)

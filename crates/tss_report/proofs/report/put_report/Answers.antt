@@ -9,40 +9,37 @@ use Rattle.tss_report.proofs.report.put_report.Goals as goal
 
 pub returns-in_err-put_summary : goal.returns-in_err-put_summary
 returns-in_err-put_summary g c =
-    let summary = summary_text c.args.ending.now c.args.tasks c.args.output.now in
-    let memory = memory_text c.args.ending.now (loaded c.args.image.now) c.args.space.now in
-    let peaks = told_peaks (option_map (λ p. p.now) c.args.peaks) (sizes_of c.args.machine.now) in
-    let failed = c.in_err-put_summary.ensures in
-    failed_put
-    (none_put (g.K.Sink.written c.args.out.now) c.args.pieces.now (g.K.Sink.faults c.args.out.now)
-    (summary ++ (memory ++ peaks)) (summary ++ (memory ++ peaks)) refl)
-    summary (memory ++ peaks) refl
-    failed.err failed.cause failed.never_falls c.from_residual.ensures.0
+    let a = c.args in
+    let summary = summary_text a.ending.now a.tasks a.output.now in
+    let memory = memory_text a.ending.now (loaded a.image.now) a.space.now in
+    let peaks = told_peaks (option_map (λ p. p.now) a.peaks) (sizes_of a.machine.now) in
+    let text = summary ++ (memory ++ peaks) in
+    let put = failed_put (none_put g.K.Sink a.to.now text text refl) summary (memory ++ peaks) refl
+    c.in_err-put_summary.ensures c.from_residual.ensures.0 in
+    record { text = put; same_sink = put.same_sink }
 
 pub returns-in_err-put_memory : goal.returns-in_err-put_memory
 returns-in_err-put_memory g c =
-    let summary = summary_text c.args.ending.now c.args.tasks c.args.output.now in
-    let memory = memory_text c.args.ending.now (loaded c.args.image.now) c.args.space.now in
-    let peaks = told_peaks (option_map (λ p. p.now) c.args.peaks) (sizes_of c.args.machine.now) in
-    let failed = c.in_err-put_memory.ensures in
-    failed_put
-    (more_put
-    (none_put (g.K.Sink.written c.args.out.now) c.args.pieces.now (g.K.Sink.faults c.args.out.now)
-    (summary ++ (memory ++ peaks)) (summary ++ (memory ++ peaks)) refl)
-    summary (memory ++ peaks) refl c.in_ok-put_summary.ensures.ok c.put_summary.ensures.never_falls)
-    memory peaks refl
-    failed.err failed.cause failed.never_falls c.from_residual-in_err-put_memory.ensures.0
+    let a = c.args in
+    let summary = summary_text a.ending.now a.tasks a.output.now in
+    let memory = memory_text a.ending.now (loaded a.image.now) a.space.now in
+    let peaks = told_peaks (option_map (λ p. p.now) a.peaks) (sizes_of a.machine.now) in
+    let text = summary ++ (memory ++ peaks) in
+    let put = failed_put
+    (more_put (none_put g.K.Sink a.to.now text text refl) summary (memory ++ peaks) refl c.in_ok-put_summary.ensures)
+    memory peaks refl c.in_err-put_memory.ensures c.from_residual-in_err-put_memory.ensures.0 in
+    record { text = put; same_sink = put.same_sink }
 
 pub returns : goal.returns
 returns g c =
-    let summary = summary_text c.args.ending.now c.args.tasks c.args.output.now in
-    let memory = memory_text c.args.ending.now (loaded c.args.image.now) c.args.space.now in
-    let peaks = told_peaks (option_map (λ p. p.now) c.args.peaks) (sizes_of c.args.machine.now) in
-    last_put
+    let a = c.args in
+    let summary = summary_text a.ending.now a.tasks a.output.now in
+    let memory = memory_text a.ending.now (loaded a.image.now) a.space.now in
+    let peaks = told_peaks (option_map (λ p. p.now) a.peaks) (sizes_of a.machine.now) in
+    let text = summary ++ (memory ++ peaks) in
+    let put = last_put
     (more_put
-    (more_put
-    (none_put (g.K.Sink.written c.args.out.now) c.args.pieces.now (g.K.Sink.faults c.args.out.now)
-    (summary ++ (memory ++ peaks)) (summary ++ (memory ++ peaks)) refl)
-    summary (memory ++ peaks) refl c.in_ok-put_summary.ensures.ok c.put_summary.ensures.never_falls)
-    memory peaks refl c.in_ok-put_memory.ensures.ok c.put_memory.ensures.never_falls)
-    c.put_told_peaks.ensures
+    (more_put (none_put g.K.Sink a.to.now text text refl) summary (memory ++ peaks) refl c.in_ok-put_summary.ensures)
+    memory peaks refl c.in_ok-put_memory.ensures)
+    c.put_told_peaks.ensures in
+    record { text = put; same_sink = put.same_sink }

@@ -1,29 +1,28 @@
--- What was put before a fault is a part of the text.
-use Rattle.std.proofs.Common.{◌++◌, [], subst}
+-- The report is put into a writer that keeps nothing yet, and then what is kept is written.
+use Rattle.std.proofs.Common.{◌≡◌, subst, rules}
 use Rattle.std.specs.Prelude.{option_map}
-use Rattle.std.proofs.lemmas.Result.{on_err_weaker}
 use Rattle.tss_model.specs.Memory.{loaded}
-use Rattle.tss_outside.specs.Outside.{PutsPrefix}
 use Rattle.tss_protocol.specs.Counts.{sizes_of}
-use Rattle.tss_report.specs.Pieces.{Carries}
+use Rattle.tss_report.specs.Pieces.{Writes}
 use Rattle.tss_report.specs.Report.{report_text}
-use Rattle.tss_report.proofs.PieceLemmas.{on_any_err, finished_part}
+use Rattle.tss_report.proofs.PieceLemmas.{part_put, whole_put}
 use Rattle.tss_report.proofs.report.write_report.Goals as goal
 
-pub returns-in_err-put_report-clause-prefix : goal.returns-in_err-put_report-clause-prefix
-returns-in_err-put_report-clause-prefix g c =
+pub returns-in_err-put_report : goal.returns-in_err-put_report
+returns-in_err-put_report g c =
     let a = c.args in
-    let text = report_text a.ending.now a.tasks a.output.now (loaded a.image.now) a.space.now
-    (option_map (λ p. p.now) a.peaks) (sizes_of a.machine.now) in
-    on_any_err c.from_residual.result _
-    (subst (λ kept. PutsPrefix (g.K.Sink.written a.out.now) (g.K.Sink.written c.put_report.new.out) (kept ++ text))
-    c.new-pieces.ensures c.in_err-put_report.ensures.err)
+    let text = report_text (record { ending = a.ending.now; tasks = a.tasks; output = a.output.now; memory = a.space.now })
+    (loaded a.image.now) (option_map (λ p. p.now) a.peaks) (sizes_of a.machine.now) in
+    let last : c.put_report.new.to.out.now ≡ c.in_err-put_report.out-1-own.given.0 = search rules in
+    subst (λ out. Writes g.K.Sink c.args.out.now out c.from_residual.result text) last
+    (part_put text c.new-to.ensures.sink c.new-to.ensures.kept c.in_err-put_report.ensures.text c.from_residual.ensures.0)
 
-pub returns-clause-prefix : goal.returns-clause-prefix
-returns-clause-prefix g c =
+pub returns : goal.returns
+returns g c =
     let a = c.args in
-    let text = report_text a.ending.now a.tasks a.output.now (loaded a.image.now) a.space.now
-    (option_map (λ p. p.now) a.peaks) (sizes_of a.machine.now) in
-    let put = subst (λ kept. Carries (g.K.Sink.written a.out.now) kept (g.K.Sink.written c.put_report.new.out)
-    c.put_report.new.pieces text) c.new-pieces.ensures c.in_ok-put_report.ensures.ok in
-    on_err_weaker c.finish.result (finished_part _ _ _ [] c.put_report.new.pieces text put) c.finish.ensures.err
+    let text = report_text (record { ending = a.ending.now; tasks = a.tasks; output = a.output.now; memory = a.space.now })
+    (loaded a.image.now) (option_map (λ p. p.now) a.peaks) (sizes_of a.machine.now) in
+    let last : c.flush.new.self.out.now ≡ c.out-2-1.given.0 = search rules in
+    subst (λ out. Writes g.K.Sink c.args.out.now out c.flush.result text) last
+    (whole_put text c.new-to.ensures.sink c.new-to.ensures.kept c.in_ok-put_report.ensures.text c.flush.ensures.nothing_put
+    c.flush.ensures.nothing_kept)

@@ -13,7 +13,7 @@ none_there = record { range = stack_range; writable = true }
 
 pub loop-i-init : goal.loop-i-init
 loop-i-init g c =
-    none_put (g.K.Sink.written c.args.out.now) c.args.pieces.now (g.K.Sink.faults c.args.out.now) _ _
+    none_put g.K.Sink c.args.to.now _ _
     (all_ranges (loaded c.args.image.now) c.args.space.now)
 
 pub put_range-requires-clause-there : goal.put_range-requires-clause-there
@@ -31,7 +31,7 @@ returns-in_err-put_range g c =
     let there = slice_get-get_or new.ranges i none_there (omega (arith, count)) in
     let failed = c.in_err-put_range.ensures m there in
     failed_put c.loop-i.invariant (range_text old new m) (ranges_from old new (i + 1)) (ranges_next old new i m there)
-    failed.err failed.cause failed.never_falls c.from_residual.ensures.0
+    failed c.from_residual.ensures.0
 
 pub loop-i-preserved : goal.loop-i-preserved
 loop-i-preserved g c =
@@ -43,7 +43,7 @@ loop-i-preserved g c =
     let there = slice_get-get_or new.ranges i none_there (omega (arith, count)) in
     let put = c.in_ok-put_range.ensures m there in
     more_put c.loop-i.invariant (range_text old new m) (ranges_from old new (i + 1)) (ranges_next old new i m there)
-    put.ok put.never_falls
+    put
 
 pub returns : goal.returns
 returns g c =

@@ -7,6 +7,4 @@ use Rattle.tss_report.proofs.rows.put_changed.Given as goal
 
 abbrev pub invariant-loop-i : goal.invariant-loop-i
 invariant-loop-i g l =
-    HasPut (g.K.Sink.written l.initial.out) l.initial.pieces (g.K.Sink.written l.out) l.pieces
-    (g.K.Sink.faults l.initial.out) (g.K.Sink.faults l.out)
-    (changed_text (loaded l.image) l.space) (ranges_from (loaded l.image) l.space l.i)
+    HasPut g.K.Sink l.initial.to l.to (changed_text (loaded l.image) l.space) (ranges_from (loaded l.image) l.space l.i)

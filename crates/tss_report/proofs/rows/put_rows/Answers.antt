@@ -8,7 +8,7 @@ use Rattle.tss_report.proofs.rows.put_rows.Goals as goal
 
 pub loop-k-init : goal.loop-k-init
 loop-k-init g c =
-    none_put (g.K.Sink.written c.args.out.now) c.args.pieces.now (g.K.Sink.faults c.args.out.now) _ _
+    none_put g.K.Sink c.args.to.now _ _
     (all_rows (loaded c.args.image.now) c.args.space.now c.args.r.now)
 
 pub returns-in_err-put_row : goal.returns-in_err-put_row
@@ -17,11 +17,10 @@ returns-in_err-put_row g c =
     let new = c.args.space.now in
     let r = c.args.r.now in
     let k = c.loop-k.k in
-    let failed = c.in_err-put_row.ensures in
     failed_put c.loop-k.invariant (row_text old new (record { base = r.base + row_len * k; len = c.min.result }))
     (rows_from old new r (k + 1))
     (rows_next old new r k c.min.result (omega arith) c.min.ensures)
-    failed.err failed.cause failed.never_falls c.from_residual.ensures.0
+    c.in_err-put_row.ensures c.from_residual.ensures.0
 
 pub loop-k-preserved : goal.loop-k-preserved
 loop-k-preserved g c =
@@ -32,7 +31,7 @@ loop-k-preserved g c =
     more_put c.loop-k.invariant (row_text old new (record { base = r.base + row_len * k; len = c.min.result }))
     (rows_from old new r (k + 1))
     (rows_next old new r k c.min.result (omega arith) c.min.ensures)
-    c.in_ok-put_row.ensures.ok c.put_row.ensures.never_falls
+    c.in_ok-put_row.ensures
 
 pub returns : goal.returns
 returns g c =

@@ -7,6 +7,4 @@ use Rattle.tss_report.proofs.rows.put_rows.Given as goal
 
 abbrev pub invariant-loop-k : goal.invariant-loop-k
 invariant-loop-k g l =
-    HasPut (g.K.Sink.written l.initial.out) l.initial.pieces (g.K.Sink.written l.out) l.pieces
-    (g.K.Sink.faults l.initial.out) (g.K.Sink.faults l.out)
-    (rows_text (loaded l.image) l.space l.r) (rows_from (loaded l.image) l.space l.r l.k)
+    HasPut g.K.Sink l.initial.to l.to (rows_text (loaded l.image) l.space l.r) (rows_from (loaded l.image) l.space l.r l.k)

@@ -1,0 +1,7 @@
+-- The report is that of its run.
+use Rattle.std.proofs.Common.{rules}
+use Rattle.tss_report.proofs.PieceLemmas.{same_written}
+use Rattle.tss_run.proofs.texts.write_text_of_report.Goals as goal
+
+pub returns : goal.returns
+returns g c = same_written (search rules) c.write_run.ensures

@@ -1,0 +1,146 @@
+// The text and the status of an outcome.
+ghost use Rattle.std.specs.Prelude.{◌≡◌, IfOk, option_map};
+ghost use Rattle.tss_report.specs.Pieces.{Emits, Writes};
+ghost use Rattle.tss_run.specs.Answer.{ending_status, report_status, refusal_status, status_of, input_name, machine_line, refusal_text, run_text, text_of_report, text_of};
+ghost use Rattle.tss_model.specs.Memory.{loaded};
+ghost use Rattle.tss_run.specs.Work.{HasItsRanges};
+
+use crate::outcome::{Input, Refusal, Report, Run};
+use itoa::Buffer;
+use tss_base::Ending;
+use tss_outside::{Failed, Sink};
+use tss_report::{PieceWriter, write_report};
+
+/// What a file is called in a text.
+fn input_name(input: Input) -> &'static [u8]
+    ensures { result.now ≡ input_name input }
+{
+    match input {
+        Input::Machine => b"machine",
+        Input::Image => b"image",
+    }
+}
+
+/// Puts the line of a machine that is refused.
+fn put_machine<K: Sink>(
+    to: &mut PieceWriter<'_, K>,
+    number: u32,
+    key: Option<&[u8]>,
+) -> Result<(), Failed>
+    ensures { Emits K.Sink to.old to.new result (machine_line number (option_map (λ k. k.now) key.entry)) }
+{
+    let mut digits = Buffer::new();
+    let number = digits.format(number).as_bytes();
+    match key {
+        None => to.put_all(&[b"machine ", number, b"\n"]),
+        Some(key) => to.put_all(&[b"machine ", number, b" ", key, b"\n"]),
+    }
+}
+
+/// Puts the text of a refusal.
+fn put_refusal<K: Sink>(to: &mut PieceWriter<'_, K>, refusal: &Refusal) -> Result<(), Failed>
+    ensures text { Emits K.Sink to.old to.new result (refusal_text refusal.now) }
+    ensures same_sink { to.new.out.ghost_name ≡ to.old.out.ghost_name }
+{
+    match refusal {
+        Refusal::Usage => to.put(b"usage: inorder IMAGE MACHINE\n"),
+        Refusal::ReadFault(input) => to.put_all(&[b"read ", input_name(*input), b"\n"]),
+        Refusal::TooLong(input) => to.put_all(&[b"long ", input_name(*input), b"\n"]),
+        Refusal::Machine(bad) => put_machine(to, bad.number(), bad.key()),
+        Refusal::Image(n) => {
+            let mut digits = Buffer::new();
+            to.put_all(&[b"image ", digits.format(*n).as_bytes(), b"\n"])
+        }
+        Refusal::NoMemory => to.put(b"no memory\n"),
+    }
+}
+
+/// Writes the text of a refusal.
+fn write_refusal<K: Sink>(out: &mut K, refusal: &Refusal) -> Result<(), Failed>
+    ensures { Writes K.Sink out.old out.new result (refusal_text refusal.now) }
+{
+    let mut to = PieceWriter::new(out);
+    put_refusal(&mut to, refusal)?;
+    to.flush()
+}
+
+/// Writes the report of a run in program order.
+fn write_run<K: Sink>(out: &mut K, run: &Run) -> Result<(), Failed>
+    requires { run.now.reference.memory.ranges ≡ (loaded run.now.image).ranges }
+    ensures { Writes K.Sink out.old out.new result (run_text run.now) }
+{
+    write_report(
+        out,
+        &run.reference.ending(),
+        run.reference.tasks(),
+        run.reference.output(),
+        &run.image,
+        run.reference.space(),
+        None,
+        &run.machine,
+    )
+}
+
+/// Writes the text of a report.
+fn write_text_of_report<K: Sink>(out: &mut K, report: &Report) -> Result<(), Failed>
+    requires { HasItsRanges report.now }
+    ensures { Writes K.Sink out.old out.new result (text_of_report report.now) }
+{
+    match report {
+        Report::InOrder(run) => write_run(out, run),
+    }
+}
+
+/// Writes the text of an outcome.
+pub fn write_outcome<K: Sink>(out: &mut K, outcome: &Result<Report, Refusal>) -> Result<(), Failed>
+    requires { IfOk outcome.now HasItsRanges }
+    ensures { Writes K.Sink out.old out.new result (text_of outcome.now) }
+{
+    match outcome {
+        Ok(report) => write_text_of_report(out, report),
+        Err(refusal) => write_refusal(out, refusal),
+    }
+}
+
+/// The status of an ending.
+fn ending_status(ending: Ending) -> u8
+    ensures { result ≡ ending_status ending }
+{
+    match ending {
+        Ending::Exit(_) => 0,
+        Ending::MainTrap(_) | Ending::TaskTrap(..) => 1,
+        Ending::Refused(..) => 2,
+    }
+}
+
+/// The status of a report.
+fn report_status(report: &Report) -> u8
+    ensures { result ≡ report_status report.now }
+{
+    match report {
+        Report::InOrder(run) => ending_status(run.reference.ending()),
+    }
+}
+
+/// The status of a refusal.
+fn refusal_status(refusal: &Refusal) -> u8
+    ensures { result ≡ refusal_status refusal.now }
+{
+    match refusal {
+        Refusal::Image(_) => 3,
+        Refusal::Machine(_) => 4,
+        Refusal::Usage => 6,
+        Refusal::ReadFault(_) | Refusal::TooLong(_) => 7,
+        Refusal::NoMemory => 9,
+    }
+}
+
+/// The status of an outcome.
+pub fn status(outcome: &Result<Report, Refusal>) -> u8
+    ensures { result ≡ status_of outcome.now }
+{
+    match outcome {
+        Ok(report) => report_status(report),
+        Err(refusal) => refusal_status(refusal),
+    }
+}
