@@ -87,3 +87,38 @@ fn places_hold_what_must_be_taken_out(rt: HostRuntime) -> Result<(), Fail> {
     seats.close();
     Ok(())
 }
+
+/// The most names of one table of the unit machine: the messages, of which a window of 8 tasks, 1,024 slots and 16,384
+/// places have so many.
+const MOST: u32 = 30_776;
+
+/// The name with a number, of seven a task.
+fn name(number: u32) -> OpName {
+    OpName {
+        task: number / 7,
+        place: number % 7,
+    }
+}
+
+#[test]
+fn a_table_of_the_greatest_size_is_filled_and_emptied(rt: HostRuntime) -> Result<(), Fail> {
+    let mut table = NameTable::open(rt.alloc(), MOST)?;
+    for number in 0..MOST {
+        let key = name(number);
+        if table.room() && !table.has(key) {
+            table.add(key, number);
+        }
+    }
+    assert_eq!(rt; (table.len(), table.room()), (MOST, false));
+    assert_eq!(rt;
+        (table.key_at(MOST.saturating_sub(1)), table.key_at(MOST)),
+        (Some(name(MOST.saturating_sub(1))), None)
+    );
+    for number in 0..MOST {
+        let last = MOST.saturating_sub(1).saturating_sub(number);
+        assert_eq!(rt; table.remove(name(last)), Some(last));
+    }
+    assert!(rt; table.is_empty());
+    table.close();
+    Ok(())
+}
