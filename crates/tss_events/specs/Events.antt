@@ -1,5 +1,5 @@
 -- From messages with tokens to those of the definitions, which have none.
-use Rattle.std.specs.Prelude.{List, map, Option, option_map}
+use Rattle.std.specs.Prelude.{List, map, option_map}
 use Rattle.tss_base.specs.declared.operand.OpName.{OpName}
 use Rattle.tss_base.specs.declared.operand.Storage.{Storage}
 use Rattle.tss_base.specs.declared.operand.Storage.TheVariants as place

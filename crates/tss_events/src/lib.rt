@@ -6,7 +6,11 @@
 
 mod message;
 mod sent;
+#[cfg(test)]
+mod tests;
+mod text;
 
 pub use message::{Gone, HeldBuffer, Message, Opening};
 pub use sent::Sent;
+pub use text::{event_text, read_event};
 pub use tss_base::{Event, Follow, How};
