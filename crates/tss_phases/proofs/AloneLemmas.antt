@@ -12,89 +12,52 @@ none_by : {X : Type 0} (x : Option X) → one_if (is_some x) ≡ 0 → x ≡ Non
 none_by None e = refl
 none_by (Some x) e = absurd (omega (arith, e))
 
+-- where no message is under way, there is none of any kind
+silent_of : (l : LookUps) → under_way l ≡ 0 → IsSilent l
+silent_of l e = record {
+  decoding = none_by l.decoding (omega (arith, e));
+  opening = none_by l.opening (omega (arith, e));
+  using = none_by l.using (omega (arith, e));
+  telling = none_by l.telling (omega (arith, e));
+  releasing = none_by l.releasing (omega (arith, e));
+  leaving = none_by l.leaving (omega (arith, e));
+}
+
 -- where the one message is a decode, no other is under way
 pub silent_but_decoding : (l : LookUps) (x : Operand) → under_way l ≤ 1 → l.decoding ≡ Some x
     → IsSilent (record l { decoding = None })
 silent_but_decoding l x h e =
-    let one = ap (λ o. one_if (is_some o)) e in
-    record {
-      decoding = refl;
-      opening = none_by l.opening (omega (arith, h, one));
-      using = none_by l.using (omega (arith, h, one));
-      telling = none_by l.telling (omega (arith, h, one));
-      releasing = none_by l.releasing (omega (arith, h, one));
-      leaving = none_by l.leaving (omega (arith, h, one));
-    }
+    let one = ap (λ o. one_if (is_some o)) e in silent_of (record l { decoding = None }) (omega (arith, h, one))
 
 -- the same of an open
 pub silent_but_opening : (l : LookUps) (x : OpenContents) → under_way l ≤ 1 → l.opening ≡ Some x
     → IsSilent (record l { opening = None })
 silent_but_opening l x h e =
-    let one = ap (λ o. one_if (is_some o)) e in
-    record {
-      decoding = none_by l.decoding (omega (arith, h, one));
-      opening = refl;
-      using = none_by l.using (omega (arith, h, one));
-      telling = none_by l.telling (omega (arith, h, one));
-      releasing = none_by l.releasing (omega (arith, h, one));
-      leaving = none_by l.leaving (omega (arith, h, one));
-    }
+    let one = ap (λ o. one_if (is_some o)) e in silent_of (record l { opening = None }) (omega (arith, h, one))
 
 -- of a use
 pub silent_but_using : (l : LookUps) (x : OpName) → under_way l ≤ 1 → l.using ≡ Some x
     → IsSilent (record l { using = None })
 silent_but_using l x h e =
-    let one = ap (λ o. one_if (is_some o)) e in
-    record {
-      decoding = none_by l.decoding (omega (arith, h, one));
-      opening = none_by l.opening (omega (arith, h, one));
-      using = refl;
-      telling = none_by l.telling (omega (arith, h, one));
-      releasing = none_by l.releasing (omega (arith, h, one));
-      leaving = none_by l.leaving (omega (arith, h, one));
-    }
+    let one = ap (λ o. one_if (is_some o)) e in silent_of (record l { using = None }) (omega (arith, h, one))
 
 -- of a ready
 pub silent_but_telling : (l : LookUps) (x : Source) → under_way l ≤ 1 → l.telling ≡ Some x
     → IsSilent (record l { telling = None })
 silent_but_telling l x h e =
-    let one = ap (λ o. one_if (is_some o)) e in
-    record {
-      decoding = none_by l.decoding (omega (arith, h, one));
-      opening = none_by l.opening (omega (arith, h, one));
-      using = none_by l.using (omega (arith, h, one));
-      telling = refl;
-      releasing = none_by l.releasing (omega (arith, h, one));
-      leaving = none_by l.leaving (omega (arith, h, one));
-    }
+    let one = ap (λ o. one_if (is_some o)) e in silent_of (record l { telling = None }) (omega (arith, h, one))
 
 -- of a release
 pub silent_but_releasing : (l : LookUps) (x : ReleaseContents) → under_way l ≤ 1 → l.releasing ≡ Some x
     → IsSilent (record l { releasing = None })
 silent_but_releasing l x h e =
-    let one = ap (λ o. one_if (is_some o)) e in
-    record {
-      decoding = none_by l.decoding (omega (arith, h, one));
-      opening = none_by l.opening (omega (arith, h, one));
-      using = none_by l.using (omega (arith, h, one));
-      telling = none_by l.telling (omega (arith, h, one));
-      releasing = refl;
-      leaving = none_by l.leaving (omega (arith, h, one));
-    }
+    let one = ap (λ o. one_if (is_some o)) e in silent_of (record l { releasing = None }) (omega (arith, h, one))
 
 -- of a bye
 pub silent_but_leaving : (l : LookUps) (x : Bool) → under_way l ≤ 1 → l.leaving ≡ Some x
     → IsSilent (record l { leaving = None })
 silent_but_leaving l x h e =
-    let one = ap (λ o. one_if (is_some o)) e in
-    record {
-      decoding = none_by l.decoding (omega (arith, h, one));
-      opening = none_by l.opening (omega (arith, h, one));
-      using = none_by l.using (omega (arith, h, one));
-      telling = none_by l.telling (omega (arith, h, one));
-      releasing = none_by l.releasing (omega (arith, h, one));
-      leaving = refl;
-    }
+    let one = ap (λ o. one_if (is_some o)) e in silent_of (record l { leaving = None }) (omega (arith, h, one))
 
 one_at_most : {X : Type 0} (x : Option X) → one_if (is_some x) ≤ 1
 one_at_most None = omega arith
@@ -103,80 +66,39 @@ one_at_most (Some x) = omega arith
 no_one : {X : Type 0} (x : Option X) → x ≡ None → one_if (is_some x) ≡ 0
 no_one x e = ap (λ x. one_if (is_some x)) e
 
--- and the other way round: where no other message is beside a decode, at most one is under way
-pub alone_decoding : (l : LookUps) → IsSilent (record l { decoding = None }) → under_way l ≤ 1
-alone_decoding l s =
+-- where there is none of any kind, no message is under way
+none_under_way : (l : LookUps) → IsSilent l → under_way l ≡ 0
+none_under_way l s =
     omega (
       arith,
-      one_at_most l.decoding,
+      no_one l.decoding s.decoding,
       no_one l.opening s.opening,
       no_one l.using s.using,
       no_one l.telling s.telling,
       no_one l.releasing s.releasing,
       no_one l.leaving s.leaving,
     )
+
+-- and the other way round: where no other message is beside a decode, at most one is under way
+pub alone_decoding : (l : LookUps) → IsSilent (record l { decoding = None }) → under_way l ≤ 1
+alone_decoding l s = omega (arith, one_at_most l.decoding, none_under_way (record l { decoding = None }) s)
 
 -- the same of an open
 pub alone_opening : (l : LookUps) → IsSilent (record l { opening = None }) → under_way l ≤ 1
-alone_opening l s =
-    omega (
-      arith,
-      one_at_most l.opening,
-      no_one l.decoding s.decoding,
-      no_one l.using s.using,
-      no_one l.telling s.telling,
-      no_one l.releasing s.releasing,
-      no_one l.leaving s.leaving,
-    )
+alone_opening l s = omega (arith, one_at_most l.opening, none_under_way (record l { opening = None }) s)
 
 -- of a use
 pub alone_using : (l : LookUps) → IsSilent (record l { using = None }) → under_way l ≤ 1
-alone_using l s =
-    omega (
-      arith,
-      one_at_most l.using,
-      no_one l.decoding s.decoding,
-      no_one l.opening s.opening,
-      no_one l.telling s.telling,
-      no_one l.releasing s.releasing,
-      no_one l.leaving s.leaving,
-    )
+alone_using l s = omega (arith, one_at_most l.using, none_under_way (record l { using = None }) s)
 
 -- of a ready
 pub alone_telling : (l : LookUps) → IsSilent (record l { telling = None }) → under_way l ≤ 1
-alone_telling l s =
-    omega (
-      arith,
-      one_at_most l.telling,
-      no_one l.decoding s.decoding,
-      no_one l.opening s.opening,
-      no_one l.using s.using,
-      no_one l.releasing s.releasing,
-      no_one l.leaving s.leaving,
-    )
+alone_telling l s = omega (arith, one_at_most l.telling, none_under_way (record l { telling = None }) s)
 
 -- of a release
 pub alone_releasing : (l : LookUps) → IsSilent (record l { releasing = None }) → under_way l ≤ 1
-alone_releasing l s =
-    omega (
-      arith,
-      one_at_most l.releasing,
-      no_one l.decoding s.decoding,
-      no_one l.opening s.opening,
-      no_one l.using s.using,
-      no_one l.telling s.telling,
-      no_one l.leaving s.leaving,
-    )
+alone_releasing l s = omega (arith, one_at_most l.releasing, none_under_way (record l { releasing = None }) s)
 
 -- of a bye
 pub alone_leaving : (l : LookUps) → IsSilent (record l { leaving = None }) → under_way l ≤ 1
-alone_leaving l s =
-    omega (
-      arith,
-      one_at_most l.leaving,
-      no_one l.decoding s.decoding,
-      no_one l.opening s.opening,
-      no_one l.using s.using,
-      no_one l.telling s.telling,
-      no_one l.releasing s.releasing,
-    )
+alone_leaving l s = omega (arith, one_at_most l.leaving, none_under_way (record l { leaving = None }) s)
