@@ -22,8 +22,8 @@ ghost use Rattle.tss_names.specs.MessageCounts.{MessagesLaw};
 /// Every run refines the execution in program order under the machine's limits, for every accepted image, every admissible
 /// machine and every order of events. A finished run has the ending, the number of tasks and the output of program order,
 /// and at home its memory, unless program order ends by the trap of a task. None of the seven counts ever exceeds its
-/// size. A produced version has a storage; where program order starts the task that writes the version, and runs it to
-/// its end, the storage has the bytes of the version's object right after that task. A busy worker is where program order
+/// size. Where program order starts the task that writes a produced version, and runs it to its end, the version has a
+/// storage, with the bytes of the version's object right after that task. A busy worker is where program order
 /// has its task after as many instructions, where that runs all earlier tasks to their ends: in registers, scratch memory
 /// and the bytes of each operand; and a trap on the worker is the task's trap there. Where program order has a state after
 /// as many instructions of main, main's registers, named objects, number of spawned tasks and pieces are as there, and so

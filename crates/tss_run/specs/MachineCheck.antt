@@ -8,6 +8,6 @@ pub record BadMachineState : Type 0 where
   pub number : ℕ
   pub key : Option (List ℕ)
 
--- the check that a fault tells: none where it is want of memory
+-- the check that a fault tells: none where it is that memory ran out
 abbrev pub bad_machine_of : MachineFault → Option BadMachineState
 bad_machine_of fault = option_map (λ n. record { number = n; key = key_of fault }) (number_of fault)

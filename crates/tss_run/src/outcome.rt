@@ -16,7 +16,7 @@ pub enum Input {
     Image,
 }
 
-/// The first check that a machine description fails, with its key. It is never want of memory.
+/// The first check that a machine description fails, with its key. It is never that memory ran out.
 #[derive(Drop)]
 pub struct BadMachine {
     number: u32,
@@ -36,7 +36,7 @@ impl Model for BadMachine {
 }
 
 impl BadMachine {
-    /// The check that a fault tells. None where the fault is want of memory.
+    /// The check that a fault tells. None where the fault is that memory ran out.
     pub fn new(fault: MachineFault) -> Option<BadMachine>
         ensures { result ≡ bad_machine_of fault }
     {

@@ -15,7 +15,7 @@ use std::process::ExitCode;
 use tss_base::NoMemory;
 use tss_outside::{Files, Sink};
 
-/// The status where the words can't be had for want of memory.
+/// The status where the words can't be had, since memory ran out.
 const NO_MEMORY: u8 = 9;
 
 /// All that is left of arguments.
