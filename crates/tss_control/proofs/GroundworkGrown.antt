@@ -12,7 +12,7 @@ use Rattle.tss_locality.specs.Rounds.{IsRounded}
 use Rattle.tss_phases.specs.Phase.{Waiting, phase_of, is_decoded}
 use Rattle.tss_control.specs.Members.{operand_among, IsMember}
 use Rattle.tss_control.specs.Chains.{HasStorage, IsOpenInOrder, IsUseInOrder, HasChains}
-use Rattle.tss_control.specs.Entries.{IsUsed, IsLeaving, IsAbsent, IsRetiring, HasEntries}
+use Rattle.tss_control.specs.Entries.{HasEntryOf, IsUsed, IsLeaving, IsAbsent, IsRetiring, HasEntries}
 use Rattle.tss_control.specs.Readers.{Arrivals, IsArrival, HasArrivals, HasReaders}
 use Rattle.tss_control.specs.Holders.{HasHolders}
 use Rattle.tss_control.specs.Control.{IsControlled}
@@ -112,12 +112,12 @@ module _ (ts us : List Task) (S : State) (long : IsLonger S.main.spawned ts us) 
       let a = among_object ts v named.0 named.1 in
       (v, a.0, a.1, a.2 ∙ sym same.object ∙ gone.3)
 
-  absent_on : (x : Range) → get S.entries x.base ≡ None → IsOnObject x → IsAbsent ts S x
+  absent_on : (x : Range) → (HasEntryOf S x → ⊥) → IsOnObject x → IsAbsent ts S x
   absent_on x none on =
       subst (IsAbsent ts S) on.3
-      (h.entries.absent on.0 on.1 on.2 (ap (λ (x : Range). get S.entries x.base) on.3 ∙ none))
+      (h.entries.absent on.0 on.1 on.2 (λ f. none (subst (HasEntryOf S) on.3 f)))
 
-  longer_absent : (x : Range) → get S.entries x.base ≡ None → IsAbsent us S x
+  longer_absent : (x : Range) → (HasEntryOf S x → ⊥) → IsAbsent us S x
   longer_absent x none = record {
     members = λ v in_x. (absent_on x none (on_member x v in_x)).members v in_x;
     unused = λ used.

@@ -10,6 +10,7 @@ pub mod ReadersKept
 pub mod ReadersStates
 pub mod HoldersNext
 pub mod RetirementFrames
+pub mod EntryOf
 pub mod EntriesNames
 pub mod EntriesLeaving
 pub mod EntriesDecodeOpen

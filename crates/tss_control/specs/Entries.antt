@@ -35,6 +35,12 @@ IsUsed ts S x =
 
 -- ---- entries
 
+-- the entry of an object: it stands at the object's base, and is of that very object
+pub record HasEntryOf (S : State) (x : Range) : Type 0 where
+  pub entry : Entry
+  pub there : get S.entries x.base ≡ Some entry
+  pub object : entry.object ≡ x
+
 -- an object without an entry has no version, no use, and doesn't leave
 pub record IsAbsent (ts : List Task) (S : State) (x : Range) : Type 0 where
   pub members : (v : OpName) → IsMember S x v → ⊥
@@ -67,7 +73,7 @@ pub record IsRetiring (ts : List Task) (S : State) (x : Range) (e : Entry) : Typ
 
 -- the entries of the objects of a round
 pub record HasEntries (ts : List Task) (S : State) : Type 0 where
-  pub absent : (o : OpName) (p : Operand) → operand_among ts o ≡ Some p → get S.entries p.object.base ≡ None
+  pub absent : (o : OpName) (p : Operand) → operand_among ts o ≡ Some p → (HasEntryOf S p.object → ⊥)
       → IsAbsent ts S p.object
   pub operand : (b : ℕ) (e : Entry) → get S.entries b ≡ Some e
       → (e.object.base ≡ b) × ((p : Operand) × (operand_among ts e.latest ≡ Some p) × (p.object ≡ e.object))

@@ -1,11 +1,11 @@
 -- A change that concerns one scope leaves a scope apart from it closed.
-use Rattle.std.proofs.Common.{◌≡◌, refl, sym, ◌∙◌, subst, inl, inr}
+use Rattle.std.proofs.Common.{◌≡◌, ℕ, Some, sym, ◌∙◌, subst, inl, inr}
 use Rattle.std.specs.declared.cmp.Ordering.{Ordering}
-use Rattle.std.specs.FinMap.{FinMap}
+use Rattle.std.specs.FinMap.{FinMap, get}
 use Rattle.std.proofs.lemmas.Option.{none-some}
 use Rattle.tss_base.specs.declared.range.Range.{Range}
 use Rattle.tss_base.specs.declared.operand.OpName.{OpName}
-use Rattle.tss_protocol.specs.State.{State}
+use Rattle.tss_protocol.specs.State.{Entry, State}
 use Rattle.tss_locality.specs.Agreement.{Beyond, AgreeAt, ClosedAt}
 use Rattle.tss_locality.specs.Scopes.{Scope, SourceIn, VersionIn, OpeningIn, GoingIn, ChangesOnly, ClosedWorkers, Closed}
 
@@ -14,12 +14,17 @@ pub closed_agree : {K X : Type 0} {R : K → K → Ordering} (A P : K → Type 0
     ((q : K) → P q → A q) → AgreeAt A m n → ClosedAt P Q m → ClosedAt P Q n
 closed_agree A P Q m n less same c q x p e = c q x p (sym (same q (less q p)) ∙ e)
 
--- no name is in both scopes, and no base
+-- no name is in both scopes, and no object
 pub record AreApart (c d : Scope) : Type 0 where
   pub names : (o : OpName) → d.names o → c.names o → ⊥
-  pub bases : (x y : Range) → d.objects x → c.objects y → x.base ≡ y.base → ⊥
+  pub objects : (x : Range) → d.objects x → c.objects x → ⊥
 
-module _ (c d : Scope) (S T : State) (apart : AreApart c d) (f : ChangesOnly c S T) (closed : Closed d S) where
+-- an entry after a change that is of no object of the scope was there before
+abbrev pub OthersWere : Scope → State → State → Type 0
+OthersWere c S T = (b : ℕ) (e : Entry) → get T.entries b ≡ Some e → (c.objects e.object → ⊥) → get S.entries b ≡ Some e
+
+module _ (c d : Scope) (S T : State) (apart : AreApart c d) (f : ChangesOnly c S T) (were : OthersWere c S T)
+    (closed : Closed d S) where
   -- an event that leaves the workers, and concerns another scope
   pub closed_apart : T.workers ≡ S.workers → Closed d T
   closed_apart workers =
@@ -32,8 +37,8 @@ module _ (c d : Scope) (S T : State) (apart : AreApart c d) (f : ChangesOnly c S
           | inr gone ↦ absurd (none-some r (sym gone.1 ∙ e))
         ];
         workers = subst (ClosedWorkers d) (sym workers) closed.workers;
-        entries = λ x e in_d there.
-            closed.entries x e in_d (sym (f.entries x.base (λ base. apart.bases x base.0 in_d base.1 base.2)) ∙ there);
+        entries = λ b e there in_d.
+            closed.entries b e (were b e there (apart.objects e.object in_d)) in_d;
         versions = closed_agree _ d.names (VersionIn d) S.versions T.versions out f.versions closed.versions;
         mail = record {
           decodes = closed_agree _ d.names _ S.mail.decodes T.mail.decodes own f.mail.decodes closed.mail.decodes;
@@ -47,5 +52,5 @@ module _ (c d : Scope) (S T : State) (apart : AreApart c d) (f : ChangesOnly c S
           gones = closed_agree _ d.names (GoingIn d) S.mail.gones T.mail.gones out f.mail.gones closed.mail.gones;
         };
         copies = λ b k in_d there.
-            closed.copies b k in_d ((f.copies b k (λ in_c. apart.bases k.object k.object in_d in_c refl)).1 there);
+            closed.copies b k in_d ((f.copies b k (apart.objects k.object in_d)).1 there);
       }

@@ -19,6 +19,7 @@ use Rattle.tss_protocol.specs.Versions.{Versioned, after_open, after_use, after_
 use Rattle.tss_protocol.specs.Buffers.{sent_by_retire, new_copy, copies_after_retire, copies_after_copy, is_last_piece, sent_by_copy, piece_len, home_after_copy, buffer_bytes}
 use Rattle.tss_protocol.specs.Stations.{after_ready, after_link}
 use Rattle.tss_protocol.specs.UnitMachine.{tables_of, without, with_sent, with_versioned, with_entries, with_decoded, queue_with, decode_message_taken, open_message_taken, use_message_taken, ready_message_taken, link_message_taken, release_message_taken, idle_message_taken, retire_version, after_copy, gone_message_taken, after_event}
+use Rattle.tss_locality.specs.Concerns.{FindsOwn}
 use Rattle.tss_locality.specs.Scopes.{Scope, IsOwn, MaybeStorageIn, VersionIn, ClosedEntries, ClosedCopies, CopyIn, Closed}
 use Rattle.tss_locality.proofs.Agreements.{closed_removed}
 use Rattle.tss_locality.proofs.ClosedMessages.{KeepAllIn, closed_taken, closed_posted_all, keep_all_from_in}
@@ -138,83 +139,80 @@ module _ (c : Scope) (m : Machine) (S : State) (closed : Closed c S) where
   live_latest o e Output p q = p
   live_latest o e Inout p q = p
 
-  decoded_latest : (o : OpName) (p : Operand) (e : Option Entry) → get S.entries p.object.base ≡ e → c.names o →
+  decoded_latest : (o : OpName) (p : Operand) (e : Option Entry) → get S.entries p.object.base ≡ e →
+      ((y : Entry) → get S.entries p.object.base ≡ Some y → y.object ≡ p.object) → c.names o →
       c.objects p.object → c.names (entry_after_decode o p e).latest
-  decoded_latest o p None there own object = own
-  decoded_latest o p (Some e) there own object =
-      live_latest o e p.mode own (closed.entries p.object e object there)
+  decoded_latest o p None there found own object = own
+  decoded_latest o p (Some e) there found own object =
+      live_latest o e p.mode own
+      (closed.entries p.object.base e there (subst c.objects (sym (found e there)) object))
 
-  entries_put : (b : ℕ) (e : Entry) → c.names e.latest → ClosedEntries c (insert S.entries b e)
-  entries_put b e p x y object there = elim (from_inserted nat_order S.entries b e x.base y there) [
-    | inl new ↦ subst (λ (e : Entry). c.names e.latest) (sym new.1) p
-    | inr old ↦ closed.entries x y object old.1
+  entries_put : (b : ℕ) (e : Entry) → (c.objects e.object → c.names e.latest) → ClosedEntries c (insert S.entries b e)
+  entries_put b e p a y there object = elim (from_inserted nat_order S.entries b e a y there) [
+    | inl new ↦
+        subst (λ (e : Entry). c.names e.latest) (sym new.1) (p (subst (λ (e : Entry). c.objects e.object) new.1 object))
+    | inr old ↦ closed.entries a y old.1 object
   ]
 
   decoded_closed : (o : OpName) (p : Operand) (bank : ℕ) (e : Option Entry) → get S.entries p.object.base ≡ e →
-      IsOwn c o →
+      ((y : Entry) → get S.entries p.object.base ≡ Some y → y.object ≡ p.object) → IsOwn c o →
       c.objects p.object → Closed c (with_decoded (without S (event.Decode o)) (decoded_by (tables_of S) o p bank e))
-  decoded_closed o p bank e there own object =
+  decoded_closed o p bank e there found own object =
       let d = decoded_by (tables_of S) o p bank e in
       let T = without S (event.Decode o) in
       let f = closed_without c S closed (event.Decode o) in
       let A : State = record T { entries = d.part.entries; places = d.part.places; buffers = d.part.buffers } in
       closed_sent c A
       (closed_by c A f.arrivals f.flight f.workers
-      (entries_put p.object.base (entry_after_decode o p e) (decoded_latest o p e there own.0 object)) f.versions
-      f.mail f.copies)
-      d.sent (keep_all_from_in c d.sent (decode_message_in c m S closed o p e there own object, (own, tt)))
+      (entries_put p.object.base (entry_after_decode o p e) (λ in_c. decoded_latest o p e there found own.0 object))
+      f.versions f.mail f.copies)
+      d.sent (keep_all_from_in c d.sent (decode_message_in c m S closed o p e there found own object, (own, tt)))
 
-  decode_closed : (o : OpName) → IsOwn c o → (p : Option Operand) → get S.mail.decodes o ≡ p →
+  decode_closed : (o : OpName) → IsOwn c o → FindsOwn S o → (p : Option Operand) → get S.mail.decodes o ≡ p →
       Closed c (decode_message_taken m (without S (event.Decode o)) o p)
-  decode_closed o own None there = closed_without c S closed (event.Decode o)
-  decode_closed o own (Some p) there =
-      decoded_closed o p (bank_of m.sizes p.object) (get S.entries p.object.base) refl own
+  decode_closed o own found None there = closed_without c S closed (event.Decode o)
+  decode_closed o own found (Some p) there =
+      decoded_closed o p (bank_of m.sizes p.object) (get S.entries p.object.base) refl (λ y e. found p y there e) own
       (closed.mail.decodes o p own.0 there)
 
   -- a closed scope with its operand stays closed after decode
-  pub Closed-decode : (o : OpName) → IsOwn c o → Closed c (after_event m S (event.Decode o))
+  pub Closed-decode : (o : OpName) → IsOwn c o → FindsOwn S o → Closed c (after_event m S (event.Decode o))
   unfolding after_event
-  Closed-decode o own = decode_closed o own (get S.mail.decodes o) refl
+  Closed-decode o own found = decode_closed o own found (get S.mail.decodes o) refl
 
   -- ---- idle
 
-  answered_closed : (v : OpName) (x : Range) (e : Option Entry) (may : Bool) → get S.entries x.base ≡ e → c.objects x →
-      Closed c (with_entries (without S (event.Idle v)) (idle_by S.entries v x.base e may))
-  answered_closed v x (Some e) true there object =
+  answered_closed : (v : OpName) (b : ℕ) (e : Option Entry) (may : Bool) → get S.entries b ≡ e →
+      Closed c (with_entries (without S (event.Idle v)) (idle_by S.entries v b e may))
+  answered_closed v b (Some e) true there =
       let T = without S (event.Idle v) in
-      closed_sent c (record T { entries = insert S.entries x.base (record e { retiring = true }) })
+      closed_sent c (record T { entries = insert S.entries b (record e { retiring = true }) })
       (closed_entries c T (closed_without c S closed (event.Idle v))
-      (insert S.entries x.base (record e { retiring = true }))
-      (entries_put x.base (record e { retiring = true }) (closed.entries x e object there)))
-      (idle_by S.entries v x.base (Some e) true).sent (tt, tt)
-  answered_closed v x None true there object =
+      (insert S.entries b (record e { retiring = true }))
+      (entries_put b (record e { retiring = true }) (closed.entries b e there)))
+      (idle_by S.entries v b (Some e) true).sent (tt, tt)
+  answered_closed v b None true there =
       closed_sent c (without S (event.Idle v)) (closed_without c S closed (event.Idle v))
-      (idle_by S.entries v x.base None true).sent (tt, tt)
-  answered_closed v x e false there object =
+      (idle_by S.entries v b None true).sent (tt, tt)
+  answered_closed v b e false there =
       closed_sent c (without S (event.Idle v)) (closed_without c S closed (event.Idle v))
-      (idle_by S.entries v x.base e false).sent (tt, tt)
+      (idle_by S.entries v b e false).sent (tt, tt)
 
-  idle_closed : (v : OpName) → c.names v → (i : Option IdleContents) → get S.mail.idles v ≡ i →
-      Closed c (idle_message_taken (without S (event.Idle v)) v i)
-  idle_closed v p None there = closed_without c S closed (event.Idle v)
-  idle_closed v p (Some i) there =
-      let base = closed.mail.idles v i p there in
-      subst (λ b. Closed c (with_entries (without S (event.Idle v))
-      (idle_by S.entries v b (get S.entries b) (may_retire v i.count (get S.entries b)))))
-      (sym base.2)
-      (answered_closed v base.0 (get S.entries base.0.base) (may_retire v i.count (get S.entries base.0.base)) refl
-      base.1)
+  idle_closed : (v : OpName) (i : Option IdleContents) → Closed c (idle_message_taken (without S (event.Idle v)) v i)
+  idle_closed v None = closed_without c S closed (event.Idle v)
+  idle_closed v (Some i) =
+      answered_closed v i.base (get S.entries i.base) (may_retire v i.count (get S.entries i.base)) refl
 
-  -- a closed scope with its version stays closed after idle
-  pub Closed-idle : (v : OpName) → c.names v → Closed c (after_event m S (event.Idle v))
+  -- every closed scope stays closed after idle
+  pub Closed-idle : (v : OpName) → Closed c (after_event m S (event.Idle v))
   unfolding after_event
-  Closed-idle v p = idle_closed v p (get S.mail.idles v) refl
+  Closed-idle v = idle_closed v (get S.mail.idles v)
 
   -- ---- gone
 
   entries_left : (b : ℕ) (retired : Bool) → ClosedEntries c (cond retired (remove S.entries b) S.entries)
-  entries_left b true x e object there = closed.entries x e object (from_removed nat_order S.entries b x.base e there).1
-  entries_left b false x e object there = closed.entries x e object there
+  entries_left b true a e there object = closed.entries a e (from_removed nat_order S.entries b a e there).1 object
+  entries_left b false a e there object = closed.entries a e there object
 
   gone_closed : (v : OpName) (g : Option GoneContents) → Closed c (gone_message_taken (without S (event.Gone v)) v g)
   gone_closed v None = closed_without c S closed (event.Gone v)

@@ -18,7 +18,7 @@ module _ (c : Scope) (m : Machine) (S : State) (closed : Closed c S) where
   pub ChangesOnly-after_event : (e : Event) → IsEnabled m S e → Concerns c m S e → ChangesOnly c S (after_event m S e)
   ChangesOnly-after_event event.Main on p = ChangesOnly-main c m S p on
   ChangesOnly-after_event event.Take on p = ChangesOnly-take c m S p
-  ChangesOnly-after_event (event.Decode o) on p = ChangesOnly-decode c m S closed o p
+  ChangesOnly-after_event (event.Decode o) on p = ChangesOnly-decode c m S closed o p.0 p.1
   ChangesOnly-after_event (event.Ack o) on p = ChangesOnly-ack c m S closed o p
   ChangesOnly-after_event (event.Open o) on p = ChangesOnly-open c m S closed o p
   ChangesOnly-after_event (event.Use o) on p = ChangesOnly-use c m S closed o p

@@ -99,8 +99,8 @@ closed_family d S made = record {
   workers = λ w b there k s in_d e.
       let t = made.of_name (operand_name b.task.number k) in_d in
       storage_more t.0 d t.1.within s (t.1.closed.workers w b there k s t.2 e);
-  entries = λ x e in_d there.
-      let t = made.of_object x in_d in t.1.within.names e.latest (t.1.closed.entries x e t.2 there);
+  entries = λ b e there in_d.
+      let t = made.of_object e.object in_d in t.1.within.names e.latest (t.1.closed.entries b e there t.2);
   versions = λ v x in_d e. let t = made.of_name v in_d in version_more t.0 d t.1.within x
       (t.1.closed.versions v x t.2 e);
   mail = record {

@@ -106,7 +106,7 @@ no_record : (S : State) → len S.flight ≡ 0 → (o : OpName) (r : OperandStat
 no_record S empty o r e = none-some r (sym (ap (record_in o.place) (absent_empty S.flight o.task empty)) ∙ e)
 
 module _ (f : Objects) (S : State) (empty : IsEmpty S) where
-  none_decodes : len S.mail.decodes ≡ 0
+  pub none_decodes : len S.mail.decodes ≡ 0
   none_decodes = let e = empty.messages in omega (arith, e)
 
   none_acks : len S.mail.acks ≡ 0
@@ -147,7 +147,7 @@ module _ (f : Objects) (S : State) (empty : IsEmpty S) where
     arrivals = λ q p in_c e. absurd (nothing_in S.inbox empty.inbox q p e);
     flight = λ q r in_c e. absurd (no_record S empty.flight q r e);
     workers = λ w b e. absurd (nothing_there S.workers empty.workers w b e);
-    entries = λ y e in_c there. absurd (nothing_there S.entries empty.entries y.base e there);
+    entries = λ b e there. absurd (nothing_there S.entries empty.entries b e there);
     versions = λ v y in_c e. absurd (nothing_there S.versions empty.versions v y e);
     mail = record {
       decodes = λ q y in_c e. absurd (nothing_there S.mail.decodes none_decodes q y e);

@@ -8,7 +8,7 @@ use Rattle.tss_protocol.specs.Names.{operand_name}
 use Rattle.tss_protocol.specs.State.{State}
 use Rattle.tss_locality.specs.Agreement.{ClosedAt}
 use Rattle.tss_locality.specs.Scopes.{Scope, IsBase, SourceIn, VersionIn, OpeningIn, GoingIn, Closed}
-use Rattle.tss_locality.specs.Objects.{Objects, object_scope, Every, AreApartNamed, HasObject, AreNamed, IsNamed, IsWithinObjects}
+use Rattle.tss_locality.specs.Objects.{Objects, object_scope, Every, HasObject, AreNamed, IsNamed, IsWithinObjects}
 use Rattle.tss_locality.proofs.FamilyScopes.{LiesWithin, storage_more, source_more, base_more, version_more, record_more, opening_more, going_more, copy_more}
 
 module _ (f g : Objects) (grows : (o : OpName) (x : Range) → f o ≡ Some x → g o ≡ Some x) where
@@ -24,7 +24,7 @@ module _ (f g : Objects) (grows : (o : OpName) (x : Range) → f o ≡ Some x �
     arrivals = λ o p e. grows o p.object (n.arrivals o p e);
     records = λ o r e. has_more o (n.records o r e);
     workers = λ w b there k s e. has_more (operand_name b.task.number k) (n.workers w b there k s e);
-    entries = λ b e there. let t = n.entries b e there in (t.0, grows e.latest t.0 t.1, t.2);
+    entries = λ b e there. let t = n.entries b e there in (grows e.latest e.object t.0, t.1);
     places = named_more S.places n.places;
     buffers = named_more S.buffers n.buffers;
     versions = named_more S.versions n.versions;
@@ -45,8 +45,7 @@ module _ (f g : Objects) (grows : (o : OpName) (x : Range) → f o ≡ Some x �
     copies = λ b k e. grows k.version k.object (n.copies b k e);
   }
 
-  module _ (apart : AreApartNamed g) (S : State) (within : IsWithinObjects f S) (o : OpName) (x : Range)
-      (go : g o ≡ Some x) where
+  module _ (S : State) (within : IsWithinObjects f S) (o : OpName) (x : Range) (go : g o ≡ Some x) where
     abbrev old : Scope
     old = object_scope f x Every
 
@@ -79,11 +78,8 @@ module _ (f g : Objects) (grows : (o : OpName) (x : Range) → f o ≡ Some x �
           let q = operand_name b.task.number k in
           let h = within.named.workers w b there k s e in
           storage_more old new more s ((closed_before q h in_g).workers w b there k s (before q h in_g) e);
-      entries = λ y e is_x there.
-          let t = within.named.entries y.base e there in
-          let g_latest = grows e.latest t.0 t.1 in
-          g_latest ∙ ap Some (sym (apart o e.latest x t.0 go g_latest
-          (ap (λ (r : Range). r.base) (sym is_x) ∙ sym t.2)));
+      entries = λ b e there is_x.
+          grows e.latest e.object (within.named.entries b e there).0 ∙ ap Some is_x;
       versions = at_more (VersionIn old) (VersionIn new) S.versions within.named.versions (version_more old new more)
           (λ c. c.versions);
       mail = record {
@@ -110,8 +106,8 @@ module _ (f g : Objects) (grows : (o : OpName) (x : Range) → f o ≡ Some x �
     }
 
   -- and links stay within it
-  pub IsWithinObjects-grown : AreApartNamed g → (S : State) → IsWithinObjects f S → IsWithinObjects g S
-  IsWithinObjects-grown apart S within = record {
+  pub IsWithinObjects-grown : (S : State) → IsWithinObjects f S → IsWithinObjects g S
+  IsWithinObjects-grown S within = record {
     named = IsNamed-grown S within.named;
-    links = λ o x go. closed_grown apart S within o x go;
+    links = λ o x go. closed_grown S within o x go;
   }

@@ -24,6 +24,8 @@ pub mod ClosedStates
 pub mod ClosedFlights
 pub mod ClosedObjectEvents
 pub mod ClosedTaskEvents
+pub mod EntryChanges
+pub mod SeparateObjects
 pub mod ApartScopes
 pub mod KeptLinks
 pub mod FamilyScopes
@@ -33,7 +35,6 @@ pub mod NamedEvents
 pub mod OtherParts
 pub mod KeptStages
 pub mod GrownObjects
-pub mod SeparateObjects
 pub mod SpawnedTasks
 pub mod Subjects
 pub mod FewerObjects

@@ -13,32 +13,39 @@ use Rattle.tss_protocol.specs.State.{Busy, CopyState, State, initial_state}
 use Rattle.tss_protocol.specs.MainEvent.{call_next}
 use Rattle.tss_protocol.specs.UnitMachine.{is_enabled, IsEnabled, after_event}
 use Rattle.tss_locality.specs.Scopes.{Scope, ChangesOnly}
-use Rattle.tss_locality.specs.Objects.{Objects, object_scope, Every, LinksStay, AreApartNamed, SpawnsWith, StandNumbered, IsFitting, WorkerNamed, EntriesNamed, IsNamed, IsWithinObjects}
+use Rattle.tss_locality.specs.Objects.{Objects, object_scope, Every, LinksStay, SpawnsWith, StandNumbered, IsFitting, WorkerNamed, EntriesNamed, IsNamed, IsWithinObjects}
 use Rattle.tss_locality.proofs.WorkerEvents.{ChangesOnly-finish}
 use Rattle.tss_locality.proofs.EachEvent.{ChangesOnly-after_event}
 use Rattle.tss_locality.proofs.LeftFields.{Leaves-after_event}
-use Rattle.tss_locality.proofs.KeptLinks.{LinksStay-initial_state, LinksStay-after_event}
+use Rattle.tss_locality.proofs.ApartScopes.{OthersWere}
+use Rattle.tss_locality.proofs.KeptLinks.{LinksStay-initial_state, LinksStay-after_event, others_left, others_decoded, others_idle, others_gone}
 use Rattle.tss_locality.proofs.NamedStates.{IsNamed-initial_state}
 use Rattle.tss_locality.proofs.NamedRows.{known, named_after, workers_same, entries_after, copies_same, all_named, take_named, start_named, exec_named, finish_workers, main_named, retire_version_copies, copy_copies}
 
-module _ (f : Objects) (m : Machine) (S : State) (within : IsWithinObjects f S) (apart : AreApartNamed f) where
+module _ (f : Objects) (m : Machine) (S : State) (within : IsWithinObjects f S) where
   -- the scope of an object that is named
   abbrev of_object : Range → Scope
   of_object x = object_scope f x Every
 
   -- links stay within each object after an enabled event
   links_after : (e : Event) → IsEnabled m S e → IsFitting f m S e → LinksStay f (after_event m S e)
-  links_after e on fit = LinksStay-after_event f m S within.links apart e on (known f m S within.named e on fit)
+  links_after e on fit =
+      LinksStay-after_event f m S within.links within.named.entries e on (known f m S within.named e on fit)
 
   -- what an event that concerns one object changes
   one_named : (e : Event) (o : OpName) (x : Range) → f o ≡ Some x → ChangesOnly (of_object x) S (after_event m S e) →
-      LinksStay f (after_event m S e) → (after_event m S e).inbox ≡ S.inbox → (after_event m S e).workers ≡ S.workers →
+      OthersWere (of_object x) S (after_event m S e) → LinksStay f (after_event m S e) →
+      (after_event m S e).inbox ≡ S.inbox → (after_event m S e).workers ≡ S.workers →
       ((b : ℕ) (k : CopyState) → get (after_event m S e).copies b ≡ Some k → f k.version ≡ Some k.object) →
       IsNamed f (after_event m S e)
-  one_named e o x fo only links inbox workers copies =
+  one_named e o x fo only were links inbox workers copies =
       let T = after_event m S e in
       named_after f m S within.named (of_object x) (λ q p. (x, p)) T only inbox
-      (workers_same f m S within.named T workers) (entries_after f m S within.named x T only (links o x fo)) copies
+      (workers_same f m S within.named T workers) (entries_after f m S within.named x T only were (links o x fo)) copies
+
+  -- an event that leaves the entries
+  left : (e : Event) (c : Scope) → (after_event m S e).entries ≡ S.entries → OthersWere c S (after_event m S e)
+  left e c same = others_left f m S within.links within.named.entries c (after_event m S e) same
 
   start_kept : (w : ℕ) → StandNumbered S → IsNamed f (after_event m S (event.Start w))
   unfolding after_event
@@ -81,6 +88,7 @@ module _ (f : Objects) (m : Machine) (S : State) (within : IsWithinObjects f S) 
       λ l e. ap (λ (k : CopyState). k.object) (same_Some l k (sym e ∙ there)) in
       one_named (event.Copy b) k.version k.object fo
       (ChangesOnly-after_event (of_object k.object) m S (within.links k.version k.object fo) (event.Copy b) on this)
+      (left (event.Copy b) (of_object k.object) (λ i. (Leaves-after_event m S (event.Copy b) i).entries))
       (links_after (event.Copy b) on tt) (λ i. (Leaves-after_event m S (event.Copy b) i).inbox)
       (λ i. (Leaves-after_event m S (event.Copy b) i).workers) (copy_kept_copies b)
 
@@ -113,8 +121,10 @@ module _ (f : Objects) (m : Machine) (S : State) (within : IsWithinObjects f S) 
   IsNamed-after_event (event.Copy b) on fit = copy_named b on (get S.copies b) refl
   IsNamed-after_event (event.Decode o) on fit =
       let h = known f m S within.named (event.Decode o) on fit in
-      one_named (event.Decode o) o h.0 h.1
-      (ChangesOnly-after_event (of_object h.0) m S (within.links o h.0 h.1) (event.Decode o) on (h.1, tt))
+      one_named (event.Decode o) o h.0.0 h.0.1
+      (ChangesOnly-after_event (of_object h.0.0) m S (within.links o h.0.0 h.0.1) (event.Decode o) on
+      ((h.0.1, tt), h.1))
+      (others_decoded f m S within.links within.named.entries o h.0.0 h.0.1 h.1)
       (links_after (event.Decode o) on fit) (λ i. (Leaves-after_event m S (event.Decode o) i).inbox)
       (λ i. (Leaves-after_event m S (event.Decode o) i).workers)
       (copies_same f m S within.named (after_event m S (event.Decode o))
@@ -123,6 +133,7 @@ module _ (f : Objects) (m : Machine) (S : State) (within : IsWithinObjects f S) 
       let h = known f m S within.named (event.Ack o) on fit in
       one_named (event.Ack o) o h.0 h.1
       (ChangesOnly-after_event (of_object h.0) m S (within.links o h.0 h.1) (event.Ack o) on (h.1, tt))
+      (left (event.Ack o) (of_object h.0) (λ i. (Leaves-after_event m S (event.Ack o) i).entries))
       (links_after (event.Ack o) on fit) (λ i. (Leaves-after_event m S (event.Ack o) i).inbox)
       (λ i. (Leaves-after_event m S (event.Ack o) i).workers)
       (copies_same f m S within.named (after_event m S (event.Ack o))
@@ -131,6 +142,7 @@ module _ (f : Objects) (m : Machine) (S : State) (within : IsWithinObjects f S) 
       let h = known f m S within.named (event.Open o) on fit in
       one_named (event.Open o) o h.0 h.1
       (ChangesOnly-after_event (of_object h.0) m S (within.links o h.0 h.1) (event.Open o) on (h.1, tt))
+      (left (event.Open o) (of_object h.0) (λ i. (Leaves-after_event m S (event.Open o) i).entries))
       (links_after (event.Open o) on fit) (λ i. (Leaves-after_event m S (event.Open o) i).inbox)
       (λ i. (Leaves-after_event m S (event.Open o) i).workers)
       (copies_same f m S within.named (after_event m S (event.Open o))
@@ -139,6 +151,7 @@ module _ (f : Objects) (m : Machine) (S : State) (within : IsWithinObjects f S) 
       let h = known f m S within.named (event.Use o) on fit in
       one_named (event.Use o) o h.0 h.1
       (ChangesOnly-after_event (of_object h.0) m S (within.links o h.0 h.1) (event.Use o) on (h.1, tt))
+      (left (event.Use o) (of_object h.0) (λ i. (Leaves-after_event m S (event.Use o) i).entries))
       (links_after (event.Use o) on fit) (λ i. (Leaves-after_event m S (event.Use o) i).inbox)
       (λ i. (Leaves-after_event m S (event.Use o) i).workers)
       (copies_same f m S within.named (after_event m S (event.Use o))
@@ -147,6 +160,7 @@ module _ (f : Objects) (m : Machine) (S : State) (within : IsWithinObjects f S) 
       let h = known f m S within.named (event.Ready o) on fit in
       one_named (event.Ready o) o h.0 h.1
       (ChangesOnly-after_event (of_object h.0) m S (within.links o h.0 h.1) (event.Ready o) on (h.1, tt))
+      (left (event.Ready o) (of_object h.0) (λ i. (Leaves-after_event m S (event.Ready o) i).entries))
       (links_after (event.Ready o) on fit) (λ i. (Leaves-after_event m S (event.Ready o) i).inbox)
       (λ i. (Leaves-after_event m S (event.Ready o) i).workers)
       (copies_same f m S within.named (after_event m S (event.Ready o))
@@ -155,6 +169,7 @@ module _ (f : Objects) (m : Machine) (S : State) (within : IsWithinObjects f S) 
       let h = known f m S within.named (event.Link o) on fit in
       one_named (event.Link o) o h.0 h.1
       (ChangesOnly-after_event (of_object h.0) m S (within.links o h.0 h.1) (event.Link o) on (h.1, tt))
+      (left (event.Link o) (of_object h.0) (λ i. (Leaves-after_event m S (event.Link o) i).entries))
       (links_after (event.Link o) on fit) (λ i. (Leaves-after_event m S (event.Link o) i).inbox)
       (λ i. (Leaves-after_event m S (event.Link o) i).workers)
       (copies_same f m S within.named (after_event m S (event.Link o))
@@ -163,6 +178,7 @@ module _ (f : Objects) (m : Machine) (S : State) (within : IsWithinObjects f S) 
       let h = known f m S within.named (event.Release o) on fit in
       one_named (event.Release o) o h.0 h.1
       (ChangesOnly-after_event (of_object h.0) m S (within.links o h.0 h.1) (event.Release o) on (h.1, tt))
+      (left (event.Release o) (of_object h.0) (λ i. (Leaves-after_event m S (event.Release o) i).entries))
       (links_after (event.Release o) on fit) (λ i. (Leaves-after_event m S (event.Release o) i).inbox)
       (λ i. (Leaves-after_event m S (event.Release o) i).workers)
       (copies_same f m S within.named (after_event m S (event.Release o))
@@ -171,6 +187,7 @@ module _ (f : Objects) (m : Machine) (S : State) (within : IsWithinObjects f S) 
       let h = known f m S within.named (event.Bye o) on fit in
       one_named (event.Bye o) o h.0 h.1
       (ChangesOnly-after_event (of_object h.0) m S (within.links o h.0 h.1) (event.Bye o) on (h.1, tt))
+      (left (event.Bye o) (of_object h.0) (λ i. (Leaves-after_event m S (event.Bye o) i).entries))
       (links_after (event.Bye o) on fit) (λ i. (Leaves-after_event m S (event.Bye o) i).inbox)
       (λ i. (Leaves-after_event m S (event.Bye o) i).workers)
       (copies_same f m S within.named (after_event m S (event.Bye o))
@@ -179,6 +196,7 @@ module _ (f : Objects) (m : Machine) (S : State) (within : IsWithinObjects f S) 
       let h = known f m S within.named (event.Idle o) on fit in
       one_named (event.Idle o) o h.0 h.1
       (ChangesOnly-after_event (of_object h.0) m S (within.links o h.0 h.1) (event.Idle o) on h.1)
+      (others_idle f m S within.links within.named.entries o h.0 h.1)
       (links_after (event.Idle o) on fit) (λ i. (Leaves-after_event m S (event.Idle o) i).inbox)
       (λ i. (Leaves-after_event m S (event.Idle o) i).workers)
       (copies_same f m S within.named (after_event m S (event.Idle o))
@@ -187,6 +205,7 @@ module _ (f : Objects) (m : Machine) (S : State) (within : IsWithinObjects f S) 
       let h = known f m S within.named (event.Nack o) on fit in
       one_named (event.Nack o) o h.0 h.1
       (ChangesOnly-after_event (of_object h.0) m S (within.links o h.0 h.1) (event.Nack o) on h.1)
+      (left (event.Nack o) (of_object h.0) (λ i. (Leaves-after_event m S (event.Nack o) i).entries))
       (links_after (event.Nack o) on fit) (λ i. (Leaves-after_event m S (event.Nack o) i).inbox)
       (λ i. (Leaves-after_event m S (event.Nack o) i).workers)
       (copies_same f m S within.named (after_event m S (event.Nack o))
@@ -195,6 +214,7 @@ module _ (f : Objects) (m : Machine) (S : State) (within : IsWithinObjects f S) 
       let h = known f m S within.named (event.Gone o) on fit in
       one_named (event.Gone o) o h.0 h.1
       (ChangesOnly-after_event (of_object h.0) m S (within.links o h.0 h.1) (event.Gone o) on h.1)
+      (others_gone f m S within.links within.named.entries (of_object h.0) o)
       (links_after (event.Gone o) on fit) (λ i. (Leaves-after_event m S (event.Gone o) i).inbox)
       (λ i. (Leaves-after_event m S (event.Gone o) i).workers)
       (copies_same f m S within.named (after_event m S (event.Gone o))
@@ -203,6 +223,7 @@ module _ (f : Objects) (m : Machine) (S : State) (within : IsWithinObjects f S) 
       let h = known f m S within.named (event.Retire o) on fit in
       one_named (event.Retire o) o h.0 h.1
       (ChangesOnly-after_event (of_object h.0) m S (within.links o h.0 h.1) (event.Retire o) on h.1)
+      (left (event.Retire o) (of_object h.0) (λ i. (Leaves-after_event m S (event.Retire o) i).entries))
       (links_after (event.Retire o) on fit) (λ i. (Leaves-after_event m S (event.Retire o) i).inbox)
       (λ i. (Leaves-after_event m S (event.Retire o) i).workers)
       (retire_copies o h.0 h.1)

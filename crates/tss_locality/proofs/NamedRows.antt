@@ -32,6 +32,8 @@ use Rattle.tss_locality.proofs.Messages.{mail_same, mail_posted_all}
 use Rattle.tss_locality.proofs.Flights.{record_in, from_mapped, keeps_records, flight_inserted}
 use Rattle.tss_locality.proofs.Tasks.{from_zero, decodes_sent}
 use Rattle.tss_locality.proofs.TakeEvent.{own_arrival}
+use Rattle.tss_locality.proofs.ApartScopes.{OthersWere}
+use Rattle.tss_locality.proofs.SeparateObjects.{decide_range}
 use Rattle.tss_locality.proofs.KeptLinks.{IsKnown}
 use Rattle.tss_locality.proofs.NamedStates.{named_agree, records_named, mail_named}
 
@@ -59,7 +61,8 @@ module _ (f : Objects) (m : Machine) (S : State) (named : IsNamed f S) where
   unfolding is_enabled
   known event.Main on fit = fit
   known event.Take on fit = tt
-  known (event.Decode o) on fit = let t = decode_there o (get S.mail.decodes o) on in named.mail.decodes o t.0 t.1
+  known (event.Decode o) on fit =
+      let t = decode_there o (get S.mail.decodes o) on in (named.mail.decodes o t.0 t.1, fit)
   known (event.Ack o) on fit = let t = some_there (get S.mail.acks o) on in named.mail.acks o t.0 t.1
   known (event.Open o) on fit = let t = open_there (get S.mail.opens o) on in named.mail.opens o t.0 t.1
   known (event.Use o) on fit = let t = use_there (get S.mail.uses o) on in named.mail.uses o t.0 t.1
@@ -102,13 +105,17 @@ module _ (f : Objects) (m : Machine) (S : State) (named : IsNamed f S) where
       WorkerNamed f b
   workers_same T same w b there = named.workers w b (ap (λ c. get c w) (sym same) ∙ there)
 
-  -- the entries after a change that concerns one object, which is closed after it
+  -- the entries after a change that concerns one object, which is closed after it, and makes no entry of another
   pub entries_after : (x : Range) (T : State) → ChangesOnly (object_scope f x Every) S T →
-      Closed (object_scope f x Every) T → EntriesNamed f T.entries
-  entries_after x T only closed b e there = elim (decide_key nat_order b x.base) [
-    | inl same ↦ (x, closed.entries x e refl (ap (get T.entries) (sym same) ∙ there), sym same)
-    | inr other ↦
-        named.entries b e (sym (only.entries b (λ base. other (base.2 ∙ ap (λ (r : Range). r.base) base.1))) ∙ there)
+      OthersWere (object_scope f x Every) S T → Closed (object_scope f x Every) T → EntriesNamed f T.entries
+  entries_after x T only were closed b e there = elim (decide_range e.object x) [
+    | inr other ↦ named.entries b e (were b e there other)
+    | inl same ↦ elim (decide_key nat_order b x.base) [
+      | inl base ↦
+          (closed.entries b e there same ∙ ap Some (sym same), ap (λ (r : Range). r.base) same ∙ sym base)
+      | inr far ↦
+          named.entries b e (sym (only.entries b (λ base. far (base.2 ∙ ap (λ (r : Range). r.base) base.1))) ∙ there)
+    ]
   ]
 
   -- copies that are the same

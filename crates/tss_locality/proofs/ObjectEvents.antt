@@ -1,5 +1,5 @@
 -- Each event of the versioning and renaming tables, and of the gateway, concerns its operand or version alone.
-use Rattle.std.proofs.Common.{◌≡◌, ℕ, Bool, true, false, cond, Option, Some, None, refl}
+use Rattle.std.proofs.Common.{◌≡◌, ℕ, Bool, true, false, cond, Option, Some, None, refl, sym, subst}
 use Rattle.std.specs.FinMap.{get, remove}
 use Rattle.tss_base.specs.declared.operand.OpName.{OpName}
 use Rattle.tss_base.specs.declared.operand.Mode.{Mode}
@@ -18,6 +18,7 @@ use Rattle.tss_protocol.specs.Versions.{after_open, after_use, after_release, af
 use Rattle.tss_protocol.specs.Buffers.{contents_after_gone}
 use Rattle.tss_protocol.specs.UnitMachine.{tables_of, without, with_entries, with_decoded, decode_message_taken, open_message_taken, use_message_taken, release_message_taken, idle_message_taken, gone_message_taken, after_event}
 use Rattle.tss_locality.specs.Agreement.{Beyond, AgreeAt}
+use Rattle.tss_locality.specs.Concerns.{FindsOwn}
 use Rattle.tss_locality.specs.Scopes.{Scope, IsOwn, IsBase, beyond, ChangesOnly, NameIn, GoingIn, MessageIn, Closed}
 use Rattle.tss_locality.proofs.Agreements.{agree_same, agree_inserted, agree_removed}
 use Rattle.tss_locality.proofs.Messages.{named_from_in}
@@ -99,16 +100,18 @@ module _ (c : Scope) (m : Machine) (S : State) (closed : Closed c S) where
   live_in o p e Inout own object latest = (own, record { object = object; storage = tt; follows = latest })
 
   -- what a decode sends
-  pub decode_message_in : (o : OpName) (p : Operand) (e : Option Entry) → get S.entries p.object.base ≡ e → IsOwn c o →
+  pub decode_message_in : (o : OpName) (p : Operand) (e : Option Entry) → get S.entries p.object.base ≡ e →
+      ((y : Entry) → get S.entries p.object.base ≡ Some y → y.object ≡ p.object) → IsOwn c o →
       c.objects p.object → MessageIn c (decode_message o p e)
-  decode_message_in o p None there own object = (own, record { object = object; storage = tt; follows = tt })
-  decode_message_in o p (Some e) there own object =
-      live_in o p e p.mode own object (closed.entries p.object e object there)
+  decode_message_in o p None there found own object = (own, record { object = object; storage = tt; follows = tt })
+  decode_message_in o p (Some e) there found own object =
+      live_in o p e p.mode own object
+      (closed.entries p.object.base e there (subst c.objects (sym (found e there)) object))
 
-  decoded : (o : OpName) (p : Operand) (bank : ℕ) (e : Option Entry) → get S.entries p.object.base ≡ e → IsOwn c o →
-      c.objects p.object →
+  decoded : (o : OpName) (p : Operand) (bank : ℕ) (e : Option Entry) → get S.entries p.object.base ≡ e →
+      ((y : Entry) → get S.entries p.object.base ≡ Some y → y.object ≡ p.object) → IsOwn c o → c.objects p.object →
       ChangesOnly c S (with_decoded (without S (event.Decode o)) (decoded_by (tables_of S) o p bank e))
-  decoded o p bank e there own object =
+  decoded o p bank e there found own object =
       let d = decoded_by (tables_of S) o p bank e in
       let T = without S (event.Decode o) in
       let A : State = record T { entries = d.part.entries } in
@@ -120,19 +123,19 @@ module _ (c : Scope) (m : Machine) (S : State) (closed : Closed c S) where
       state_places (beyond c) S A in_entries d.part.places (places_if o bank (takes_place e p.mode) own.0) in
       changes_sent c S (record B { buffers = d.part.buffers })
       (state_buffers (beyond c) S B in_places d.part.buffers (buffers_if o bank (takes_buffer e p.mode) own.0))
-      d.sent (named_from_in c (decode_message o p e) (decode_message_in o p e there own object), (own, tt))
+      d.sent (named_from_in c (decode_message o p e) (decode_message_in o p e there found own object), (own, tt))
 
-  decode_taken : (o : OpName) → IsOwn c o → (p : Option Operand) → get S.mail.decodes o ≡ p →
+  decode_taken : (o : OpName) → IsOwn c o → FindsOwn S o → (p : Option Operand) → get S.mail.decodes o ≡ p →
       ChangesOnly c S (decode_message_taken m (without S (event.Decode o)) o p)
-  decode_taken o own None there = changes_taken c S (event.Decode o) own
-  decode_taken o own (Some p) there =
-      decoded o p (bank_of m.sizes p.object) (get S.entries p.object.base) refl own
+  decode_taken o own found None there = changes_taken c S (event.Decode o) own
+  decode_taken o own found (Some p) there =
+      decoded o p (bank_of m.sizes p.object) (get S.entries p.object.base) refl (λ y e. found p y there e) own
       (closed.mail.decodes o p own.0 there)
 
-  -- decode changes only what its operand's scope has
-  pub ChangesOnly-decode : (o : OpName) → IsOwn c o → ChangesOnly c S (after_event m S (event.Decode o))
+  -- decode changes only what its operand's scope has, where it finds an entry of its own object or none
+  pub ChangesOnly-decode : (o : OpName) → IsOwn c o → FindsOwn S o → ChangesOnly c S (after_event m S (event.Decode o))
   unfolding after_event
-  ChangesOnly-decode o own = decode_taken o own (get S.mail.decodes o) refl
+  ChangesOnly-decode o own found = decode_taken o own found (get S.mail.decodes o) refl
 
   -- ---- idle
 

@@ -1,4 +1,5 @@
--- The objects of a round's operands: one more task, and that they are apart where main has named them all.
+-- The objects of a round's operands, with one more task; that named objects are apart, and that a decode finds an entry
+-- of its own object.
 use Rattle.std.proofs.Common.{◌≡◌, ℕ, zero, suc, ◌<◌, Bool, true, false, List, [], ◌∷◌, ◌++◌, Option, Some, None, refl, sym, ap, subst, inl, inr, ◌⊎◌, arith}
 use Rattle.std.specs.Prelude.{◌==◌, cond, max, min, slice_get}
 use Rattle.std.proofs.lemmas.Bool.{lt-ltb}
@@ -9,9 +10,10 @@ use Rattle.tss_base.specs.declared.operand.Operand.{Operand}
 use Rattle.tss_base.specs.declared.operand.Task.{Task}
 use Rattle.tss_base.specs.Range.{end_of, meets, Covers}
 use Rattle.tss_model.specs.Access.{operands_of}
+use Rattle.tss_protocol.specs.State.{State}
 use Rattle.tss_locality.specs.Agreement.{operand_in}
-use Rattle.tss_locality.specs.Objects.{AreApartNamed}
-use Rattle.tss_locality.specs.Rounds.{object_or, object_in, IsIn, IsTaskOf, AreSeparate}
+use Rattle.tss_locality.specs.Concerns.{FindsOwn}
+use Rattle.tss_locality.specs.Rounds.{object_or, object_in, IsIn, IsTaskOf, AreSeparate, IsRounded}
 
 -- an operand in the inbox's task is one of the task's
 pub arrival_operand : (t : Task) (o : OpName) (p : Operand) → operand_in (Some t) o ≡ Some p →
@@ -116,24 +118,19 @@ meet_at_address : (x y : Range) (a : ℕ) → Covers x a → Covers y a → meet
 meet_at_address x y a in_x in_y =
     lt-ltb (max x.base y.base) (min (end_of x) (end_of y)) (omega (arith, in_x.0, in_x.1, in_y.0, in_y.1))
 
-module _ (ts : List Task) (epoch : List Range) (separate : AreSeparate epoch) (named : (k : ℕ) (t : Task) →
-    slice_get ts k ≡ Some t → (j : ℕ) (p : Operand) → slice_get (operands_of t) j ≡ Some p → IsIn p.object epoch) where
-  -- the object of a name is among those that are named
-  pub object_named : (o : OpName) (x : Range) → object_in ts o ≡ Some x → IsIn x epoch
-  object_named o x e =
-      let f = found_in_round ts o x e in
-      subst (λ x. IsIn x epoch) f.object
-      (named f.place f.task f.there o.place f.operand (arrival_operand f.task o f.operand f.arrives))
+module _ (epoch : List Range) (separate : AreSeparate epoch) (x y : Range) (in_x : IsIn x epoch) (in_y : IsIn y epoch)
+  where
+    -- two named objects with one base are one
+    pub one_at_base : x.base ≡ y.base → x ≡ y
+    one_at_base same =
+        separate.one x y in_x in_y (meet_at_base x y (separate.some x in_x) (separate.some y in_y) same)
 
-  -- objects that are all among separate ones are apart
-  pub apart_in_round : AreApartNamed (object_in ts)
-  apart_in_round o q x y eo eq same =
-      let in_x = object_named o x eo in
-      let in_y = object_named q y eq in
-      separate.one x y in_x in_y (meet_at_base x y (separate.some x in_x) (separate.some y in_y) same)
+    -- and two that aren't one share no address
+    pub no_address_shared : (x ≡ y → ⊥) → (a : ℕ) → Covers x a → Covers y a → ⊥
+    no_address_shared other a covered covers = other (separate.one x y in_x in_y (meet_at_address x y a covered covers))
 
-  -- and share no address
-  pub no_address_shared : (o q : OpName) (x y : Range) → object_in ts o ≡ Some x → object_in ts q ≡ Some y →
-      (x ≡ y → ⊥) → (a : ℕ) → Covers x a → Covers y a → ⊥
-  no_address_shared o q x y eo eq other a in_x in_y =
-      other (separate.one x y (object_named o x eo) (object_named q y eq) (meet_at_address x y a in_x in_y))
+-- in a state with a round the entry that decode finds is of its operand's very object, since both are named
+pub finds_own : (S : State) (ts : List Task) → IsRounded S ts → (o : OpName) → FindsOwn S o
+finds_own S ts r o p e there at =
+    one_at_base S.main.epoch r.separate e.object p.object (r.named.entered p.object.base e at)
+    (r.named.decoding o p there) (r.within.named.entries p.object.base e at).1

@@ -10,6 +10,7 @@ use Rattle.tss_base.specs.declared.operand.Task.{Task}
 use Rattle.tss_base.specs.declared.machine.Machine.{Machine}
 use Rattle.tss_base.specs.declared.event.Event.{Event}
 use Rattle.tss_base.specs.declared.event.Event.TheVariants as event
+use Rattle.tss_base.specs.Range.{Covers}
 use Rattle.tss_maps.proofs.Changes.{decide_get}
 use Rattle.tss_model.specs.Access.{operands_of}
 use Rattle.tss_protocol.specs.Names.{operand_name}
@@ -23,7 +24,7 @@ use Rattle.tss_locality.specs.Rounds.{object_or, object_in, IsTaskOf, IsRounded}
 use Rattle.tss_locality.proofs.NamedRows.{known}
 use Rattle.tss_locality.proofs.TakeEvent.{own_arrival}
 use Rattle.tss_locality.proofs.Subjects.{other_object-subject, other_task-subject, ChangesOnly-subject, arrival_task, ChangesOnly-taking, ChangesOnly-starting, ChangesOnly-executing}
-use Rattle.tss_locality.proofs.RoundObjects.{apart_in_round, no_address_shared, found_in_round}
+use Rattle.tss_locality.proofs.RoundObjects.{finds_own, found_in_round}
 use Rattle.tss_locality.proofs.CopyEvents.{ChangesOnly-copy}
 use Rattle.tss_locality.proofs.OtherParts.{closed_tasks}
 
@@ -113,7 +114,7 @@ module _ (m : Machine) (S : State) (ts : List Task) (r : IsRounded S ts) where
   subject_named event.Take o is on = absurd (none-some o is)
   subject_named (event.Decode q) o is on =
       subst (HasObject (object_in ts)) (same_Some q o is)
-      (known (object_in ts) m S r.within.named (event.Decode q) on tt)
+      (known (object_in ts) m S r.within.named (event.Decode q) on (finds_own S ts r q)).0
   subject_named (event.Ack q) o is on =
       subst (HasObject (object_in ts)) (same_Some q o is) (known (object_in ts) m S r.within.named (event.Ack q) on tt)
   subject_named (event.Open q) o is on =
@@ -147,20 +148,19 @@ module _ (m : Machine) (S : State) (ts : List Task) (r : IsRounded S ts) where
   -- it changes only what its object and its task have
   pub ChangesOnly-of_subject : (e : Event) (o : OpName) (x : Range) → subject e ≡ Some o → object_in ts o ≡ Some x →
       IsEnabled m S e → ChangesOnly (object_scope (object_in ts) x (λ n. n ≡ o.task)) S (after_event m S e)
-  ChangesOnly-of_subject e o x is named on = ChangesOnly-subject (object_in ts) m S r.within.links e o x is named on
+  ChangesOnly-of_subject e o x is named on =
+      ChangesOnly-subject (object_in ts) m S r.within.links (finds_own S ts r) e o x is named on
 
-  -- so another object with a name has the same part after it
-  pub other_object_same : (e : Event) (o q : OpName) (x y : Range) → subject e ≡ Some o → object_in ts o ≡ Some x →
-      object_in ts q ≡ Some y → (x ≡ y → ⊥) → IsEnabled m S e →
+  -- so an object with another base and other addresses has the same part after it
+  pub other_object_same : (e : Event) (o : OpName) (x y : Range) → subject e ≡ Some o → object_in ts o ≡ Some x →
+      (x.base ≡ y.base → ⊥) → ((a : ℕ) → Covers x a → Covers y a → ⊥) → IsEnabled m S e →
       SameOn (object_part (λ p. object_in ts p ≡ Some y) y) S (after_event m S e)
-  other_object_same e o q x y is in_x in_y other on =
-      other_object-subject (object_in ts) m S r.within.links e o x y is in_x on
-      (λ same. other (apart_in_round ts S.main.epoch r.separate r.named o q x y in_x in_y same))
-      (no_address_shared ts S.main.epoch r.separate r.named o q x y in_x in_y other)
+  other_object_same e o x y is in_x bases addresses on =
+      other_object-subject (object_in ts) m S r.within.links (finds_own S ts r) e o x y is in_x on bases addresses
 
   -- and so has another task
   pub other_task_same : (e : Event) (o : OpName) (n : ℕ) → subject e ≡ Some o → (n ≡ o.task → ⊥) → IsEnabled m S e →
       SameOn (task_part n) S (after_event m S e)
   other_task_same e o n is other on =
       let h = subject_named e o is on in
-      other_task-subject (object_in ts) m S r.within.links e o h.0 n is h.1 on other
+      other_task-subject (object_in ts) m S r.within.links (finds_own S ts r) e o h.0 n is h.1 on other

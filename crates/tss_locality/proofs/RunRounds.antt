@@ -1,40 +1,93 @@
--- In every run links stay within the objects of the tasks since the last barrier, which are those that main has named.
-use Rattle.std.proofs.Common.{◌≡◌, ℕ, suc, ◌<◌, ◌≤◌, Bool, true, false, cond, List, [], ◌∷◌, ◌++◌, append-nil, Option, Some, None, refl, sym, ap, ◌∙◌, subst, inl, inr, arith}
+-- In every run links stay within the objects of the tasks since the last barrier, and the objects in use are named.
+use Rattle.std.proofs.Common.{◌≡◌, ℕ, suc, ◌<◌, ◌≤◌, ◌⊎◌, Bool, true, false, cond, List, [], ◌∷◌, ◌++◌, append-nil, Option, Some, None, refl, sym, ap, ◌∙◌, subst, inl, inr, arith}
 use Rattle.std.specs.Prelude.{option_to_list, ◌&&◌, is_none, slice_get, Result, Ok, Err}
+use Rattle.std.specs.Ordering.{nat_cmp}
 use Rattle.std.proofs.lemmas.Bool.{and_parts}
 use Rattle.std.proofs.lemmas.Option.{none-some, same_Some}
-use Rattle.std.specs.FinMap.{get}
+use Rattle.std.specs.FinMap.{get, get-empty}
 use Rattle.tss_base.specs.declared.range.Range.{Range}
 use Rattle.tss_base.specs.declared.operand.OpName.{OpName}
+use Rattle.tss_base.specs.declared.operand.Mode.{Mode}
+use Rattle.tss_base.specs.declared.operand.Mode.TheVariants.{Input, Output, Inout}
 use Rattle.tss_base.specs.declared.operand.Operand.{Operand}
 use Rattle.tss_base.specs.declared.operand.Task.{Task}
 use Rattle.tss_base.specs.declared.machine.Machine.{Machine}
 use Rattle.tss_base.specs.declared.event.Event.{Event}
 use Rattle.tss_base.specs.declared.event.Event.TheVariants as event
+use Rattle.tss_base.specs.Names.{name_cmp}
 use Rattle.tss_base.specs.Image.{ImageState}
+use Rattle.tss_maps.proofs.Keys.{name_order}
+use Rattle.tss_maps.proofs.Changes.{from_inserted, from_removed}
 use Rattle.tss_model.specs.Memory.{Memory}
 use Rattle.tss_model.specs.Access.{operands_of}
 use Rattle.tss_model.specs.MainStep.{MainState, Call, ExitCall, Spawn, Barrier, Print, Unknown, main_refused, main_stretch, spawn_call, spawn_on, spawn_done, print_call, print_range, main_call}
 use Rattle.tss_model.specs.Spawn.{spawn_of, objects_of, name_objects}
-use Rattle.tss_protocol.specs.State.{Flying, State, initial_state}
+use Rattle.tss_protocol.specs.Names.{operand_name}
+use Rattle.tss_protocol.specs.Mail.{Mail, Decode, posted, posted_all, taken}
+use Rattle.tss_protocol.specs.Gateway.{decodes_from}
+use Rattle.tss_protocol.specs.Renaming.{live_message, sent_by_decode}
+use Rattle.tss_protocol.specs.State.{Flying, Entry, State, initial_state}
 use Rattle.tss_protocol.specs.MainEvent.{is_drained, flat_of, call_next, may_call, after_call, main_by}
-use Rattle.tss_protocol.specs.UnitMachine.{after_take, is_enabled, IsEnabled, after_event}
+use Rattle.tss_protocol.specs.UnitMachine.{without, decode_message_taken, after_take, is_enabled, IsEnabled, after_event}
 use Rattle.tss_protocol.specs.Needs.{round_after_call, round_after_main, round_after_event, round_from, round_of}
 use Rattle.tss_protocol.specs.Run.{after_events, IsRun}
 use Rattle.tss_locality.specs.Agreement.{operand_in}
-use Rattle.tss_locality.specs.Objects.{Objects, HasObjects, AreApartNamed, StandNumbered, IsFitting, IsWithinObjects}
-use Rattle.tss_locality.specs.Rounds.{object_in, IsIn, AreSeparate, IsTaskOf, IsNumberOf, IsRounded}
+use Rattle.tss_locality.specs.Objects.{Objects, HasObjects, StandNumbered, IsFitting, IsWithinObjects}
+use Rattle.tss_locality.specs.Rounds.{object_in, IsIn, AreSeparate, IsTaskOf, IsNumberOf, AreInUse, IsRounded}
+use Rattle.tss_protocol.proofs.FrontLemmas.{Front, is_of_front, KeepsFront-after_event}
 use Rattle.tss_locality.proofs.MainCalls.{SameCalls, calls_stretch, calls_print}
 use Rattle.tss_locality.proofs.LeftFields.{Leaves-after_event}
 use Rattle.tss_locality.proofs.NamedEvents.{IsWithinObjects-initial_state, IsWithinObjects-after_event}
 use Rattle.tss_locality.proofs.GrownObjects.{IsWithinObjects-grown}
-use Rattle.tss_locality.proofs.FewerObjects.{nothing_there, empty_drained, IsWithinObjects-drained}
+use Rattle.tss_locality.proofs.FewerObjects.{nothing_there, empty_drained, none_decodes, IsWithinObjects-drained}
+use Rattle.tss_locality.proofs.EntryChanges.{object_found, decoded_object, entries_decoded, entries_idle, entries_gone}
 use Rattle.tss_locality.proofs.TasksInFlight.{AllTasks, TakesWell, AllTasks-initial_state, AllTasks-after_event}
 use Rattle.tss_locality.proofs.TasksAtWork.{AllBusy, AllBusy-initial_state, AllBusy-after_event}
 use Rattle.tss_locality.proofs.SeparateObjects.{still_named, newly_named}
 use Rattle.tss_locality.proofs.SpawnedTasks.{in_objects, accepted_number, accepted_separate}
 use Rattle.tss_locality.proofs.Subjects.{arrival_task}
-use Rattle.tss_locality.proofs.RoundObjects.{in_longer, last_of_longer, found_in_round, object_in-more, object_in-new, from_longer, apart_in_round}
+use Rattle.tss_locality.proofs.RoundObjects.{in_longer, last_of_longer, found_in_round, object_in-more, object_in-new, from_longer, finds_own}
+
+-- ---- what decode and take leave to be decoded
+
+live_decodes : (m : Mail) (o : OpName) (p : Operand) (e : Entry) (mode : Mode) →
+    (posted m (live_message o p e mode)).decodes ≡ m.decodes
+live_decodes m o p e Input = refl
+live_decodes m o p e Output = refl
+live_decodes m o p e Inout = refl
+
+sent_decodes : (m : Mail) (o : OpName) (p : Operand) (e : Option Entry) →
+    (posted_all m (sent_by_decode o p e)).decodes ≡ m.decodes
+sent_decodes m o p None = refl
+sent_decodes m o p (Some e) = live_decodes m o p e p.mode
+
+module _ (m : Machine) (S : State) where
+  decodes_by : (o : OpName) (x : Option Operand) (q : OpName) (p : Operand) →
+      get (decode_message_taken m (without S (event.Decode o)) o x).mail.decodes q ≡ Some p →
+      get S.mail.decodes q ≡ Some p
+  decodes_by o None q p e = (from_removed name_order S.mail.decodes o q p e).1
+  decodes_by o (Some x) q p e =
+      let same = sent_decodes (taken S.mail (event.Decode o)) o x (get S.entries x.object.base) in
+      (from_removed name_order S.mail.decodes o q p (ap (λ ds. get ds q) (sym same) ∙ e)).1
+
+  decodes_left : (o q : OpName) (p : Operand) → get (after_event m S (event.Decode o)).mail.decodes q ≡ Some p →
+      get S.mail.decodes q ≡ Some p
+  unfolding after_event
+  decodes_left o = decodes_by o (get S.mail.decodes o)
+
+-- an operand that is to be decoded after a take is one of the task's, or was to be decoded before
+from_decodes_sent : (m : Mail) (task place : ℕ) (os : List Operand) (o : OpName) (p : Operand) →
+    get (posted_all m (decodes_from task place os)).decodes o ≡ Some p →
+    ((j : ℕ) × (slice_get os j ≡ Some p)) ⊎ (get m.decodes o ≡ Some p)
+from_decodes_sent m task place [] o p e = inr e
+from_decodes_sent m task place (x ∷ os) o p e =
+    elim (from_decodes_sent (posted m (Decode (operand_name task place) x)) task (suc place) os o p e) [
+      | inl own ↦ inl (suc own.0, own.1)
+      | inr here ↦ elim (from_inserted name_order m.decodes (operand_name task place) x o p here) [
+        | inl new ↦ inl (0, ap Some (sym new.1))
+        | inr old ↦ inr old.1
+      ]
+    ]
 
 -- ---- main
 
@@ -67,19 +120,15 @@ within_main f S x home inbox has within = record {
 }
 
 module _ (m : Machine) (S : State) (ts : List Task) (r : IsRounded S ts) where
-  -- the objects of the round are apart
-  apart : AreApartNamed (object_in ts)
-  apart = apart_in_round ts S.main.epoch r.separate r.named
-
   -- a state in which main has spawned and named the same
-  same_round : (T : State) → SameCalls S.main T.main → ((t : Task) → T.inbox ≡ Some t → S.inbox ≡ Some t) →
-      AllTasks (IsNumberOf ts) T.flight →
+  same_round : (T : State) → SameCalls S.main T.main → AreInUse S.main.epoch T →
+      ((t : Task) → T.inbox ≡ Some t → S.inbox ≡ Some t) → AllTasks (IsNumberOf ts) T.flight →
       ((t : Task) → T.inbox ≡ Some t → (n : ℕ) (x : Flying) → get T.flight n ≡ Some x → n < t.number) →
       AllBusy (IsTaskOf ts) T.workers → IsWithinObjects (object_in ts) T → IsRounded T ts
-  same_round T k inbox flying below busy within = record {
+  same_round T k named inbox flying below busy within = record {
     numbers = λ i t there. subst (λ n. t.number ≤ n) (sym k.spawned) (r.numbers i t there);
     one = r.one;
-    named = λ i t there j p at. subst (IsIn p.object) (sym k.epoch) (r.named i t there j p at);
+    named = subst (λ epoch. AreInUse epoch T) (sym k.epoch) named;
     separate = subst AreSeparate (sym k.epoch) r.separate;
     arrived = λ t there. subst (λ n. IsNumberOf ts n t) (sym k.spawned) (r.arrived t (inbox t there));
     flying = flying;
@@ -88,10 +137,15 @@ module _ (m : Machine) (S : State) (ts : List Task) (r : IsRounded S ts) where
     within = within;
   }
 
+  still_in_use : (x : MainState) (home : Memory) → AreInUse S.main.epoch (record S { main = x; home = home })
+  still_in_use x home =
+      record { arriving = r.named.arriving; decoding = r.named.decoding; entered = r.named.entered }
+
   -- main with another state and home
   main_round : (x : MainState) (home : Memory) → SameCalls S.main x → IsRounded (record S { main = x; home = home }) ts
   main_round x home k =
-      same_round (record S { main = x; home = home }) k (λ t there. there) r.flying r.below r.busy
+      same_round (record S { main = x; home = home }) k (still_in_use x home) (λ t there. there) r.flying r.below
+      r.busy
       (within_main (object_in ts) S x home S.inbox r.within.named.arrivals r.within)
 
   -- ---- an accepted spawn
@@ -100,14 +154,18 @@ module _ (m : Machine) (S : State) (ts : List Task) (r : IsRounded S ts) where
       (spawned : x.spawned ≡ suc S.main.spawned)
       (epoch : x.epoch ≡ name_objects S.main.epoch (objects_of (operands_of t)))
       (separate : AreSeparate (name_objects S.main.epoch (objects_of (operands_of t)))) (empty : S.inbox ≡ None) where
-    more_named : (k : ℕ) (u : Task) → slice_get (ts ++ t ∷ []) k ≡ Some u → (j : ℕ) (p : Operand) →
-        slice_get (operands_of u) j ≡ Some p → IsIn p.object (name_objects S.main.epoch (objects_of (operands_of t)))
-    more_named k u there j p at = elim (from_longer ts t k u there) [
-      | inl old ↦ still_named p.object S.main.epoch (objects_of (operands_of t)) (r.named k u old j p at)
-      | inr new ↦
+    more_in_use : AreInUse (name_objects S.main.epoch (objects_of (operands_of t)))
+        (record S { main = x; inbox = Some t })
+    more_in_use = record {
+      arriving = λ u there j p at.
+          let same = same_Some t u there in
           newly_named p.object S.main.epoch (objects_of (operands_of t))
-          (in_objects (operands_of t) j p (ap (λ t. slice_get (operands_of t) j) new ∙ at))
-    ]
+          (in_objects (operands_of t) j p (ap (λ t. slice_get (operands_of t) j) same ∙ at));
+      decoding = λ o p e.
+          still_named p.object S.main.epoch (objects_of (operands_of t)) (r.named.decoding o p e);
+      entered = λ b e at.
+          still_named e.object S.main.epoch (objects_of (operands_of t)) (r.named.entered b e at);
+    }
 
     -- no name of the new task has an object yet
     new_name : (o : OpName) (p : Operand) → operand_in (Some t) o ≡ Some p → (y : Option Range) → object_in ts o ≡ y →
@@ -149,7 +207,7 @@ module _ (m : Machine) (S : State) (ts : List Task) (r : IsRounded S ts) where
         | inr new ↦ let same = ap (λ (t : Task). t.number) new in omega (arith, same, number, spawned)
       ];
       one = one_more;
-      named = λ k u there j p at. subst (IsIn p.object) (sym epoch) (more_named k u there j p at);
+      named = subst (λ epoch. AreInUse epoch (record S { main = x; inbox = Some t })) (sym epoch) more_in_use;
       separate = subst AreSeparate (sym epoch) separate;
       arrived = λ u there.
           subst (IsNumberOf (ts ++ t ∷ []) x.spawned) (same_Some t u there) (number ∙ sym spawned, last_of_longer ts t);
@@ -161,9 +219,7 @@ module _ (m : Machine) (S : State) (ts : List Task) (r : IsRounded S ts) where
           omega (arith, low, number, same, h.0);
       busy = λ w b there. in_longer ts t b.task (r.busy w b there);
       within = within_main (object_in (ts ++ t ∷ [])) S x S.home (Some t) has_objects
-          (IsWithinObjects-grown (object_in ts) (object_in (ts ++ t ∷ [])) (object_in-more ts t)
-          (apart_in_round (ts ++ t ∷ []) (name_objects S.main.epoch (objects_of (operands_of t))) separate
-          more_named) S r.within);
+          (IsWithinObjects-grown (object_in ts) (object_in (ts ++ t ∷ [])) (object_in-more ts t) S r.within);
     }
 
   spawned_round : S.inbox ≡ None → (o : Result Task ℕ) →
@@ -190,7 +246,12 @@ module _ (m : Machine) (S : State) (ts : List Task) (r : IsRounded S ts) where
       IsRounded (record S { main = x }) []
   barrier_round x spawned epoch drained = record {
     numbers = λ k t there. absurd (none-some t there);
-    named = λ k t there. absurd (none-some t there);
+    named = record {
+      arriving = λ t there. absurd (none_inbox S.inbox (empty_drained S drained).inbox t there);
+      decoding = λ o p e.
+          absurd (nothing_there S.mail.decodes (none_decodes (object_in []) S (empty_drained S drained)) o p e);
+      entered = λ b e at. absurd (nothing_there S.entries (empty_drained S drained).entries b e at);
+    };
     one = λ j k t u there. absurd (none-some t there);
     separate = subst AreSeparate (sym epoch) (record { some = λ x h. absurd h; one = λ x y h. absurd h });
     arrived = λ t there. absurd (none_inbox S.inbox (empty_drained S drained).inbox t there);
@@ -235,17 +296,18 @@ module _ (m : Machine) (S : State) (ts : List Task) (r : IsRounded S ts) where
 
   -- an event that isn't main's
   other_event_round : (e : Event) → IsEnabled m S e → IsFitting (object_in ts) m S e →
-      TakesWell (IsNumberOf ts) m S r.flying e → (after_event m S e).main ≡ S.main →
+      AreInUse S.main.epoch (after_event m S e) → TakesWell (IsNumberOf ts) m S r.flying e →
+      (after_event m S e).main ≡ S.main →
       ((t : Task) → (after_event m S e).inbox ≡ Some t → S.inbox ≡ Some t) →
       ((t : Task) → (after_event m S e).inbox ≡ Some t → (n : ℕ) (x : Flying) →
       get (after_event m S e).flight n ≡ Some x → n < t.number) →
       IsRounded (after_event m S e) ts
-  other_event_round e on fit well main inbox below =
+  other_event_round e on fit named well main inbox below =
       same_round (after_event m S e)
       (record { spawned = ap (λ (x : MainState). x.spawned) main; epoch = ap (λ (x : MainState). x.epoch) main })
-      inbox (AllTasks-after_event (IsNumberOf ts) m S r.flying e well) below
+      named inbox (AllTasks-after_event (IsNumberOf ts) m S r.flying e well) below
       (AllBusy-after_event (IsTaskOf ts) m S r.busy (λ n x there. (r.flying n x there).1) e)
-      (IsWithinObjects-after_event (object_in ts) m S r.within apart e on fit)
+      (IsWithinObjects-after_event (object_in ts) m S r.within e on fit)
 
   -- numbers below that of the inbox's task
   abbrev IsBelow : ℕ → Task → Type 0
@@ -256,11 +318,97 @@ module _ (m : Machine) (S : State) (ts : List Task) (r : IsRounded S ts) where
 
   -- an event that leaves main and the inbox
   later_event_round : (e : Event) → IsEnabled m S e → IsFitting (object_in ts) m S e →
-      TakesWell (IsNumberOf ts) m S r.flying e → TakesWell IsBelow m S below_inbox e →
+      AreInUse S.main.epoch (after_event m S e) → TakesWell (IsNumberOf ts) m S r.flying e →
+      TakesWell IsBelow m S below_inbox e →
       (after_event m S e).main ≡ S.main → (after_event m S e).inbox ≡ S.inbox → IsRounded (after_event m S e) ts
-  later_event_round e on fit well lower main inbox =
-      other_event_round e on fit well main (λ t there. sym inbox ∙ there)
+  later_event_round e on fit named well lower main inbox =
+      other_event_round e on fit named well main (λ t there. sym inbox ∙ there)
       (λ t there n x at. AllTasks-after_event IsBelow m S below_inbox e lower n x at t (sym inbox ∙ there))
+
+  -- ---- what is in use after each event
+
+  -- where no operand comes to be decoded
+  left_in_use : (e : Event) → ((t : Task) → (after_event m S e).inbox ≡ Some t → S.inbox ≡ Some t) →
+      ((o : OpName) (p : Operand) → get (after_event m S e).mail.decodes o ≡ Some p →
+      get S.mail.decodes o ≡ Some p) →
+      ((b : ℕ) (y : Entry) → get (after_event m S e).entries b ≡ Some y → IsIn y.object S.main.epoch) →
+      AreInUse S.main.epoch (after_event m S e)
+  left_in_use e inbox decodes entered = record {
+    arriving = λ t there. r.named.arriving t (inbox t there);
+    decoding = λ o p at. r.named.decoding o p (decodes o p at);
+    entered = entered;
+  }
+
+  -- an event that leaves the front, by its entries
+  front_in_use : (e : Event) → is_of_front e ≡ false →
+      ((b : ℕ) (y : Entry) → get (after_event m S e).entries b ≡ Some y → IsIn y.object S.main.epoch) →
+      AreInUse S.main.epoch (after_event m S e)
+  front_in_use e quiet entered =
+      let k = KeepsFront-after_event m S e quiet in
+      left_in_use e (λ t there. sym (ap (λ (f : Front). f.inbox) k.front) ∙ there)
+      (λ o p at. sym (ap (λ (f : Front). get f.decodes o) k.front) ∙ at) entered
+
+  -- and leaves the entries
+  quiet_in_use : (e : Event) → is_of_front e ≡ false → (after_event m S e).entries ≡ S.entries →
+      AreInUse S.main.epoch (after_event m S e)
+  quiet_in_use e quiet same =
+      front_in_use e quiet (λ b y at. r.named.entered b y (ap (λ es. get es b) (sym same) ∙ at))
+
+  idle_in_use : (v : OpName) → AreInUse S.main.epoch (after_event m S (event.Idle v))
+  idle_in_use v = front_in_use (event.Idle v) refl (λ b y at. elim (entries_idle m S v b y at) [
+    | inl was ↦ r.named.entered b y was
+    | inr d ↦ subst (λ x. IsIn x S.main.epoch) (sym d.object) (r.named.entered b d.entry d.there)
+  ])
+
+  gone_in_use : (v : OpName) → AreInUse S.main.epoch (after_event m S (event.Gone v))
+  gone_in_use v = front_in_use (event.Gone v) refl (λ b y at. r.named.entered b y (entries_gone m S v b y at))
+
+  acked_decodes : (o : OpName) → (after_event m S (event.Ack o)).mail.decodes ≡ S.mail.decodes
+  unfolding after_event
+  acked_decodes o = refl
+
+  acked_in_use : (o : OpName) → AreInUse S.main.epoch (after_event m S (event.Ack o))
+  acked_in_use o = left_in_use (event.Ack o)
+      (λ t there. sym (λ i. (Leaves-after_event m S (event.Ack o) i).inbox) ∙ there)
+      (λ q p at. ap (λ ds. get ds q) (sym (acked_decodes o)) ∙ at)
+      (λ b y at. r.named.entered b y
+      (ap (λ es. get es b) (sym (λ i. (Leaves-after_event m S (event.Ack o) i).entries)) ∙ at))
+
+  found_named : (p : Operand) (e : Option Entry) → IsIn p.object S.main.epoch →
+      ((y : Entry) → e ≡ Some y → IsIn y.object S.main.epoch) → IsIn (object_found p.object e) S.main.epoch
+  found_named p None own entered = own
+  found_named p (Some y) own entered = entered y refl
+
+  decoded_in_use : (o : OpName) → AreInUse S.main.epoch (after_event m S (event.Decode o))
+  decoded_in_use o = left_in_use (event.Decode o)
+      (λ t there. sym (λ i. (Leaves-after_event m S (event.Decode o) i).inbox) ∙ there)
+      (decodes_left m S o)
+      (λ b y at. elim (entries_decoded m S o b y at) [
+        | inl was ↦ r.named.entered b y was
+        | inr d ↦
+            let p = d.operand in
+            let e = get S.entries p.object.base in
+            subst (λ x. IsIn x S.main.epoch)
+            (sym (ap (λ (y : Entry). y.object) d.entry ∙ decoded_object o p e))
+            (found_named p e (r.named.decoding o p d.there) (λ y at. r.named.entered p.object.base y at))
+      ])
+
+  taken_by : (i : Option Task) → S.inbox ≡ i → AreInUse S.main.epoch (after_take S i)
+  taken_by None there = r.named
+  taken_by (Some t) there = record {
+    arriving = λ u e. absurd (none-some u e);
+    decoding = λ o p e. elim (from_decodes_sent S.mail t.number 0 (operands_of t) o p e) [
+      | inl own ↦ r.named.arriving t there own.0 p own.1
+      | inr old ↦ r.named.decoding o p old
+    ];
+    entered = r.named.entered;
+  }
+
+  taken_in_use : AreInUse S.main.epoch (after_event m S event.Take)
+  unfolding after_event
+  taken_in_use = taken_by S.inbox refl
+
+  -- ---- each event
 
   emptied : (i : Option Task) → S.inbox ≡ i → (t : Task) → (after_take S i).inbox ≡ Some t → ⊥
   emptied None there t e = none-some t (sym there ∙ e)
@@ -274,56 +422,81 @@ module _ (m : Machine) (S : State) (ts : List Task) (r : IsRounded S ts) where
   pub IsRounded-after_event : (e : Event) → IsEnabled m S e → IsRounded (after_event m S e) (round_after_event m S ts e)
   IsRounded-after_event event.Main on = main_event_round on
   IsRounded-after_event event.Take on =
-      other_event_round event.Take on tt (λ t there. (refl, (r.arrived t there).1))
+      other_event_round event.Take on tt taken_in_use (λ t there. (refl, (r.arrived t there).1))
       (λ i. (Leaves-after_event m S event.Take i).main) (λ t e. absurd (inbox_emptied t e))
       (λ t e. absurd (inbox_emptied t e))
   IsRounded-after_event (event.Decode o) on =
-      later_event_round (event.Decode o) on tt tt tt (λ i. (Leaves-after_event m S (event.Decode o) i).main)
+      later_event_round (event.Decode o) on (finds_own S ts r o) (decoded_in_use o) tt tt
+      (λ i. (Leaves-after_event m S (event.Decode o) i).main)
       (λ i. (Leaves-after_event m S (event.Decode o) i).inbox)
   IsRounded-after_event (event.Ack o) on =
-      later_event_round (event.Ack o) on tt tt tt (λ i. (Leaves-after_event m S (event.Ack o) i).main)
+      later_event_round (event.Ack o) on tt (acked_in_use o) tt tt (λ i. (Leaves-after_event m S (event.Ack o) i).main)
       (λ i. (Leaves-after_event m S (event.Ack o) i).inbox)
   IsRounded-after_event (event.Open o) on =
-      later_event_round (event.Open o) on tt tt tt (λ i. (Leaves-after_event m S (event.Open o) i).main)
+      later_event_round (event.Open o) on tt
+      (quiet_in_use (event.Open o) refl (λ i. (Leaves-after_event m S (event.Open o) i).entries)) tt tt
+      (λ i. (Leaves-after_event m S (event.Open o) i).main)
       (λ i. (Leaves-after_event m S (event.Open o) i).inbox)
   IsRounded-after_event (event.Use o) on =
-      later_event_round (event.Use o) on tt tt tt (λ i. (Leaves-after_event m S (event.Use o) i).main)
+      later_event_round (event.Use o) on tt
+      (quiet_in_use (event.Use o) refl (λ i. (Leaves-after_event m S (event.Use o) i).entries)) tt tt
+      (λ i. (Leaves-after_event m S (event.Use o) i).main)
       (λ i. (Leaves-after_event m S (event.Use o) i).inbox)
   IsRounded-after_event (event.Ready o) on =
-      later_event_round (event.Ready o) on tt tt tt (λ i. (Leaves-after_event m S (event.Ready o) i).main)
+      later_event_round (event.Ready o) on tt
+      (quiet_in_use (event.Ready o) refl (λ i. (Leaves-after_event m S (event.Ready o) i).entries)) tt tt
+      (λ i. (Leaves-after_event m S (event.Ready o) i).main)
       (λ i. (Leaves-after_event m S (event.Ready o) i).inbox)
   IsRounded-after_event (event.Link o) on =
-      later_event_round (event.Link o) on tt tt tt (λ i. (Leaves-after_event m S (event.Link o) i).main)
+      later_event_round (event.Link o) on tt
+      (quiet_in_use (event.Link o) refl (λ i. (Leaves-after_event m S (event.Link o) i).entries)) tt tt
+      (λ i. (Leaves-after_event m S (event.Link o) i).main)
       (λ i. (Leaves-after_event m S (event.Link o) i).inbox)
   IsRounded-after_event (event.Start w) on =
-      later_event_round (event.Start w) on numbered tt tt (λ i. (Leaves-after_event m S (event.Start w) i).main)
+      later_event_round (event.Start w) on numbered
+      (quiet_in_use (event.Start w) refl (λ i. (Leaves-after_event m S (event.Start w) i).entries)) tt tt
+      (λ i. (Leaves-after_event m S (event.Start w) i).main)
       (λ i. (Leaves-after_event m S (event.Start w) i).inbox)
   IsRounded-after_event (event.Exec w) on =
-      later_event_round (event.Exec w) on tt tt tt (λ i. (Leaves-after_event m S (event.Exec w) i).main)
+      later_event_round (event.Exec w) on tt
+      (quiet_in_use (event.Exec w) refl (λ i. (Leaves-after_event m S (event.Exec w) i).entries)) tt tt
+      (λ i. (Leaves-after_event m S (event.Exec w) i).main)
       (λ i. (Leaves-after_event m S (event.Exec w) i).inbox)
   IsRounded-after_event (event.Finish w) on =
-      later_event_round (event.Finish w) on tt tt tt (λ i. (Leaves-after_event m S (event.Finish w) i).main)
+      later_event_round (event.Finish w) on tt
+      (quiet_in_use (event.Finish w) refl (λ i. (Leaves-after_event m S (event.Finish w) i).entries)) tt tt
+      (λ i. (Leaves-after_event m S (event.Finish w) i).main)
       (λ i. (Leaves-after_event m S (event.Finish w) i).inbox)
   IsRounded-after_event (event.Release o) on =
-      later_event_round (event.Release o) on tt tt tt (λ i. (Leaves-after_event m S (event.Release o) i).main)
+      later_event_round (event.Release o) on tt
+      (quiet_in_use (event.Release o) refl (λ i. (Leaves-after_event m S (event.Release o) i).entries)) tt tt
+      (λ i. (Leaves-after_event m S (event.Release o) i).main)
       (λ i. (Leaves-after_event m S (event.Release o) i).inbox)
   IsRounded-after_event (event.Bye o) on =
-      later_event_round (event.Bye o) on tt tt tt (λ i. (Leaves-after_event m S (event.Bye o) i).main)
+      later_event_round (event.Bye o) on tt
+      (quiet_in_use (event.Bye o) refl (λ i. (Leaves-after_event m S (event.Bye o) i).entries)) tt tt
+      (λ i. (Leaves-after_event m S (event.Bye o) i).main)
       (λ i. (Leaves-after_event m S (event.Bye o) i).inbox)
   IsRounded-after_event (event.Idle v) on =
-      later_event_round (event.Idle v) on tt tt tt (λ i. (Leaves-after_event m S (event.Idle v) i).main)
+      later_event_round (event.Idle v) on tt (idle_in_use v) tt tt (λ i. (Leaves-after_event m S (event.Idle v) i).main)
       (λ i. (Leaves-after_event m S (event.Idle v) i).inbox)
   IsRounded-after_event (event.Nack v) on =
-      later_event_round (event.Nack v) on tt tt tt (λ i. (Leaves-after_event m S (event.Nack v) i).main)
+      later_event_round (event.Nack v) on tt
+      (quiet_in_use (event.Nack v) refl (λ i. (Leaves-after_event m S (event.Nack v) i).entries)) tt tt
+      (λ i. (Leaves-after_event m S (event.Nack v) i).main)
       (λ i. (Leaves-after_event m S (event.Nack v) i).inbox)
   IsRounded-after_event (event.Retire v) on =
-      later_event_round (event.Retire v) on tt tt tt (λ i. (Leaves-after_event m S (event.Retire v) i).main)
+      later_event_round (event.Retire v) on tt
+      (quiet_in_use (event.Retire v) refl (λ i. (Leaves-after_event m S (event.Retire v) i).entries)) tt tt
+      (λ i. (Leaves-after_event m S (event.Retire v) i).main)
       (λ i. (Leaves-after_event m S (event.Retire v) i).inbox)
   IsRounded-after_event (event.Copy b) on =
-      later_event_round (event.Copy b) on tt tt tt (λ i. (Leaves-after_event m S (event.Copy b) i).main)
+      later_event_round (event.Copy b) on tt
+      (quiet_in_use (event.Copy b) refl (λ i. (Leaves-after_event m S (event.Copy b) i).entries)) tt tt
+      (λ i. (Leaves-after_event m S (event.Copy b) i).main)
       (λ i. (Leaves-after_event m S (event.Copy b) i).inbox)
   IsRounded-after_event (event.Gone v) on =
-      later_event_round (event.Gone v) on tt tt tt (λ i. (Leaves-after_event m S (event.Gone v) i).main)
+      later_event_round (event.Gone v) on tt (gone_in_use v) tt tt (λ i. (Leaves-after_event m S (event.Gone v) i).main)
       (λ i. (Leaves-after_event m S (event.Gone v) i).inbox)
 
 -- ---- runs
@@ -332,7 +505,11 @@ module _ (m : Machine) (S : State) (ts : List Task) (r : IsRounded S ts) where
 pub IsRounded-initial_state : (i : ImageState) → IsRounded (initial_state i) []
 IsRounded-initial_state i = record {
   numbers = λ k t there. absurd (none-some t there);
-  named = λ k t there. absurd (none-some t there);
+  named = record {
+    arriving = λ t there. absurd (none-some t there);
+    decoding = λ o p e. absurd (none-some p (sym (get-empty name_cmp o) ∙ e));
+    entered = λ b e at. absurd (none-some e (sym (get-empty nat_cmp b) ∙ at));
+  };
   one = λ j k t u there. absurd (none-some t there);
   separate = record { some = λ x h. absurd h; one = λ x y h. absurd h };
   arrived = λ t there. absurd (none-some t there);

@@ -1,8 +1,8 @@
 -- Objects that main has named share no address unless they are one, and so do those of a task that it spawns.
-use Rattle.std.proofs.Common.{◌≡◌, ℕ, ◌<◌, Bool, true, false, cond, List, [], ◌∷◌, ◌++◌, Option, Some, None, refl, sym, ap, ◌∙◌, subst, inl, inr, ◌⊎◌, append-nil, arith}
+use Rattle.std.proofs.Common.{◌≡◌, ◌≢◌, ℕ, ◌<◌, Bool, true, false, cond, List, [], ◌∷◌, ◌++◌, Option, Some, None, refl, sym, ap, ◌∙◌, subst, inl, inr, ◌⊎◌, append-nil, arith, true≢false}
 use Rattle.std.specs.Prelude.{◌%◌, ◌==◌, ◌&&◌, not, nat_lt, max, min, Result, Ok, Err}
 use Rattle.std.specs.List.{list_any}
-use Rattle.std.proofs.lemmas.Bool.{and_parts, or_parts, or_cases}
+use Rattle.std.proofs.lemmas.Bool.{and_parts, and_from, or_parts, or_cases}
 use Rattle.std.proofs.lemmas.Bool.Decides.{nat_tests}
 use Rattle.std.proofs.Math.Seq.{append_snoc}
 use Rattle.tss_base.specs.declared.range.Range.{Range}
@@ -38,7 +38,8 @@ in_either x (y ∷ xs) ys (inr h) = elim (in_either x xs ys h) [
 
 -- ---- ranges
 
-same_from_test : (r s : Range) → same_range r s ≡ true → r ≡ s
+-- a test that passes
+pub same_from_test : (r s : Range) → same_range r s ≡ true → r ≡ s
 same_from_test r s e =
     let parts = and_parts (r.base == s.base) (r.len == s.len) e in
     let base : r.base ≡ s.base = number_from_test r.base s.base parts.0 in
@@ -47,6 +48,20 @@ same_from_test r s e =
   where
     number_from_test : (a b : ℕ) → (a == b) ≡ true → a ≡ b
     number_from_test a b e = grind (arith, nat_tests)
+
+-- two ranges are equal, or they aren't
+pub decide_range : (r s : Range) → (r ≡ s) ⊎ (r ≢ s)
+decide_range r s = by (same_range r s) refl
+  where
+    itself : (a : ℕ) → (a == a) ≡ true
+    itself a = grind (arith, nat_tests)
+
+    own : same_range r r ≡ true
+    own = and_from (r.base == r.base) (r.len == r.len) (itself r.base) (itself r.len)
+
+    by : (b : Bool) → same_range r s ≡ b → (r ≡ s) ⊎ (r ≢ s)
+    by true e = inl (same_from_test r s e)
+    by false e = inr (λ same. true≢false (sym own ∙ ap (same_range r) same ∙ e))
 
 meets_turned : (r s : Range) → meets r s ≡ true → meets s r ≡ true
 meets_turned r s e = numbers r.base s.base (end_of r) (end_of s) e

@@ -22,7 +22,7 @@ use Rattle.tss_protocol.specs.UnitMachine.{IsEnabled, after_event}
 use Rattle.tss_locality.specs.Agreement.{operand_in}
 use Rattle.tss_locality.specs.Extents.{SameOn, object_part, task_part}
 use Rattle.tss_locality.specs.Scopes.{Scope, IsInside, ChangesOnly, Closed}
-use Rattle.tss_locality.specs.Concerns.{IsFree, ConcernsTake, ConcernsFinish, OperandsIn, ConcernsStart, ConcernsExec, Concerns}
+use Rattle.tss_locality.specs.Concerns.{IsFree, ConcernsTake, ConcernsFinish, OperandsIn, ConcernsStart, ConcernsExec, Concerns, FindsOwn}
 use Rattle.tss_locality.specs.Objects.{task_scope, main_scope, Objects, object_scope, Every, LinksStay, subject, IsObjectOf, operands_scope, OperandsNamed}
 use Rattle.tss_locality.proofs.Parts.{same_object, same_task}
 use Rattle.tss_locality.proofs.EachEvent.{ChangesOnly-after_event}
@@ -114,10 +114,11 @@ module _ (f : Objects) (m : Machine) (S : State) (links : LinksStay f S) where
   pub closed_operand : (o : OpName) (x : Range) → f o ≡ Some x → Closed (operand_scope o x) S
   closed_operand o x fo = closed_tasks f x (OfTask o) S (links o x fo)
 
-  -- an event of an operand or version concerns its object and its task alone
-  pub ChangesOnly-subject : (e : Event) (o : OpName) (x : Range) → subject e ≡ Some o → f o ≡ Some x → IsEnabled m S e →
-      ChangesOnly (operand_scope o x) S (after_event m S e)
-  ChangesOnly-subject e o x is fo on = ChangesOnly-after_event (operand_scope o x) m S (closed_operand o x fo) e on
+  -- an event of an operand or version concerns its object and its task alone, where decodes find entries of their own
+  -- objects
+  pub ChangesOnly-subject : ((o : OpName) → FindsOwn S o) → (e : Event) (o : OpName) (x : Range) → subject e ≡ Some o →
+      f o ≡ Some x → IsEnabled m S e → ChangesOnly (operand_scope o x) S (after_event m S e)
+  ChangesOnly-subject finds e o x is fo on = ChangesOnly-after_event (operand_scope o x) m S (closed_operand o x fo) e on
       (concerns e is)
     where
       own : (q : OpName) → Some q ≡ Some o → (f q ≡ Some x) × (q.task ≡ o.task)
@@ -126,7 +127,7 @@ module _ (f : Objects) (m : Machine) (S : State) (links : LinksStay f S) where
       concerns : (e : Event) → subject e ≡ Some o → Concerns (operand_scope o x) m S e
       concerns event.Main is = absurd (none-some o is)
       concerns event.Take is = absurd (none-some o is)
-      concerns (event.Decode q) is = own q is
+      concerns (event.Decode q) is = (own q is, finds q)
       concerns (event.Ack q) is = own q is
       concerns (event.Open q) is = own q is
       concerns (event.Use q) is = own q is
@@ -144,20 +145,19 @@ module _ (f : Objects) (m : Machine) (S : State) (links : LinksStay f S) where
       concerns (event.Gone q) is = (own q is).0
 
   -- so the part of another object is the same
-  pub other_object-subject : (e : Event) (o : OpName) (x y : Range) → subject e ≡ Some o → f o ≡ Some x →
-      IsEnabled m S e →
+  pub other_object-subject : ((o : OpName) → FindsOwn S o) → (e : Event) (o : OpName) (x y : Range) →
+      subject e ≡ Some o → f o ≡ Some x → IsEnabled m S e →
       (x.base ≡ y.base → ⊥) → ((a : ℕ) → Covers x a → Covers y a → ⊥) →
       SameOn (object_part (λ q. f q ≡ Some y) y) S (after_event m S e)
-  other_object-subject e o x y is fo on bases addresses =
+  other_object-subject finds e o x y is fo on bases addresses =
       same_object (operand_scope o x) (λ q. f q ≡ Some y) y S (after_event m S e)
-      (apart_object f x (OfTask o) y bases addresses) (ChangesOnly-subject e o x is fo on)
+      (apart_object f x (OfTask o) y bases addresses) (ChangesOnly-subject finds e o x is fo on)
 
   -- and that of another task
-  pub other_task-subject : (e : Event) (o : OpName) (x : Range) (n : ℕ) → subject e ≡ Some o → f o ≡ Some x →
-      IsEnabled m S e →
-      (n ≡ o.task → ⊥) → SameOn (task_part n) S (after_event m S e)
-  other_task-subject e o x n is fo on other =
-      same_task (operand_scope o x) n S (after_event m S e) other (ChangesOnly-subject e o x is fo on)
+  pub other_task-subject : ((o : OpName) → FindsOwn S o) → (e : Event) (o : OpName) (x : Range) (n : ℕ) →
+      subject e ≡ Some o → f o ≡ Some x → IsEnabled m S e → (n ≡ o.task → ⊥) → SameOn (task_part n) S (after_event m S e)
+  other_task-subject finds e o x n is fo on other =
+      same_task (operand_scope o x) n S (after_event m S e) other (ChangesOnly-subject finds e o x is fo on)
 
   -- ---- tasks
 

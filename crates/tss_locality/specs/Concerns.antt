@@ -13,7 +13,7 @@ use Rattle.tss_base.specs.Range.{Covers}
 use Rattle.tss_model.specs.Access.{operands_of}
 use Rattle.tss_model.specs.MainStep.{Call, main_call}
 use Rattle.tss_protocol.specs.Names.{operand_name}
-use Rattle.tss_protocol.specs.State.{OperandState, Flying, Busy, CopyState, State}
+use Rattle.tss_protocol.specs.State.{OperandState, Flying, Busy, Entry, CopyState, State}
 use Rattle.tss_protocol.specs.Stations.{operand_at}
 use Rattle.tss_protocol.specs.MainEvent.{call_next}
 use Rattle.tss_locality.specs.Agreement.{operand_in}
@@ -60,11 +60,17 @@ pub record ConcernsFinish (c : Scope) (S : State) (b : Busy) : Type 0 where
   pub task : c.tasks b.task.number
   pub names : (o : OpName) (r : OperandState) → o.task ≡ b.task.number → operand_at S.flight o ≡ Some r → c.names o
 
+-- the entry that decode finds at the base of its operand's object is of that very object
+abbrev pub FindsOwn : State → OpName → Type 0
+FindsOwn S o =
+    (p : Operand) (e : Entry) → get S.mail.decodes o ≡ Some p → get S.entries p.object.base ≡ Some e →
+    e.object ≡ p.object
+
 -- what an event concerns lies in the scope
 abbrev pub Concerns : Scope → Machine → State → Event → Type 0
 Concerns c m S event.Main = ConcernsMain c m S
 Concerns c m S event.Take = (t : Task) → S.inbox ≡ Some t → ConcernsTake c S t
-Concerns c m S (event.Decode o) = IsOwn c o
+Concerns c m S (event.Decode o) = IsOwn c o × FindsOwn S o
 Concerns c m S (event.Ack o) = IsOwn c o
 Concerns c m S (event.Open o) = IsOwn c o
 Concerns c m S (event.Use o) = IsOwn c o

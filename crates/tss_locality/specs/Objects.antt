@@ -18,7 +18,7 @@ use Rattle.tss_protocol.specs.State.{OperandState, Flying, Busy, Entry, CopyStat
 use Rattle.tss_protocol.specs.Stations.{operand_at}
 use Rattle.tss_protocol.specs.MainEvent.{call_next}
 use Rattle.tss_locality.specs.Agreement.{operand_in}
-use Rattle.tss_locality.specs.Concerns.{IsFree}
+use Rattle.tss_locality.specs.Concerns.{IsFree, FindsOwn}
 use Rattle.tss_locality.specs.Scopes.{Scope, Closed}
 
 -- the object of each operand of a task that was spawned, by its name
@@ -36,10 +36,6 @@ Every n = Unit {0}
 -- links stay within each object that is named
 abbrev pub LinksStay : Objects → State → Type 0
 LinksStay f S = (o : OpName) (x : Range) → f o ≡ Some x → Closed (object_scope f x Every) S
-
--- objects with names that have one base are one
-abbrev pub AreApartNamed : Objects → Type 0
-AreApartNamed f = (o q : OpName) (x y : Range) → f o ≡ Some x → f q ≡ Some y → x.base ≡ y.base → x ≡ y
 
 -- a name has an object
 abbrev pub HasObject : Objects → OpName → Type 0
@@ -63,7 +59,7 @@ StandNumbered S = (n : ℕ) (x : Flying) → get S.flight n ≡ Some x → x.tas
 abbrev pub IsFitting : Objects → Machine → State → Event → Type 0
 IsFitting f m S event.Main = SpawnsWith f m S
 IsFitting f m S event.Take = Unit {0}
-IsFitting f m S (event.Decode o) = Unit {0}
+IsFitting f m S (event.Decode o) = FindsOwn S o
 IsFitting f m S (event.Ack o) = Unit {0}
 IsFitting f m S (event.Open o) = Unit {0}
 IsFitting f m S (event.Use o) = Unit {0}
@@ -106,10 +102,10 @@ abbrev pub WorkerNamed : Objects → Busy → Type 0
 WorkerNamed f b =
     (k : ℕ) (s : StorageName) → slice_get b.storages k ≡ Some s → HasObject f (operand_name b.task.number k)
 
--- an entry's latest version is of an object with the entry's base
+-- an entry's latest version is of its object, at whose base it stands
 abbrev pub EntriesNamed : Objects → Numbered Entry → Type 0
 EntriesNamed f entries =
-    (b : ℕ) (e : Entry) → get entries b ≡ Some e → (x : Range) × (f e.latest ≡ Some x) × (x.base ≡ b)
+    (b : ℕ) (e : Entry) → get entries b ≡ Some e → (f e.latest ≡ Some e.object) × (e.object.base ≡ b)
 
 -- each operand in the inbox, in flight, of a message, of a worker, of an entry, of a version, of a held place or of a
 -- held buffer has its object, and what is copied is the object of its version

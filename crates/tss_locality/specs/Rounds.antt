@@ -1,12 +1,13 @@
--- The objects of the tasks of a round, which are those that main has named, and what holds of them in every run.
+-- The objects of the tasks of a round and those that main has named, and what holds of them in every run.
 use Rattle.std.specs.Prelude.{◌≡◌, ◌⊎◌, ℕ, ◌<◌, ◌≤◌, true, List, [], ◌∷◌, slice_get, Option, Some, None}
 use Rattle.std.specs.FinMap.{get}
 use Rattle.tss_base.specs.declared.range.Range.{Range}
+use Rattle.tss_base.specs.declared.operand.OpName.{OpName}
 use Rattle.tss_base.specs.declared.operand.Operand.{Operand}
 use Rattle.tss_base.specs.declared.operand.Task.{Task}
 use Rattle.tss_base.specs.Range.{meets}
 use Rattle.tss_model.specs.Access.{operands_of}
-use Rattle.tss_protocol.specs.State.{Flying, Busy, State}
+use Rattle.tss_protocol.specs.State.{Flying, Busy, Entry, State}
 use Rattle.tss_locality.specs.Agreement.{operand_in}
 use Rattle.tss_locality.specs.Objects.{Objects, IsWithinObjects}
 
@@ -38,15 +39,23 @@ IsTaskOf ts t = (k : ℕ) × (slice_get ts k ≡ Some t)
 abbrev pub IsNumberOf : List Task → ℕ → Task → Type 0
 IsNumberOf ts n t = (t.number ≡ n) × IsTaskOf ts t
 
--- the tasks since the last barrier: each has its own number, and none a number above that of main's last. Their objects
--- are those that main has named, which are separate. The inbox has the last of them, each task in flight is one of them
+-- objects that are named while they are in use: those of the inbox's operands, of the operands that are to be decoded,
+-- and of entries
+pub record AreInUse (named : List Range) (S : State) : Type 0 where
+  pub arriving : (t : Task) → S.inbox ≡ Some t → (j : ℕ) (p : Operand) → slice_get (operands_of t) j ≡ Some p →
+      IsIn p.object named
+  pub decoding : (o : OpName) (p : Operand) → get S.mail.decodes o ≡ Some p → IsIn p.object named
+  pub entered : (b : ℕ) (e : Entry) → get S.entries b ≡ Some e → IsIn e.object named
+
+-- the tasks since the last barrier: each has its own number, and none a number above that of main's last. The objects in
+-- use are named, and named objects are separate. The inbox has the last of the tasks, each task in flight is one of them
 -- that stands under its number, below that of the inbox's task, and each worker's task is one of them. Each name and
--- each link stays within its object
+-- each link stays within its object. An object that main has awaited is no longer named, though tasks since the last
+-- barrier have it, and may be named anew with other bounds
 pub record IsRounded (S : State) (ts : List Task) : Type 0 where
   pub numbers : (k : ℕ) (t : Task) → slice_get ts k ≡ Some t → t.number ≤ S.main.spawned
   pub one : (j k : ℕ) (t u : Task) → slice_get ts j ≡ Some t → slice_get ts k ≡ Some u → t.number ≡ u.number → t ≡ u
-  pub named : (k : ℕ) (t : Task) → slice_get ts k ≡ Some t → (j : ℕ) (p : Operand) →
-      slice_get (operands_of t) j ≡ Some p → IsIn p.object S.main.epoch
+  pub named : AreInUse S.main.epoch S
   pub separate : AreSeparate S.main.epoch
   pub arrived : (t : Task) → S.inbox ≡ Some t → IsNumberOf ts S.main.spawned t
   pub flying : (n : ℕ) (x : Flying) → get S.flight n ≡ Some x → IsNumberOf ts n x.task

@@ -184,9 +184,9 @@ pub record ClosedMail (c : Scope) (m : Mail) : Type 0 where
 abbrev pub ClosedFlight : Scope → Numbered Flying → Type 0
 ClosedFlight c flight = (o : OpName) (r : OperandState) → c.names o → operand_at flight o ≡ Some r → RecordIn c r
 
--- the latest versions of its objects
+-- the latest versions of entries of its objects
 abbrev pub ClosedEntries : Scope → Numbered Entry → Type 0
-ClosedEntries c entries = (x : Range) (e : Entry) → c.objects x → get entries x.base ≡ Some e → c.names e.latest
+ClosedEntries c entries = (b : ℕ) (e : Entry) → get entries b ≡ Some e → c.objects e.object → c.names e.latest
 
 -- what is copied of its objects
 abbrev pub ClosedCopies : Scope → Numbered CopyState → Type 0

@@ -23,7 +23,7 @@ use Rattle.tss_protocol.specs.MainEvent.{call_next, main_by, after_call}
 use Rattle.tss_protocol.specs.UnitMachine.{IsEnabled, is_enabled, after_event, without, after_take, decode_message_taken, open_message_taken, use_message_taken, ready_message_taken, link_message_taken, after_start, start_task, after_exec, after_finish, release_message_taken, bye_message_taken, idle_message_taken, nack_message_taken, can_retire, retire_version, after_copy, gone_message_taken}
 use Rattle.tss_names.specs.Tasks.{TasksFact}
 use Rattle.tss_names.specs.Asking.{HasAsking, AskingLaw}
-use Rattle.tss_names.proofs.SentLemmas.{after_ready-all, after_link-all, flight_after_finish-all}
+use Rattle.tss_protocol.proofs.SentLemmas.{after_ready-all, after_link-all, flight_after_finish-all}
 use Rattle.tss_names.proofs.RunLemmas.{IsKept, law_from}
 use Rattle.tss_names.proofs.OpeningLemmas.{AreOpeningsSound}
 use Rattle.tss_names.proofs.EnlistedNames.{AreOpeningsSound-after_event, AreOpeningsSound-initial_state}

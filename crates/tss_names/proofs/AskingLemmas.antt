@@ -16,7 +16,7 @@ use Rattle.tss_protocol.specs.Gateway.{decodes_from}
 use Rattle.tss_protocol.specs.Renaming.{live_message, decode_message}
 use Rattle.tss_protocol.specs.Versions.{put_version, drop_version, refused_once}
 use Rattle.tss_names.specs.Asking.{AsksFor, AsksOnce}
-use Rattle.tss_names.proofs.SentLemmas.{AllSent}
+use Rattle.tss_protocol.proofs.SentLemmas.{AllSent}
 use Rattle.tss_names.proofs.JointLemmas.{IsJoint}
 
 -- of the versions and the mail

@@ -18,7 +18,7 @@ use Rattle.tss_protocol.specs.UnitMachine.{is_enabled, after_event, queue_with, 
 use Rattle.tss_model.specs.Access.{TaskActor, operands_of}
 use Rattle.tss_names.proofs.PlainLemmas.{none_from_test}
 use Rattle.tss_names.specs.Tasks.{TasksFact, spawned_by_main}
-use Rattle.tss_names.proofs.FrontLemmas.{Front, front_of, Back, back_of, KeepsFront, KeepsFront-after_event}
+use Rattle.tss_protocol.proofs.FrontLemmas.{Front, front_of, Back, back_of, KeepsFront, KeepsFront-after_event}
 use Rattle.tss_names.proofs.SpawnLemmas.{SpawnsOne, SpawnsAtMostOne, spawns_main}
 use Rattle.tss_names.proofs.TakeLemmas.{TakesTask, takes_take, decodes_decode, acknowledges_ack}
 use Rattle.tss_model.proofs.BudgetLemmas.{within-stretch}

@@ -25,7 +25,7 @@ use Rattle.tss_protocol.specs.MainEvent.{call_next, main_by, after_call}
 use Rattle.tss_protocol.specs.UnitMachine.{IsEnabled, is_enabled, after_event, with_sent, without, after_take, decode_message_taken, open_message_taken, use_message_taken, ready_message_taken, link_message_taken, after_start, start_task, after_exec, after_finish, release_message_taken, bye_message_taken, idle_message_taken, nack_message_taken, retire_version, after_copy, gone_message_taken}
 use Rattle.tss_names.specs.Tasks.{TasksFact, spawned_after_event, spawned_by_main, HasTaskNumbers}
 use Rattle.tss_names.specs.UseCounts.{CountsReaders, ReadersLaw}
-use Rattle.tss_names.proofs.SentLemmas.{AllSent, IsLater, posted_all-later, after_open-later, after_use-later, after_release-later, after_nack-later, after_ready-later, after_link-later, flight_after_finish-later, after_idle-later, sent_by_retire-later, sent_by_copy-later}
+use Rattle.tss_protocol.proofs.SentLemmas.{AllSent, IsLater, posted_all-later, after_open-later, after_use-later, after_release-later, after_nack-later, after_ready-later, after_link-later, flight_after_finish-later, after_idle-later, sent_by_retire-later, sent_by_copy-later}
 use Rattle.tss_names.proofs.SpawnLemmas.{SpawnsAtMostOne, spawns_main}
 use Rattle.tss_names.proofs.TakeLemmas.{TakesTask, takes_take, decode_message-front}
 use Rattle.tss_names.proofs.RunLemmas.{IsKept, law_from}

@@ -19,7 +19,7 @@ use Rattle.tss_protocol.specs.UnitMachine.{IsEnabled, after_event}
 use Rattle.tss_names.specs.Tasks.{TasksFact, taken_by, IsOperandOf}
 use Rattle.tss_names.proofs.SpawnLemmas.{SpawnsOne}
 use Rattle.tss_names.specs.Names.{WhereThere, StorageNames, SourceNames, LinkNames, OperandNames, VersionNames, MessageNames}
-use Rattle.tss_names.proofs.FrontLemmas.{Front, front_of}
+use Rattle.tss_protocol.proofs.FrontLemmas.{Front, front_of}
 use Rattle.tss_names.proofs.TakeLemmas.{spread, from_spread, TakesTask, DecodesOperand, decodes_decode}
 use Rattle.tss_names.proofs.RunLemmas.{IsKeptAs, kept_by_front}
 use Rattle.tss_names.proofs.NumberLemmas.{last_taken_before, taken_newest}

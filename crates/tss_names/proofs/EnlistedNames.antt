@@ -21,8 +21,8 @@ use Rattle.tss_protocol.specs.MainEvent.{call_next}
 use Rattle.tss_protocol.specs.UnitMachine.{IsEnabled, is_enabled, can_open_message, can_use_message, after_event, without, decode_message_taken, open_message_taken, use_message_taken}
 use Rattle.tss_names.specs.Tasks.{spawned_after_event}
 use Rattle.tss_names.specs.Openings.{HasOpenings, OpeningsLaw}
-use Rattle.tss_names.proofs.SentLemmas.{posted_all-later, after_open-later, after_use-later}
-use Rattle.tss_names.proofs.FrontLemmas.{front_of}
+use Rattle.tss_protocol.proofs.SentLemmas.{posted_all-later, after_open-later, after_use-later}
+use Rattle.tss_protocol.proofs.FrontLemmas.{front_of}
 use Rattle.tss_names.proofs.RunLemmas.{IsKept, law_from}
 use Rattle.tss_names.specs.Names.{IsDecoded, IsEnlisted, HasDecodedNames, NamesLaw}
 use Rattle.tss_names.proofs.GatewayLemmas.{IsFrontSound-after_event, IsFrontSound-initial_state}

@@ -23,7 +23,7 @@ use Rattle.tss_protocol.specs.Renaming.{HasTurn, line_of, has_earlier}
 use Rattle.tss_protocol.specs.State.{State, initial_state}
 use Rattle.tss_protocol.specs.Needs.{is_in_inbox}
 use Rattle.tss_names.specs.Tasks.{task_at, taken_by, last_taken, HasTaskNumbers, IsOperandOf, IsOfTaken, IsInGateway, AreGatewayTasks, HasGateway, GatewayLaw, DecodesInOrder, DecodeOrderLaw}
-use Rattle.tss_names.proofs.FrontLemmas.{Front, front_of}
+use Rattle.tss_protocol.proofs.FrontLemmas.{Front, front_of}
 use Rattle.tss_protocol.proofs.HeldTasks.{pairs_rise, all_among, any_among, held_numbers, length-held_numbers, held_numbers_rise, held_operand, operand_held, few_held}
 use Rattle.tss_protocol.proofs.WindowLemmas.{none_held_idle}
 use Rattle.tss_protocol.proofs.TurnLemmas.{none_before_turn}

@@ -1,6 +1,4 @@
 pub mod PlainLemmas
-pub mod SentLemmas
-pub mod FrontLemmas
 pub mod SpawnLemmas
 pub mod TakeLemmas
 pub mod RunLemmas

@@ -23,7 +23,7 @@ use Rattle.tss_protocol.specs.Buffers.{is_last_piece}
 use Rattle.tss_protocol.specs.MainEvent.{call_next, main_by, after_call}
 use Rattle.tss_protocol.specs.UnitMachine.{after_event, stores_of, without, after_take, decode_message_taken, open_message_taken, use_message_taken, ready_message_taken, link_message_taken, after_start, start_task, after_exec, after_finish, release_message_taken, bye_message_taken, idle_message_taken, nack_message_taken, retire_version, after_copy, gone_message_taken}
 use Rattle.tss_names.specs.Names.{EachEntry, EachOf, StorageNames, MessageNames, EachName}
-use Rattle.tss_names.proofs.SentLemmas.{AllSent}
+use Rattle.tss_protocol.proofs.SentLemmas.{AllSent}
 use Rattle.tss_names.proofs.NameLemmas.{EachSent, each_inserted, each_removed, each_empty, each_posted_all, each_taken, each_no_mail, each_message}
 use Rattle.tss_names.proofs.VersionNames.{VersionsNames, names_open, names_use, names_release, names_nack, names_retire}
 use Rattle.tss_names.proofs.StationNames.{FlightNames, names_taken, names_after_ready, names_after_link, names_after_bye, names_after_finish, names_started, names_storages_of}

@@ -9,7 +9,7 @@ use Rattle.tss_maps.proofs.Keys.{IsKeyOrder, name_order}
 use Rattle.tss_maps.proofs.Changes.{from_inserted, from_removed}
 use Rattle.tss_protocol.specs.Mail.{Message, Decode, Ack, Open, Use, Ready, Link, Release, Bye, Idle, Nack, Retire, Gone, Mail, posted, posted_all, taken, no_mail}
 use Rattle.tss_names.specs.Names.{EachEntry, EachMessage}
-use Rattle.tss_names.proofs.SentLemmas.{AllSent}
+use Rattle.tss_protocol.proofs.SentLemmas.{AllSent}
 
 module _ {K X : Type 0} {R : K → K → Ordering} (order : IsKeyOrder R) (P : K → X → Type 0) where
   -- of one more entry

@@ -16,7 +16,7 @@ use Rattle.tss_model.specs.Access.{operands_of}
 use Rattle.tss_protocol.specs.State.{State, Flying, initial_state}
 use Rattle.tss_protocol.specs.Stations.{new_operand, entered}
 use Rattle.tss_names.specs.Tasks.{task_at, taken_by, IsTaken, IsSpawned, IsNewest, IsInFlight, HasTaskNumbers, TaskNumbersLaw}
-use Rattle.tss_names.proofs.FrontLemmas.{IsSameTask, KeepsFront}
+use Rattle.tss_protocol.proofs.FrontLemmas.{IsSameTask, KeepsFront}
 use Rattle.tss_names.proofs.SpawnLemmas.{SpawnsOne}
 use Rattle.tss_names.proofs.TakeLemmas.{TakesTask, DecodesOperand, AcknowledgesOperand}
 use Rattle.tss_names.proofs.RunLemmas.{law_from, IsKept, kept_by_front}

@@ -21,7 +21,7 @@ use Rattle.tss_protocol.specs.Versions.{after_open, after_use}
 use Rattle.tss_protocol.specs.MainEvent.{call_next}
 use Rattle.tss_protocol.specs.UnitMachine.{IsEnabled, after_event, without, decode_message_taken, open_message_taken, use_message_taken}
 use Rattle.tss_names.specs.Tasks.{TasksFact, spawned_after_event, spawned_by_main, IsOperandOf}
-use Rattle.tss_names.proofs.SentLemmas.{posted_all-later, after_open-later, after_use-later}
+use Rattle.tss_protocol.proofs.SentLemmas.{posted_all-later, after_open-later, after_use-later}
 use Rattle.tss_names.proofs.SpawnLemmas.{SpawnsAtMostOne, spawns_main}
 use Rattle.tss_names.proofs.GatewayLemmas.{operand_still}
 use Rattle.tss_names.proofs.DecodedNames.{AreNamesDecoded}

@@ -24,7 +24,7 @@ use Rattle.tss_protocol.specs.Stations.{is_ready, is_complete, has_finished, has
 use Rattle.tss_protocol.specs.Workers.{busy_at_start}
 use Rattle.tss_protocol.specs.UnitMachine.{queue_with, is_queued}
 use Rattle.tss_names.specs.Tasks.{TasksFact}
-use Rattle.tss_names.proofs.FrontLemmas.{KeepsFront}
+use Rattle.tss_protocol.proofs.FrontLemmas.{KeepsFront}
 use Rattle.tss_names.proofs.TakeLemmas.{TakesTask}
 use Rattle.tss_names.proofs.RunLemmas.{IsKeptAs}
 use Rattle.tss_names.proofs.NumberLemmas.{taken_newest, last_taken_before}

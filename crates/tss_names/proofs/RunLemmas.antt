@@ -13,7 +13,7 @@ use Rattle.tss_protocol.specs.Run.{after_events}
 use Rattle.tss_names.specs.Tasks.{TasksFact, OverTasks, spawned_after_event, spawned_after}
 use Rattle.tss_protocol.specs.MainEvent.{call_next}
 use Rattle.tss_names.specs.Tasks.{spawned_by_main}
-use Rattle.tss_names.proofs.FrontLemmas.{all_come, ComeFrom, KeepsFront, KeepsFront-after_event}
+use Rattle.tss_protocol.proofs.FrontLemmas.{all_come, ComeFrom, KeepsFront, KeepsFront-after_event}
 use Rattle.tss_names.proofs.SpawnLemmas.{SpawnsNothing, SpawnsOne, SpawnsAtMostOne, spawns_main}
 use Rattle.tss_names.proofs.TakeLemmas.{TakesTask, takes_take, DecodesOperand, decodes_decode, AcknowledgesOperand, acknowledges_ack}
 

@@ -12,7 +12,7 @@ use Rattle.tss_protocol.specs.Mail.{StorageName, ReleaseContents, OpenContents, 
 use Rattle.tss_protocol.specs.State.{Version}
 use Rattle.tss_protocol.specs.Versions.{Settling, ready_with, settle_how, settle_by, settle_at, settle_asking, unchanged, settle, settled, may_ask, may_die, opened_how, opened_by, after_open, used_alone, used_behind, used_at, after_use, head_ready, released_by, released_at, after_release, nacked_at, after_nack}
 use Rattle.tss_phases.proofs.Tests.{not_both}
-use Rattle.tss_names.proofs.SentLemmas.{AllSent, AllSent-append}
+use Rattle.tss_protocol.proofs.SentLemmas.{AllSent, AllSent-append}
 
 -- a message doesn't say so
 abbrev pub IsUnretired : Message → Type 0

@@ -17,7 +17,7 @@ use Rattle.tss_protocol.specs.Names.{station_of}
 use Rattle.tss_protocol.specs.State.{State, Flying, initial_state}
 use Rattle.tss_protocol.specs.Stations.{tasks_in, entered}
 use Rattle.tss_names.specs.Tasks.{StaysWithinSlots, SlotsLaw}
-use Rattle.tss_names.proofs.FrontLemmas.{KeepsFront}
+use Rattle.tss_protocol.proofs.FrontLemmas.{KeepsFront}
 use Rattle.tss_names.proofs.TakeLemmas.{TakesTask}
 use Rattle.tss_names.proofs.RunLemmas.{IsKept, kept_by_front, law_from}
 

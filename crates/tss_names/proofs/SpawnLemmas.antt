@@ -26,7 +26,7 @@ use Rattle.tss_protocol.specs.UnitMachine.{IsEnabled, is_enabled, after_event}
 use Rattle.tss_phases.proofs.MainEvent.{spawned-main_stretch, spawned-print}
 use Rattle.tss_names.proofs.PlainLemmas.{none_from_test}
 use Rattle.tss_names.specs.Tasks.{with_spawned, spawned_by_main}
-use Rattle.tss_names.proofs.FrontLemmas.{front_of, back_of}
+use Rattle.tss_protocol.proofs.FrontLemmas.{front_of, back_of}
 
 -- ---- accepted spawns
 

@@ -20,7 +20,7 @@ use Rattle.std.proofs.lemmas.List.{length-map}
 use Rattle.tss_base.specs.declared.operand.OpName.{OpName}
 use Rattle.tss_base.specs.Image.{ImageState}
 use Rattle.tss_names.specs.Stages.{HasStages, StagesLaw}
-use Rattle.tss_names.proofs.FrontLemmas.{KeepsFront}
+use Rattle.tss_protocol.proofs.FrontLemmas.{KeepsFront}
 use Rattle.tss_names.proofs.SpawnLemmas.{SpawnsOne}
 use Rattle.tss_names.proofs.TakeLemmas.{TakesTask}
 use Rattle.tss_names.proofs.RunLemmas.{IsKept, law_from}

@@ -17,7 +17,7 @@ use Rattle.tss_protocol.specs.Mail.{StorageName, Source}
 use Rattle.tss_protocol.specs.State.{OperandState, Flying, Outcome}
 use Rattle.tss_protocol.specs.Stations.{is_complete, awaited, with_operand, is_gone, remaining_tasks, new_operand, entered, flight_after_take, link_after_ready, operand_after_ready, sent_by_ready, Woken, task_after_ready, woken_by, woken_in, after_ready, link_after_link, sent_by_link, operand_after_link, linked_by, linked_in, after_link, flight_after_start, storage_of, storages_of, release_of, releases_from, finished_in, flight_after_finish, operand_after_bye, parted_by, parted_in, after_bye}
 use Rattle.tss_names.specs.Names.{WhereThere, EachEntry, EachOf, StorageNames, SourceNames, LinkNames, OperandNames, FlyingNames, MessageNames}
-use Rattle.tss_names.proofs.SentLemmas.{AllSent, AllSent-append}
+use Rattle.tss_protocol.proofs.SentLemmas.{AllSent, AllSent-append}
 use Rattle.tss_names.proofs.NameLemmas.{each_inserted, each_removed}
 
 -- ---- records of operands

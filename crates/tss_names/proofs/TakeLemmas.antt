@@ -22,7 +22,7 @@ use Rattle.tss_protocol.specs.Stations.{has_slot, entered, flight_after_take}
 use Rattle.tss_protocol.specs.Renaming.{HasTurn, Turn, fill_of, line_of, has_earlier, decode_wait, decode_message, live_message}
 use Rattle.tss_protocol.specs.UnitMachine.{IsEnabled, tables_of, queue_with, is_queued, is_enabled, after_event, can_take, after_take, without, can_decode_message, decode_message_taken}
 use Rattle.tss_protocol.proofs.TurnLemmas.{waits_for_neither}
-use Rattle.tss_names.proofs.FrontLemmas.{front_of, back_of}
+use Rattle.tss_protocol.proofs.FrontLemmas.{front_of, back_of}
 use Rattle.tss_names.proofs.PlainLemmas.{some_unit, zero_from_test}
 
 -- ---- something for each of a task's operands, under its name

@@ -24,7 +24,7 @@ use Rattle.tss_protocol.specs.Workers.{Stores, Placed, placed_in, placed_at, sto
 use Rattle.tss_protocol.specs.Renaming.{live_entry, entry_after_decode, live_message, decode_message, sent_by_decode, retiring_entry, idle_by, buffers_after_gone}
 use Rattle.tss_protocol.specs.Buffers.{contents_after_gone, sent_by_retire, new_copy, copies_after_retire, piece_len, copies_after_copy, sent_by_copy}
 use Rattle.tss_names.specs.Names.{WhereThere, EachEntry, EachOf, StorageNames, MessageNames}
-use Rattle.tss_names.proofs.SentLemmas.{AllSent}
+use Rattle.tss_protocol.proofs.SentLemmas.{AllSent}
 use Rattle.tss_names.proofs.NameLemmas.{each_inserted, each_removed}
 
 -- ---- a task's view of memory, whatever it is

@@ -15,7 +15,7 @@ use Rattle.tss_protocol.specs.Mail.{StorageName, Home, Buffer, OpenContents, Rel
 use Rattle.tss_protocol.specs.State.{Version}
 use Rattle.tss_protocol.specs.Versions.{Versioned, Settling, sending, put_version, drop_version, version_changed, change_version, change_named, ready_with, buffer_of, died, may_die, may_ask, followed_by, unlinked, settle_over, settle_how, settle_asking, unchanged, settle_by, settle_at, settle, settled, new_version, first_version, followed, opened_how, opened_by, after_open, enlisted, used_alone, used_behind, used_at, after_use, head_ready, produced_now, is_last, tail_without, released_once, released_by, released_at, after_release, refused_once, nacked_at, after_nack, after_retire}
 use Rattle.tss_names.specs.Names.{WhereThere, EachEntry, StorageNames, VersionNames, MessageNames}
-use Rattle.tss_names.proofs.SentLemmas.{AllSent, AllSent-append}
+use Rattle.tss_protocol.proofs.SentLemmas.{AllSent, AllSent-append}
 use Rattle.tss_names.proofs.NameLemmas.{each_inserted, each_removed}
 
 module _ (P E : OpName → Type 0) where

@@ -8,6 +8,8 @@ pub mod TurnLemmas
 pub mod MigrationLemmas
 pub mod SettleCases
 pub mod UnlinkedVersions
+pub mod SentLemmas
+pub mod FrontLemmas
 mod KnownEvents
 mod KnownRows
 mod RacingProgram

@@ -24,6 +24,8 @@ pub mod NamingMain
 pub mod ValuesWorkerLaw
 pub mod ValuesProducedLaw
 pub mod UndecodedOperands
+pub mod LiveObjects
+pub mod MembersBefore
 pub mod RoundSteps
 pub mod UnclaimedMemory
 pub mod ValuesMainLaw

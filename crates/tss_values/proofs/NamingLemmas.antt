@@ -30,7 +30,7 @@ use Rattle.tss_names.proofs.NumberLemmas.{at_newest, still_at}
 use Rattle.tss_control.proofs.rounds.Spawned.{of_spawned}
 use Rattle.tss_names.proofs.ListLemmas.{from_any}
 use Rattle.tss_control.proofs.rounds.RoundTasks.{among_tasks}
-use Rattle.tss_values.proofs.Values.{Starts, RunsOut, bytes_before, bytes_after, HasMain, HasNaming}
+use Rattle.tss_values.proofs.Values.{Starts, RunsOut, bytes_before, bytes_after, HasMain, HasNaming, IsLive}
 use Rattle.tss_control.proofs.rounds.Facts.{Basis}
 
 -- each number up to those spawned is that of a task
@@ -150,7 +150,7 @@ module _ (m : Machine) (i : ImageState) (S : State) (basis : Basis m S) (main : 
   abbrev pub NoneBefore : Range → OpName → ℕ → Type 0
   NoneBefore x o n = (q : OpName) → o.task < q.task → q.task < n → IsWriterOn ts x q → ⊥
 
-  module _ (o : OpName) (p : Operand) (s : Started) (among : operand_among ts o ≡ Some p)
+  module _ (o : OpName) (p : Operand) (s : Started) (among : operand_among ts o ≡ Some p) (live : IsLive S o p.object)
       (starts : Starts m i o.task s) (l : ℕ) (later : starts.0 < l) (here : l ≤ steps_taken S.main)
       (n : ℕ) (few : n ≤ suc S.main.spawned)
       (before : (j : ℕ) (t : Started) → j < l → started_at i m.limits j ≡ Some t → t.task.number < n)
@@ -180,7 +180,7 @@ module _ (m : Machine) (i : ImageState) (S : State) (basis : Basis m S) (main : 
     unbroken : IsUnbroken i m.limits p.object (suc starts.0) count
     unbroken = record {
       named = λ k low.
-          naming.named o p starts.0 (suc starts.0 + k) s among starts.1 starts.2 (omega arith)
+          naming.named o p starts.0 (suc starts.0 + k) s among live starts.1 starts.2 (omega arith)
           (omega (arith, low, reaches, here));
       unwritten = λ k t low start.
           unwritten (suc starts.0 + k) t (omega arith) (omega (arith, low, reaches)) start;
@@ -218,16 +218,18 @@ module _ (m : Machine) (i : ImageState) (S : State) (basis : Basis m S) (main : 
         absurd (omega (arith, less, rises, first.2, second.2))
   ]
 
-  -- of two operands on one object with no writer between the later finds what the earlier leaves
+  -- of two operands on one object with no writer between the later finds what the earlier leaves, which still acts on it
   pub found_between : (o q : OpName) (p r : Operand) (s t : Started) → operand_among ts o ≡ Some p
-      → operand_among ts q ≡ Some r → p.object ≡ r.object → o.task < q.task → NoWriterBetween ts p.object o q
+      → IsLive S o p.object → operand_among ts q ≡ Some r → p.object ≡ r.object → o.task < q.task
+      → NoWriterBetween ts p.object o q
       → Starts m i o.task s → Starts m i q.task t → bytes_before t r ≡ bytes_after m i s p
-  found_between o q p r s t from to same less none first second =
+  found_between o q p r s t from live to same less none first second =
       let few = of_spawned S ts ground.round q r to in
       let low = started_before q r second.0 t to second.1 second.2 in
       ap (bytes_of t.memory) (sym same)
       ∙ ap (λ m. bytes_of m p.object) (started_at-by i m.limits second.0 t second.1).memory
-      ∙ left_there o p s from first second.0 (in_order o.task q.task s t first second less) (omega (arith, low)) q.task
+      ∙ left_there o p s from live first second.0 (in_order o.task q.task s t first second less) (omega (arith, low))
+      q.task
       (omega (arith, few))
       (λ j u before start.
       let rises = numbers_rise i m.limits j second.0 u t start second.1 before in
@@ -235,12 +237,12 @@ module _ (m : Machine) (i : ImageState) (S : State) (basis : Basis m S) (main : 
       none
 
   -- and what the last one leaves stands there where main stands
-  pub found_last : (o : OpName) (p : Operand) (s : Started) → operand_among ts o ≡ Some p
+  pub found_last : (o : OpName) (p : Operand) (s : Started) → operand_among ts o ≡ Some p → IsLive S o p.object
       → S.main ≡ (flat_beside i m.limits S.main).main → NoneBefore p.object o (suc S.main.spawned)
       → Starts m i o.task s → bytes_of (flat_beside i m.limits S.main).memory p.object ≡ bytes_after m i s p
-  found_last o p s among same none starts =
+  found_last o p s among live same none starts =
       let low = started_before o p starts.0 s among starts.1 starts.2 in
-      left_there o p s among starts (steps_taken S.main) low (omega arith) (suc S.main.spawned) (omega arith)
+      left_there o p s among live starts (steps_taken S.main) low (omega arith) (suc S.main.spawned) (omega arith)
       (λ j u before start.
       let first = started-number i m.limits j u start in
       let after = step_one i m.limits j u.task (task_started-by i m.limits j u start) in

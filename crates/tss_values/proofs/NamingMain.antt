@@ -19,7 +19,7 @@ use Rattle.tss_protocol.specs.State.{State}
 use Rattle.tss_protocol.specs.MainEvent.{call_next}
 use Rattle.tss_protocol.specs.Needs.{round_after_main, round_after_event}
 use Rattle.tss_protocol.specs.UnitMachine.{IsEnabled, after_event}
-use Rattle.tss_locality.specs.Rounds.{IsTaskOf}
+use Rattle.tss_locality.specs.Rounds.{IsTaskOf, IsRounded, IsIn}
 use Rattle.tss_locality.proofs.Subjects.{arrival_task}
 use Rattle.tss_locality.proofs.RoundObjects.{arrival_operand, in_longer, last_of_longer}
 use Rattle.tss_locality.proofs.RunRounds.{IsRounded-after_event}
@@ -34,16 +34,25 @@ use Rattle.tss_program_order.proofs.FlatOrder.{steps_taken-on, flat_stepped-ende
 use Rattle.tss_program_order.proofs.FlatPieces.{NoneAfter}
 use Rattle.tss_program_order.proofs.FlatStarts.{task_started-by, started-number}
 use Rattle.tss_program_order.proofs.FlatUnnamed.{unnamed_back}
-use Rattle.tss_control.proofs.rounds.Rounds.{found_among}
 use Rattle.tss_control.proofs.rounds.Spawned.{IsLonger-spawn, from_operand_among}
 use Rattle.tss_program_order.proofs.MainEvent.{main_on-enabled, HasEpochBeside, epoch_beside, follows_main}
 use Rattle.tss_values.proofs.NamingLemmas.{done_taken}
 use Rattle.tss_names.proofs.NumberLemmas.{from_task_at, number_within}
 use Rattle.tss_program_order.proofs.RunKeeps.{HasGround, is_main, after_event-kept}
 use Rattle.tss_names.proofs.SpawnLemmas.{IsNext-spawn_of, spawns_main}
-use Rattle.tss_values.proofs.Values.{HasHome, HasMain, HasNaming}
+use Rattle.tss_values.proofs.Values.{HasHome, HasMain, HasNaming, IsLive}
 use Rattle.tss_values.proofs.ValuesMain.{in_has, follows_home}
-use Rattle.tss_control.proofs.rounds.Facts.{Basis}
+use Rattle.tss_control.proofs.rounds.Facts.{Basis, Facts}
+use Rattle.tss_values.proofs.MembersBefore.{live_before}
+use Rattle.tss_values.proofs.UndecodedOperands.{undecoded_at}
+use Rattle.tss_values.proofs.RoundSteps.{RoundGoesOn, round_goes_on}
+use Rattle.tss_control.proofs.GroundworkMain.{KeepsControl, kept_main}
+use Rattle.tss_control.proofs.entries.OfVersions.{entry_of_member}
+use Rattle.tss_phases.specs.Phase.{is_decoded}
+use Rattle.tss_phases.proofs.MainEvent.{phase_of-main}
+use Rattle.tss_protocol.specs.Mail.{Mail}
+use Rattle.tss_base.specs.declared.range.Range.{Range}
+use Rattle.std.specs.FinMap.{get}
 
 -- ---- the round
 
@@ -133,9 +142,9 @@ module _ (m : Machine) (i : ImageState) (S : State) (basis : Basis m S)
 
     -- all that is named then stays named
     stays_cut : (o : OpName) (p : Operand) (k j : ℕ) (s : Started) → operand_among ts o ≡ Some p
-        → started_at i m.limits k ≡ Some s → s.task.number ≡ o.task → k < j
+        → IsLive S o p.object → started_at i m.limits k ≡ Some s → s.task.number ≡ o.task → k < j
         → Has (flat_stepped i m.limits j).main.epoch p.object
-    stays_cut o p k j s among at number less = elim (cases_lt (suc place) j) [
+    stays_cut o p k j s among live at number less = elim (cases_lt (suc place) j) [
       | inl after ↦
           let low = none_after k s at in
           let count : j ≡ suc place + (j - suc place) = omega (arith, after) in
@@ -144,16 +153,16 @@ module _ (m : Machine) (i : ImageState) (S : State) (basis : Basis m S)
           ap (flat_stepped i m.limits) count
           ∙ flat_stepped-ended i m.limits (suc place) (j - suc place) (ap is_some ending) in
           subst (λ (f : Flat). Has f.main.epoch p.object) (sym same)
-          (naming.named o p k (suc place) s among at number (omega (arith, low)) (omega (arith, before)))
-      | inr early ↦ naming.named o p k j s among at number less (omega (arith, early, before))
+          (naming.named o p k (suc place) s among live at number (omega (arith, low)) (omega (arith, before)))
+      | inr early ↦ naming.named o p k j s among live at number less (omega (arith, early, before))
     ]
 
 -- ---- main's event
 
-module _ (m : Machine) (i : ImageState) (S : State) (basis : Basis m S) (code : HasGround i S)
-    (few : NoneAfter S.main.spawned S.main.pieces) (home : HasHome m i basis.ts S)
-    (main : HasMain m i basis.all S) (naming : HasNaming m i basis.all basis.ts S) where
-  open basis use {all, ts, ground}
+module _ (m : Machine) (i : ImageState) (S : State) (facts : Facts m S) (code : HasGround i S)
+    (few : NoneAfter S.main.spawned S.main.pieces) (home : HasHome m i facts.ts S)
+    (main : HasMain m i facts.all S) (naming : HasNaming m i facts.all facts.ts S) where
+  open facts use {basis, all, ts, ground, control}
 
   module _ (on : IsEnabled m S event.Main) where
     abbrev T : State
@@ -171,21 +180,68 @@ module _ (m : Machine) (i : ImageState) (S : State) (basis : Basis m S) (code : 
     AreNamed =
         (o : OpName) (p : Operand) (k j : ℕ) (s : Started)
         → operand_among us o ≡ Some p
+        → IsLive T o p.object
         → started_at i m.limits k ≡ Some s
         → s.task.number ≡ o.task
         → k < j
         → j ≤ steps_taken T.main
         → Has (flat_stepped i m.limits j).main.epoch p.object
 
+    kept : KeepsControl S T
+    unfolding after_event
+    kept = kept_main m S (call_next m S)
+
+    -- an operand acts on its object after the event as it did before
+    live_main : (o : OpName) (x : Range) → IsLive T o x → IsLive S o x
+    live_main o x (inl early) = inl (sym (ap is_decoded (phase_of-main m S o on)) ∙ early)
+    live_main o x (inr (inl (inl y))) = inr (inl (inl (y.0, ap (λ vs. get vs o) (sym kept.versions) ∙ y.1, y.2)))
+    live_main o x (inr (inl (inr c))) =
+        inr (inl (inr (c.0, ap (λ (m : Mail). get m.opens o) (sym kept.mail) ∙ c.1, c.2)))
+    live_main o x (inr (inr e)) = inr (inr (e.0, ap (λ es. get es x.base) (sym kept.entries) ∙ e.1, e.2, e.3))
+
+    -- its object is named after the event
+    round : IsRounded T us
+    round = IsRounded-after_event m S ts ground.round event.Main on
+
+    named_old : (o : OpName) (p : Operand) → operand_among ts o ≡ Some p
+        → ((t : Task) → S.inbox ≡ Some t → T.inbox ≡ Some t) → IsLive S o p.object → IsIn p.object T.main.epoch
+    named_old o p among inbox (inl early) = elim (undecoded_at m S basis control.orderly o p among early) [
+      | inl a ↦ round.named.arriving a.0 (inbox a.0 a.1) o.place p a.2
+      | inr decode ↦ round.named.decoding o p (ap (λ (m : Mail). get m.decodes o) kept.mail ∙ decode)
+    ]
+    named_old o p among inbox (inr (inl member)) =
+        let f = entry_of_member m S facts o p among o member in
+        subst (λ x. IsIn x T.main.epoch) f.object
+        (round.named.entered p.object.base f.entry (ap (λ es. get es p.object.base) kept.entries ∙ f.there))
+    named_old o p among inbox (inr (inr e)) =
+        subst (λ x. IsIn x T.main.epoch) e.3
+        (round.named.entered p.object.base e.0 (ap (λ es. get es p.object.base) kept.entries ∙ e.1))
+
+    named_after : (o : OpName) (p : Operand) → operand_among us o ≡ Some p → IsLive T o p.object
+        → IsIn p.object T.main.epoch
+    named_after o p among live = by (round_goes_on m ts S on)
+      where
+        by : RoundGoesOn ts us S T → IsIn p.object T.main.epoch
+        by (inl r) =
+            named_old o p (ap (λ us. operand_among us o) (sym r.list) ∙ among) (λ t at. r.inbox ∙ at)
+            (live_main o p.object live)
+        by (inr (inl r)) =
+            elim (from_operand_among ts r.task o p (ap (λ us. operand_among us o) (sym r.list) ∙ among)) [
+              | inl old ↦
+                  named_old o p old (λ t at. absurd (none-some t (sym r.empty ∙ at))) (live_main o p.object live)
+              | inr new ↦ round.named.arriving r.task r.inbox o.place p (arrival_operand r.task o p new)
+            ]
+        by (inr (inr r)) = absurd (none-some p (ap (λ us. operand_among us o) (sym r.list) ∙ among))
+
     named_cut : IsCutOff i m.limits S.main → AreNamed
-    named_cut cut o p k j s among start number less low =
+    named_cut cut o p k j s among live start number less low =
         let done = done_taken S.main in
         let before : cut.place < steps_taken S.main = omega (arith, cut.before, done) in
         let early =
         number_before m i S basis naming cut.place cut.started cut.trap before cut.start cut.trapped k s
         start in
         stays_cut m i S basis naming cut.place cut.started cut.trap before cut.start cut.trapped o p k j s
-        (after.1 o p among (omega (arith, early, cut.number, number))) start number less
+        (after.1 o p among (omega (arith, early, cut.number, number))) (live_main o p.object live) start number less
 
     module _ (same : S.main ≡ (flat_beside i m.limits S.main).main) where
       follows : FollowsInOrder m i S
@@ -209,15 +265,12 @@ module _ (m : Machine) (i : ImageState) (S : State) (basis : Basis m S) (code : 
       beside : HasEpochBeside m i S code still_on follows few T.main
       beside = epoch_beside m i S code still_on follows few
 
-      -- the objects of the round are named where main stands after the event
-      named_end : (o : OpName) (p : Operand) → operand_among us o ≡ Some p
+      -- the objects that are acted on are named where main stands after the event
+      named_end : (o : OpName) (p : Operand) → operand_among us o ≡ Some p → IsLive T o p.object
           → Has (flat_stepped i m.limits J).main.epoch p.object
-      named_end o p among =
-          let f = found_among us o p among in
-          let rounded = IsRounded-after_event m S ts ground.round event.Main on in
+      named_end o p among live =
           subst (λ named. Has named p.object) (sym beside.0)
-          (in_has p.object T.main.epoch
-          (rounded.named f.place f.task f.there o.place p (arrival_operand f.task o p f.arrives)))
+          (in_has p.object T.main.epoch (named_after o p among live))
 
       from_rising : (j l : ℕ) → j ≤ l → spawned_by j ≤ spawned_by l
       from_rising j l low =
@@ -253,17 +306,18 @@ module _ (m : Machine) (i : ImageState) (S : State) (basis : Basis m S) (code : 
           ]
 
       named_follow : AreNamed
-      named_follow o p k j s among start number less low = elim (cases_lt K j) [
+      named_follow o p k j s among live start number less low = elim (cases_lt K j) [
         | inl later ↦
             let count : J ≡ j + (J - j) = omega (arith, low) in
             unnamed_back i m.limits p.object j (J - j) (ap spawned_by (sym count) ∙ settled j later low)
-            (subst (λ l. Has (flat_stepped i m.limits l).main.epoch p.object) count (named_end o p among))
+            (subst (λ l. Has (flat_stepped i m.limits l).main.epoch p.object) count (named_end o p among live))
         | inr early ↦
             let first = started-number i m.limits k s start in
             let one = step_one i m.limits k s.task (task_started-by i m.limits k s start) in
             let rises = from_rising (suc k) K (omega (arith, less, early)) in
             naming.named o p k j s
-            (after.1 o p among (omega (arith, first, one, rises, spawned_here, number))) start number less early
+            (after.1 o p among (omega (arith, first, one, rises, spawned_here, number))) (live_main o p.object live)
+            start number less early
       ]
 
     HasNaming-main : HasNaming m i (spawned_after_event m S all event.Main) us T
@@ -275,10 +329,10 @@ module _ (m : Machine) (i : ImageState) (S : State) (basis : Basis m S) (code : 
         by (inr cut) = named_cut cut
 
   -- an event that leaves main
-  HasNaming-other : (e : Event) → is_main e ≡ false → HasNaming m i all ts (after_event m S e)
-  HasNaming-other e other = record {
-    named = λ o p k j s among start number less low.
-        naming.named o p k j s among start number less
+  HasNaming-other : (e : Event) → is_main e ≡ false → IsEnabled m S e → HasNaming m i all ts (after_event m S e)
+  HasNaming-other e other on = record {
+    named = λ o p k j s among live start number less low.
+        naming.named o p k j s among (live_before m S facts e other on o p.object live) start number less
         (subst (λ s. j ≤ steps_taken s) (after_event-kept m S e other).main low);
     among = naming.among;
   }
@@ -287,20 +341,20 @@ module _ (m : Machine) (i : ImageState) (S : State) (basis : Basis m S) (code : 
   pub HasNaming-after_event : (e : Event) → IsEnabled m S e
       → HasNaming m i (spawned_after_event m S all e) (round_after_event m S ts e) (after_event m S e)
   HasNaming-after_event event.Main on = HasNaming-main on
-  HasNaming-after_event event.Take on = HasNaming-other event.Take refl
-  HasNaming-after_event (event.Decode o) on = HasNaming-other (event.Decode o) refl
-  HasNaming-after_event (event.Ack o) on = HasNaming-other (event.Ack o) refl
-  HasNaming-after_event (event.Open o) on = HasNaming-other (event.Open o) refl
-  HasNaming-after_event (event.Use o) on = HasNaming-other (event.Use o) refl
-  HasNaming-after_event (event.Ready o) on = HasNaming-other (event.Ready o) refl
-  HasNaming-after_event (event.Link o) on = HasNaming-other (event.Link o) refl
-  HasNaming-after_event (event.Start w) on = HasNaming-other (event.Start w) refl
-  HasNaming-after_event (event.Exec w) on = HasNaming-other (event.Exec w) refl
-  HasNaming-after_event (event.Finish w) on = HasNaming-other (event.Finish w) refl
-  HasNaming-after_event (event.Release o) on = HasNaming-other (event.Release o) refl
-  HasNaming-after_event (event.Bye o) on = HasNaming-other (event.Bye o) refl
-  HasNaming-after_event (event.Idle v) on = HasNaming-other (event.Idle v) refl
-  HasNaming-after_event (event.Nack v) on = HasNaming-other (event.Nack v) refl
-  HasNaming-after_event (event.Retire v) on = HasNaming-other (event.Retire v) refl
-  HasNaming-after_event (event.Copy b) on = HasNaming-other (event.Copy b) refl
-  HasNaming-after_event (event.Gone v) on = HasNaming-other (event.Gone v) refl
+  HasNaming-after_event event.Take on = HasNaming-other event.Take refl on
+  HasNaming-after_event (event.Decode o) on = HasNaming-other (event.Decode o) refl on
+  HasNaming-after_event (event.Ack o) on = HasNaming-other (event.Ack o) refl on
+  HasNaming-after_event (event.Open o) on = HasNaming-other (event.Open o) refl on
+  HasNaming-after_event (event.Use o) on = HasNaming-other (event.Use o) refl on
+  HasNaming-after_event (event.Ready o) on = HasNaming-other (event.Ready o) refl on
+  HasNaming-after_event (event.Link o) on = HasNaming-other (event.Link o) refl on
+  HasNaming-after_event (event.Start w) on = HasNaming-other (event.Start w) refl on
+  HasNaming-after_event (event.Exec w) on = HasNaming-other (event.Exec w) refl on
+  HasNaming-after_event (event.Finish w) on = HasNaming-other (event.Finish w) refl on
+  HasNaming-after_event (event.Release o) on = HasNaming-other (event.Release o) refl on
+  HasNaming-after_event (event.Bye o) on = HasNaming-other (event.Bye o) refl on
+  HasNaming-after_event (event.Idle v) on = HasNaming-other (event.Idle v) refl on
+  HasNaming-after_event (event.Nack v) on = HasNaming-other (event.Nack v) refl on
+  HasNaming-after_event (event.Retire v) on = HasNaming-other (event.Retire v) refl on
+  HasNaming-after_event (event.Copy b) on = HasNaming-other (event.Copy b) refl on
+  HasNaming-after_event (event.Gone v) on = HasNaming-other (event.Gone v) refl on

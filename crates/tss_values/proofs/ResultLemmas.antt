@@ -221,19 +221,14 @@ module _ (m : Machine) (i : ImageState) (S : State) (facts : Facts m S) (home : 
       | inr c ↦ let k = cut_held c in absurd (none-some k.0 (sym none ∙ k.1))
     ]
 
-    decoded : (o : OpName) (p : Operand) → operand_among ts o ≡ Some p → is_decoded (phase_of S o) ≡ true
-    decoded o p at =
-        let few = of_spawned S ts ground.round o p at in
-        let behind = ap (λ x. nat_lt S.main.spawned o.task || inbox_has x o.task) inbox
-        ∙ not_beyond S.main.spawned o.task few in
-        ap is_decoded
-        (left_by_absence (look_ups S o) (h.orderly o) (ap (record_in o.place) (bare.flight o.task)) behind)
-      where
-        not_beyond : (n k : ℕ) → k ≤ n → (nat_lt n k || false) ≡ false
-        not_beyond n k few = grind (arith, nat_tests, few)
-
     same_byte : (a : ℕ) → get S.home.bytes a ≡ get (flat_beside i m.limits S.main).memory.bytes a
-    same_byte a = home.beside a followed (λ o p at inside. (bare.entries p.object.base, decoded o p at))
+    same_byte a =
+        home.beside a followed
+        (record {
+          entered = λ b e at. absurd (none-some e (sym (bare.entries b) ∙ at));
+          arriving = λ t at. absurd (none-some t (sym inbox ∙ at));
+          decoding = λ o p at. absurd (none-some p (sym (bare.decodes o) ∙ at));
+        })
 
     same_home : S.home ≡ (flat_beside i m.limits S.main).memory
     same_home =

@@ -25,7 +25,7 @@ use Rattle.tss_program_order.proofs.FlatOrder.{trapped_next, started_at-by, flat
 use Rattle.tss_names.proofs.SpawnLemmas.{IsNext-spawn_of}
 use Rattle.tss_values.proofs.MainEndings.{EndsItself, no_task_trap}
 use Rattle.tss_values.proofs.NamingLemmas.{done_taken}
-use Rattle.tss_values.proofs.home.Beside.{IsInside}
+use Rattle.tss_values.proofs.Values.{IsInside}
 
 -- ---- what becomes of the round
 

@@ -1,4 +1,4 @@
--- An address that nobody claims lies in no object that has an entry, or has an operand that isn't decoded.
+-- An address that the test finds claimed by nobody lies in no object that is claimed.
 use Rattle.std.proofs.Common.{Ordering, ◌≡◌, inl, inr, ℕ, zero, suc, Bool, true, false, List, [], ◌∷◌, Option, Some, None, refl, sym, ap, ◌∙◌, arith, true≢false}
 use Rattle.std.specs.Prelude.{slice_get, option_map, ◌||◌}
 use Rattle.std.specs.List.{list_any}
@@ -23,8 +23,9 @@ use Rattle.tss_control.specs.Readers.{Arrivals}
 use Rattle.tss_program_order.specs.Refinement.{inbox_claims, is_claimed}
 use Rattle.tss_control.specs.Control.{HasGroundwork, IsControlled}
 use Rattle.tss_values.proofs.UndecodedOperands.{undecoded}
-use Rattle.tss_values.proofs.home.Beside.{IsInside, inside_covers, one_inside, operand_named}
 use Rattle.tss_control.proofs.rounds.Facts.{Facts}
+use Rattle.tss_values.proofs.Values.{IsInside, IsUnclaimed}
+use Rattle.tss_values.proofs.LiveObjects.{inside_covers}
 
 -- an element that passes a test is found
 any_from : {X : Type 0} (test : X → Bool) (xs : List X) (k : ℕ) (x : X) → slice_get xs k ≡ Some x → test x ≡ true
@@ -42,13 +43,7 @@ any_value {K} {X} order test m k x at passes =
     any_from test (values m) p.0 x
     (slice_get-map (λ (e : K × X). e.1) (entries m) p.0 ∙ ap (option_map (λ (e : K × X). e.1)) p.1) passes
 
-module _ (m : Machine) (S : State) (facts : Facts m S) (a : ℕ) (free : is_claimed S a ≡ false) (o : OpName)
-    (p : Operand) (among : operand_among facts.ts o ≡ Some p) (inside : IsInside p.object a) where
-  open facts use {basis, all, ts, ground, control}
-
-  covered : covers p.object a ≡ true
-  covered = inside_covers p.object a inside
-
+module _ (S : State) (a : ℕ) (free : is_claimed S a ≡ false) where
   parts : (list_any (λ (e : Entry). covers e.object a) (values S.entries) || inbox_claims S.inbox a ≡ false)
       × (list_any (λ (o : Operand). covers o.object a) (values S.mail.decodes) ≡ false)
   parts = or_parts _ _ free
@@ -56,49 +51,18 @@ module _ (m : Machine) (S : State) (facts : Facts m S) (a : ℕ) (free : is_clai
   early : (list_any (λ (e : Entry). covers e.object a) (values S.entries) ≡ false) × (inbox_claims S.inbox a ≡ false)
   early = or_parts _ _ parts.0
 
-  -- the object of an entry at its base is its own
-  entry_object : (e : Entry) → get S.entries p.object.base ≡ Some e → e.object ≡ p.object
-  entry_object e at =
-      let q = control.entries.operand p.object.base e at in
-      let r = q.1 in
-      let some_e = ground.round.separate.some (r.0).object (operand_named S ts ground.round e.latest r.0 r.1) in
-      let some_p = ground.round.separate.some p.object (operand_named S ts ground.round o p among) in
-      let base = ap (λ (x : Range). x.base) r.2 ∙ q.0 in
-      sym r.2 ∙ one_inside S ts ground.round e.latest o r.0 p r.1 among p.object.base
-      (omega (arith, base), omega (arith, base, some_e)) (omega arith, omega (arith, some_p))
-
-  -- it has no entry
-  pub no_entry : get S.entries p.object.base ≡ None
-  no_entry = by (get S.entries p.object.base) refl
-    where
-      by : (e : Option Entry) → get S.entries p.object.base ≡ e → get S.entries p.object.base ≡ None
-      by None at = at
-      by (Some e) at =
-          absurd (both_ways (list_any (λ (e : Entry). covers e.object a) (values S.entries)) early.0
-          (any_value nat_order (λ (e : Entry). covers e.object a) S.entries p.object.base e at
-          (ap (λ (x : Range). covers x a) (entry_object e at) ∙ covered)))
-
-  not_arriving : (inbox : Option Task) → S.inbox ≡ inbox → is_in_inbox inbox o.task ≡ true → ⊥
-  not_arriving None e has = true≢false (sym has)
-  not_arriving (Some t) e has =
-      let newest = ground.numbers.inbox t e in
-      let number : t.number ≡ o.task = eqb-true t.number o.task has in
-      let of = ground.known.operands o p among in
-      let task = same_Some of.task t (sym of.spawned ∙ ap (task_at all) (sym number) ∙ newest.task) in
-      both_ways (inbox_claims S.inbox a) early.1
-      (ap (λ i. inbox_claims i a) e
-      ∙ any_from (λ (q : Operand). covers q.object a) (operands_of t) o.place p
-      (ap (λ (t : Task). slice_get (operands_of t) o.place) (sym task) ∙ of.place) covered)
-
-  -- and is decoded
-  pub decoded : is_decoded (phase_of S o) ≡ true
-  decoded = by (is_decoded (phase_of S o)) refl
-    where
-      by : (b : Bool) → is_decoded (phase_of S o) ≡ b → is_decoded (phase_of S o) ≡ true
-      by true e = e
-      by false e = elim (undecoded m S basis control.orderly o p among e) [
-        | inl arriving ↦ absurd (not_arriving S.inbox refl arriving)
-        | inr decoding ↦
-            absurd (both_ways (list_any (λ (o : Operand). covers o.object a) (values S.mail.decodes)) parts.1
-            (any_value name_order (λ (o : Operand). covers o.object a) S.mail.decodes o p decoding covered))
-      ]
+  -- it lies in no object that is claimed
+  pub unclaimed : IsUnclaimed S a
+  unclaimed = record {
+    entered = λ b e at inside.
+        both_ways (list_any (λ (e : Entry). covers e.object a) (values S.entries)) early.0
+        (any_value nat_order (λ (e : Entry). covers e.object a) S.entries b e at (inside_covers e.object a inside));
+    arriving = λ t there j p at inside.
+        both_ways (inbox_claims S.inbox a) early.1
+        (ap (λ i. inbox_claims i a) there
+        ∙ any_from (λ (q : Operand). covers q.object a) (operands_of t) j p at (inside_covers p.object a inside));
+    decoding = λ o p at inside.
+        both_ways (list_any (λ (o : Operand). covers o.object a) (values S.mail.decodes)) parts.1
+        (any_value name_order (λ (o : Operand). covers o.object a) S.mail.decodes o p at
+        (inside_covers p.object a inside));
+  }

@@ -1,9 +1,9 @@
 -- Single bytes of an object, and operands that aren't decoded: they are in the inbox, or their decode is under way, and
 -- come behind those on their object that are decoded.
 use Rattle.std.proofs.Common.{◌≡◌, ℕ, ◌+◌, ◌-◌, ◌<◌, ◌≤◌, ◌⊎◌, inl, inr, Bool, true, false, List, Option, Some, None, refl, sym, ap, ◌∙◌, arith, true≢false}
-use Rattle.std.specs.Prelude.{is_some, unwrap_or, nat_lt, ◌||◌, get_or}
+use Rattle.std.specs.Prelude.{is_some, unwrap_or, nat_lt, ◌||◌, get_or, slice_get}
 use Rattle.std.specs.FinMap.{get}
-use Rattle.std.proofs.lemmas.Bool.{cases_lt, cases_order}
+use Rattle.std.proofs.lemmas.Bool.{cases_lt, cases_order, eqb-true}
 use Rattle.std.proofs.lemmas.Bool.Decides.{nat_tests}
 use Rattle.std.proofs.lemmas.List.FromFn.{get_or-map-range_with_len}
 use Rattle.tss_base.specs.declared.range.Range.{Range}
@@ -18,13 +18,15 @@ use Rattle.tss_protocol.specs.State.{State}
 use Rattle.tss_phases.specs.Phase.{inbox_has, is_ahead, look_ups, phase_of, is_decoded}
 use Rattle.tss_phases.specs.Orderly.{AreOrderly}
 use Rattle.tss_control.specs.Members.{operand_among}
-use Rattle.tss_names.specs.Tasks.{IsUndecoded}
+use Rattle.tss_names.specs.Tasks.{IsUndecoded, task_at}
 use Rattle.tss_control.specs.Control.{HasGroundwork}
 use Rattle.tss_control.proofs.rounds.Spawned.{of_spawned}
 use Rattle.tss_control.proofs.rounds.EntriesQuiet.{decoded_from}
 use Rattle.tss_control.proofs.rounds.EntriesNames.{one_operand, decoded_apart}
-use Rattle.tss_values.proofs.home.Beside.{IsInside}
 use Rattle.tss_control.proofs.rounds.Facts.{Basis}
+use Rattle.tss_values.proofs.Values.{IsInside}
+use Rattle.std.proofs.lemmas.Option.{same_Some}
+use Rattle.tss_model.specs.Access.{operands_of}
 
 -- ---- bytes
 
@@ -84,6 +86,25 @@ module _ (m : Machine) (S : State) (basis : Basis m S) (orderly : AreOrderly S) 
           by_ahead true e =
               inl (in_inbox_by S.main.spawned o.task S.inbox (of_spawned S ts ground.round o p among) e)
           by_ahead false e = absurd (true≢false (sym (decoded_from (look_ups S o) (orderly o) none e) ∙ early))
+
+  -- it stands in the inbox's task, or its decode is under way
+  pub undecoded_at : (o : OpName) (p : Operand) → operand_among ts o ≡ Some p → is_decoded (phase_of S o) ≡ false
+      → ((t : Task) × (S.inbox ≡ Some t) × (slice_get (operands_of t) o.place ≡ Some p))
+      ⊎ (get S.mail.decodes o ≡ Some p)
+  undecoded_at o p among early = elim (undecoded o p among early) [
+    | inl arriving ↦ inl (by S.inbox refl arriving)
+    | inr decoding ↦ inr decoding
+  ]
+    where
+      by : (inbox : Option Task) → S.inbox ≡ inbox → is_in_inbox inbox o.task ≡ true
+          → (t : Task) × (inbox ≡ Some t) × (slice_get (operands_of t) o.place ≡ Some p)
+      by None e has = absurd (true≢false (sym has))
+      by (Some t) e has =
+          let number : t.number ≡ o.task = eqb-true t.number o.task has in
+          let of = ground.known.operands o p among in
+          let same =
+          same_Some of.task t (sym of.spawned ∙ ap (task_at all) (sym number) ∙ (ground.numbers.inbox t e).task) in
+          (t, refl, ap (λ (t : Task). slice_get (operands_of t) o.place) (sym same) ∙ of.place)
 
   -- it comes behind each operand on its object that is decoded
   pub decoded_older : (v o : OpName) (q p : Operand) → operand_among ts v ≡ Some q → operand_among ts o ≡ Some p

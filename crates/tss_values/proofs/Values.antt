@@ -1,7 +1,7 @@
 -- The bytes of program order: what stands in each storage, at home, and on each worker, as far as program order starts
 -- the tasks.
 use Rattle.std.proofs.Common.{◌≡◌, ◌⊎◌, ℕ, ◌+◌, ◌<◌, ◌≤◌, true, false, List, length, take, Some, None}
-use Rattle.std.specs.Prelude.{cond, slice_index}
+use Rattle.std.specs.Prelude.{cond, slice_index, slice_get}
 use Rattle.std.specs.FinMap.{get}
 use Rattle.tss_base.specs.declared.range.Range.{Range}
 use Rattle.tss_base.specs.declared.operand.OpName.{OpName}
@@ -13,17 +13,17 @@ use Rattle.tss_base.specs.declared.marks.Stage.TheVariants as stage
 use Rattle.tss_base.specs.declared.machine.Machine.{Machine}
 use Rattle.tss_base.specs.Image.{ImageState}
 use Rattle.tss_model.specs.Memory.{byte_at, bytes_of}
-use Rattle.tss_model.specs.Access.{reads, writes}
+use Rattle.tss_model.specs.Access.{reads, writes, operands_of}
 use Rattle.tss_model.specs.InOrder.{Started, flat_stepped, started_at, end_of_started}
 use Rattle.tss_protocol.specs.Mail.{StorageName, Buffer, OpenContents, GoneContents}
-use Rattle.tss_protocol.specs.State.{State, Flying, Busy, Version, CopyState, HeldTrap}
+use Rattle.tss_protocol.specs.State.{State, Flying, Busy, Version, CopyState, HeldTrap, Entry}
 use Rattle.tss_protocol.specs.Stations.{storages_of, has_finished}
 use Rattle.tss_protocol.specs.Buffers.{buffer_bytes}
 use Rattle.tss_protocol.specs.Workers.{stored_bytes}
 use Rattle.tss_protocol.specs.UnitMachine.{stores_of}
 use Rattle.tss_locality.specs.Rounds.{IsTaskOf}
 use Rattle.tss_phases.specs.Phase.{Told, Ready, Releasing, phase_of, is_decoded}
-use Rattle.tss_control.specs.Members.{operand_among}
+use Rattle.tss_control.specs.Members.{operand_among, IsMember}
 use Rattle.tss_names.specs.Stages.{IsOnWorker}
 use Rattle.tss_names.specs.Tasks.{task_at, IsTaken}
 use Rattle.tss_program_order.specs.MainInOrder.{steps_taken, flat_beside, IsCutOff}
@@ -110,15 +110,28 @@ pub record IsFirstAhead (ts : List Task) (S : State) (x : Range) (o : OpName) (p
   pub first : (q : OpName) (r : Operand) → operand_among ts q ≡ Some r → r.object ≡ x
       → is_decoded (phase_of S q) ≡ false → o.task ≤ q.task
 
--- home has the bytes of program order: of an object without an entry right before the first operand that isn't decoded,
--- or as main has it where all are; and before an open that follows nothing, where that reads
+-- an address lies in an object
+abbrev pub IsInside : Range → ℕ → Type 0
+IsInside x a = (x.base ≤ a) × (a < x.base + x.len)
+
+-- in that of no entry
+abbrev pub IsLoose : State → ℕ → Type 0
+IsLoose S a = (b : ℕ) (e : Entry) → get S.entries b ≡ Some e → IsInside e.object a → ⊥
+
+-- nobody claims an address: it lies in the object of no entry, of no operand in the inbox, and of none that is to be
+-- decoded
+pub record IsUnclaimed (S : State) (a : ℕ) : Type 0 where
+  pub entered : IsLoose S a
+  pub arriving : (t : Task) → S.inbox ≡ Some t → (j : ℕ) (p : Operand) → slice_get (operands_of t) j ≡ Some p
+      → IsInside p.object a → ⊥
+  pub decoding : (o : OpName) (p : Operand) → get S.mail.decodes o ≡ Some p → IsInside p.object a → ⊥
+
+-- home has the bytes of program order: of an object without an entry right before the first operand that isn't decoded;
+-- where nobody claims an address, as main has it; and before an open that follows nothing, where that reads
 pub record HasHome (m : Machine) (i : ImageState) (ts : List Task) (S : State) : Type 0 where
   pub ahead : (x : Range) (o : OpName) (p : Operand) (s : Started) → get S.entries x.base ≡ None
       → IsFirstAhead ts S x o p → Starts m i o.task s → bytes_of S.home x ≡ bytes_before s p
-  pub beside : (a : ℕ) → S.main ≡ (flat_beside i m.limits S.main).main
-      → ((o : OpName) (p : Operand) → operand_among ts o ≡ Some p
-      → (p.object.base ≤ a) × (a < p.object.base + p.object.len)
-      → (get S.entries p.object.base ≡ None) × (is_decoded (phase_of S o) ≡ true))
+  pub beside : (a : ℕ) → S.main ≡ (flat_beside i m.limits S.main).main → IsUnclaimed S a
       → get S.home.bytes a ≡ get (flat_beside i m.limits S.main).memory.bytes a
   pub opening : (o : OpName) (c : OpenContents) (s : Started) → get S.mail.opens o ≡ Some c → c.follows ≡ None
       → (c.operand.mode ≡ Output → ⊥) → Starts m i o.task s
@@ -166,12 +179,19 @@ pub record HasMain (m : Machine) (i : ImageState) (all : List Task) (S : State) 
 
 -- ---- named objects
 
--- the object of a round's operand is named in program order from its task's start up to where main stands, and the
--- round has each spawned task from its oldest on
+-- an operand still acts on its object: it isn't decoded, is a version of the object or is being opened as one, or is the
+-- latest of the object's entry
+abbrev pub IsLive : State → OpName → Range → Type 0
+IsLive S o x =
+    (is_decoded (phase_of S o) ≡ false)
+    ⊎ (IsMember S x o ⊎ ((e : Entry) × (get S.entries x.base ≡ Some e) × (e.latest ≡ o) × (e.object ≡ x)))
+
+-- the object of a round's operand that still acts on it is named in program order from its task's start up to where main
+-- stands, and the round has each spawned task from its oldest on
 pub record HasNaming (m : Machine) (i : ImageState) (all ts : List Task) (S : State) : Type 0 where
   pub named : (o : OpName) (p : Operand) (k j : ℕ) (s : Started) → operand_among ts o ≡ Some p
-      → started_at i m.limits k ≡ Some s → s.task.number ≡ o.task → k < j → j ≤ steps_taken S.main
-      → Has (flat_stepped i m.limits j).main.epoch p.object
+      → IsLive S o p.object → started_at i m.limits k ≡ Some s → s.task.number ≡ o.task → k < j
+      → j ≤ steps_taken S.main → Has (flat_stepped i m.limits j).main.epoch p.object
   pub among : (n : ℕ) (t : Task) (o : OpName) (p : Operand) → task_at all n ≡ Some t → operand_among ts o ≡ Some p
       → o.task ≤ n → IsTaskOf ts t
 

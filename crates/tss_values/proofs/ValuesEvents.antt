@@ -51,7 +51,7 @@ record HasCarried (m : Machine) (i : ImageState) (all ts : List Task) (S : State
 
 keeps_stored : (e : Event) → IsPartKept e (λ m i all ts S. HasStored m i ts S)
 keeps_stored event.Main m i S f on =
-    HasStored-main m i S f.basis f.control.chains f.values.stored on
+    HasStored-main m i S f.facts f.values.stored on
 keeps_stored event.Take m i S f on = HasStored-take m i S f.basis f.values.stored on
 keeps_stored (event.Decode o) m i S f on = HasStored-decode m i f.ts f.g S f.control f.values.stored o on
 keeps_stored (event.Ack o) m i S f on = HasStored-ack m i f.ts f.g S f.control f.values.stored o on
@@ -207,7 +207,7 @@ carried_after e m i S f on = record {
     room = HasRoom-after_event m S f.facts f.values.room f.buffers e on;
     main = keeps_main e m i S f on;
     naming =
-        HasNaming-after_event m i S f.basis f.image f.pieces f.values.home f.values.main f.values.naming e on;
+        HasNaming-after_event m i S f.facts f.image f.pieces f.values.home f.values.main f.values.naming e on;
   };
   fixed =
       λ a fixed. same_fixed m i f.accepted S f.work

@@ -32,7 +32,7 @@ module _ (m : Machine) (i : ImageState) where
   unfolding repeated
   HasHome-first = record {
     ahead = λ x o p s none first. absurd (none-some p first.operand);
-    beside = λ a same all. refl;
+    beside = λ a same free. refl;
     opening = λ o c s at. absurd (none-some c (sym (get-empty name_cmp o) ∙ at));
   }
 

@@ -19,7 +19,6 @@ use Rattle.tss_protocol.specs.State.{State}
 use Rattle.tss_protocol.specs.UnitMachine.{IsEnabled, after_event}
 use Rattle.tss_protocol.specs.MainEvent.{call_next}
 use Rattle.tss_locality.specs.Rounds.{IsIn}
-use Rattle.tss_locality.proofs.RoundObjects.{arrival_operand}
 use Rattle.tss_control.specs.Members.{operand_among}
 use Rattle.tss_names.specs.Tasks.{task_at, spawned_by_main, spawned_after_event}
 use Rattle.tss_program_order.specs.MainInOrder.{MayLoad, FollowsInOrder, IsCutOff, flat_beside, started_next, inbox_with}
@@ -30,11 +29,10 @@ use Rattle.tss_program_order.proofs.FlatNames.{Has, same_range-refl, covers-touc
 use Rattle.tss_program_order.proofs.FlatNumbers.{one_place, numbers_rise}
 use Rattle.tss_program_order.proofs.FlatOrder.{trapped_after}
 use Rattle.tss_program_order.proofs.FlatPieces.{NoneAfter}
-use Rattle.tss_control.proofs.rounds.Rounds.{found_among}
 use Rattle.tss_program_order.proofs.MainEvent.{main_on-enabled, follows_main, main_rises, cut_off_rises}
 use Rattle.tss_program_order.proofs.RunKeeps.{HasGround, is_main, after_event-kept}
 use Rattle.tss_names.proofs.SpawnLemmas.{SpawnsAtMostOne, SpawnsOne, spawns_main}
-use Rattle.tss_values.proofs.Values.{Starts, HasHome, HasMain}
+use Rattle.tss_values.proofs.Values.{Starts, HasHome, HasMain, IsInside, IsUnclaimed}
 use Rattle.tss_control.proofs.rounds.Facts.{Basis}
 
 -- a member of a list is had by it
@@ -51,24 +49,25 @@ module _ (m : Machine) (i : ImageState) (S : State) (basis : Basis m S) (code : 
 
   -- ---- main in program order
 
-  -- main may load at no address of an operand of the round
-  unloaded : (a : ℕ) → MayLoad S.home.ranges S.main.epoch a → (o : OpName) (p : Operand) → operand_among ts o ≡ Some p
-      → (p.object.base ≤ a) × (a < p.object.base + p.object.len) → ⊥
-  unloaded a may o p among inside =
-      let f = found_among ts o p among in
-      let named = ground.round.named f.place f.task f.there o.place p (arrival_operand f.task o p f.arrives) in
+  -- main may load at no address of a named object
+  unloaded : (a : ℕ) → MayLoad S.home.ranges S.main.epoch a → (x : Range) → IsIn x S.main.epoch → IsInside x a → ⊥
+  unloaded a may x named inside =
       both_ways (touches S.main.epoch (byte_range a))
       (main_granted S.home.ranges S.main.epoch Loads (byte_range a) may).1
-      (covers-touch S.main.epoch p.object a (in_has p.object S.main.epoch named)
-      (and_from (nat_le p.object.base a) _ (le-leb p.object.base a inside.0)
-      (lt-ltb a (p.object.base + p.object.len) inside.1)))
+      (covers-touch S.main.epoch x a (in_has x S.main.epoch named)
+      (and_from (nat_le x.base a) _ (le-leb x.base a inside.0) (lt-ltb a (x.base + x.len) inside.1)))
 
-  -- so it has the bytes of program order wherever it may load
-  pub follows_home : S.main ≡ (flat_beside i m.limits S.main).main → FollowsInOrder m i S
-  follows_home same = record {
-    main = same;
-    home = λ a may. home.beside a same (λ o p among inside. absurd (unloaded a may o p among inside));
+  -- so nobody claims where it may
+  unclaimed : (a : ℕ) → MayLoad S.home.ranges S.main.epoch a → IsUnclaimed S a
+  unclaimed a may = record {
+    entered = λ b e at. unloaded a may e.object (ground.round.named.entered b e at);
+    arriving = λ t at j p of. unloaded a may p.object (ground.round.named.arriving t at j p of);
+    decoding = λ o p at. unloaded a may p.object (ground.round.named.decoding o p at);
   }
+
+  -- and it has the bytes of program order there
+  pub follows_home : S.main ≡ (flat_beside i m.limits S.main).main → FollowsInOrder m i S
+  follows_home same = record { main = same; home = λ a may. home.beside a same (unclaimed a may) }
 
   -- what is said of main
   abbrev pub IsInOrder : MainState → Type 0

@@ -22,11 +22,11 @@ use Rattle.tss_program_order.proofs.FlatOrder.{main_after-is, flat_stepped-next}
 use Rattle.tss_program_order.proofs.FlatStill.{IsStill, same_ended, step_still}
 use Rattle.tss_control.proofs.GroundworkRuns.{HasGroundwork-Run}
 use Rattle.tss_control.proofs.GroundworkControl.{IsControlled-Run}
-use Rattle.tss_values.proofs.UnclaimedMemory.{no_entry, decoded}
 use Rattle.tss_values.proofs.Values.{HasHome}
 use Rattle.tss_values.proofs.ValuesJoin.{HaveValues}
 use Rattle.tss_control.proofs.rounds.Facts.{Facts}
 use Rattle.tss_control.proofs.GroundworkControl.{Facts-Run}
+use Rattle.tss_values.proofs.UnclaimedMemory.{unclaimed}
 
 -- the state after so many instructions has completed as many
 after_done : (i : ImageState) (limits : Limits) (k : ℕ) (f : Flat) → main_after i limits k ≡ Some f
@@ -73,10 +73,7 @@ module _ (m : Machine) (i : ImageState) (S : State) (facts : Facts m S) (home : 
         spawned = ap (λ (x : MainState). x.spawned) same ∙ still.0.spawned;
         pieces = ap (λ (x : MainState). x.pieces) same ∙ still.0.pieces;
         home = λ a free.
-            home.beside a same (λ o p among inside. (
-              no_entry m S facts a free o p among inside,
-              decoded m S facts a free o p among inside,
-            ))
+            home.beside a same (unclaimed S a free)
             ∙ ap (λ (x : Memory). get x.bytes a) still.1;
       }
 

@@ -23,6 +23,7 @@ use Rattle.tss_protocol.specs.Renaming.{follows_latest}
 use Rattle.tss_protocol.specs.UnitMachine.{IsEnabled, is_enabled, can_decode_message, after_event}
 use Rattle.tss_phases.proofs.Received.{other_name}
 use Rattle.tss_phases.proofs.Tests.{something}
+use Rattle.tss_control.proofs.rounds.EntryOf.{no_entry_at}
 use Rattle.tss_control.specs.Members.{operand_among, IsMember, registered_of, opening_reader, uses_of, total, NoWriterBetween}
 use Rattle.tss_control.specs.Chains.{IsFollowed, OpensAfter, IsOpenInOrder, IsUseInOrder, HasChains, FollowsAs}
 use Rattle.tss_control.specs.Entries.{IsLive}
@@ -162,7 +163,7 @@ module _ (m : Machine) (S : State) (facts : Facts m S) (o : OpName) (on : IsEnab
     decoded_first none =
         let c : OpenContents = record { operand = p; storage = Some Home; follows = None } in
         let d = sends_first m S o p there none in
-        let a = k.entries.absent o p among none in
+        let a = k.entries.absent o p among (no_entry_at S p.object none) in
         let fresh = no_version m S basis k.orderly o p there in
         let closed = no_open m S basis k.orderly o p there in
         opened c _ refl d

@@ -11,7 +11,7 @@ use Rattle.tss_protocol.specs.State.{State, CopyState}
 use Rattle.tss_protocol.specs.Buffers.{is_last_piece}
 use Rattle.tss_protocol.specs.UnitMachine.{after_event, with_sent, without, idle_message_taken, after_copy, gone_message_taken}
 use Rattle.tss_control.specs.Chains.{HasChains}
-use Rattle.tss_names.proofs.SentLemmas.{AllSent, IsLater, posted_all-later, after_idle-later, sent_by_copy-later}
+use Rattle.tss_protocol.proofs.SentLemmas.{AllSent, IsLater, posted_all-later, after_idle-later, sent_by_copy-later}
 use Rattle.tss_control.proofs.rounds.EntriesQuiet.{IsQuietEvent, quiet_objects}
 use Rattle.tss_control.proofs.chains.Alike.{KeepsChainMaps, alike_from_maps, HasChains-alike}
 

@@ -24,7 +24,7 @@ use Rattle.tss_control.specs.Chains.{HasChains}
 use Rattle.tss_protocol.specs.Settled.{IsSettled}
 use Rattle.tss_control.specs.Readers.{Arrivals}
 use Rattle.tss_control.specs.Control.{HasGroundwork, IsControlled}
-use Rattle.tss_names.proofs.SentLemmas.{posted_all-later, after_open-later}
+use Rattle.tss_protocol.proofs.SentLemmas.{posted_all-later, after_open-later}
 use Rattle.tss_protocol.proofs.SettleCases.{OthersSettled, at_changed, beside_changed}
 use Rattle.tss_control.proofs.chains.Settled.{HasChains-settled}
 use Rattle.tss_control.proofs.chains.Registered.{followed_version, linked_to, Registers}

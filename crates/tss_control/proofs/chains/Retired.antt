@@ -14,13 +14,13 @@ use Rattle.tss_protocol.specs.Mail.{OpenContents, taken}
 use Rattle.tss_protocol.specs.State.{State, Entry, Version}
 use Rattle.tss_protocol.specs.Buffers.{sent_by_retire}
 use Rattle.tss_protocol.specs.UnitMachine.{after_event, without, retire_version}
+use Rattle.tss_control.proofs.rounds.EntryOf.{decide_entry_of}
 use Rattle.tss_control.specs.Members.{IsVersionOf, IsOpenOf, IsMember, registered_of, opening_reader, uses_of, total}
 use Rattle.tss_control.specs.Chains.{IsAfter, IsFollowed, IsLinked, IsOver, HasStorage, IsOpenInOrder, IsUseInOrder, HasChains}
-use Rattle.tss_control.specs.Entries.{IsUsed, IsRetiring, IsLastVersion}
+use Rattle.tss_control.specs.Entries.{HasEntryOf, IsUsed, IsRetiring, IsLastVersion}
 use Rattle.tss_control.specs.Readers.{Arrivals}
 use Rattle.tss_control.specs.Control.{HasGroundwork, IsControlled}
-use Rattle.tss_names.proofs.SentLemmas.{posted_all-later, sent_by_retire-later}
-use Rattle.tss_control.proofs.rounds.EntriesNames.{one_object}
+use Rattle.tss_protocol.proofs.SentLemmas.{posted_all-later, sent_by_retire-later}
 use Rattle.tss_control.proofs.chains.Alike.{object_of_member}
 use Rattle.tss_control.proofs.chains.Frames.{HasChains-same}
 use Rattle.tss_control.proofs.rounds.Facts.{Facts}
@@ -69,18 +69,11 @@ module _ (m : Machine) (S : State) (facts : Facts m S) (v : OpName) (x : Version
   pub retiring_entry_of : HasRetiringEntry ts S v x
   retiring_entry_of =
       let p = k.chains.opener v x there in
-      elim (decide_get S.entries x.object.base) [
-        | inl none ↦
-            absurd ((k.entries.absent v p.0 p.1 (ap (λ (r : Range). get S.entries r.base) p.2 ∙ none)).stays v
+      elim (decide_entry_of S x.object) [
+        | inl f ↦ retiring_by f.entry f.there f.object f.entry.retiring refl
+        | inr none ↦
+            absurd ((k.entries.absent v p.0 p.1 (λ f. none (subst (HasEntryOf S) p.2 f))).stays v
             (inl (may, (x, there, sym p.2))))
-        | inr e ↦
-            let q = k.entries.operand x.object.base e.0 e.1 in
-            retiring_by e.0 e.1
-            (sym q.1.2
-            ∙ one_object m S basis k.orderly e.0.latest v q.1.0 p.0 q.1.1 p.1
-            (ap (λ (r : Range). r.base) q.1.2 ∙ q.0 ∙ ap (λ (r : Range). r.base) (sym p.2))
-            ∙ p.2)
-            e.0.retiring refl
       ]
 
   -- and is alone

@@ -19,7 +19,7 @@ use Rattle.tss_protocol.specs.UnitMachine.{IsEnabled, is_enabled, can_use_messag
 use Rattle.tss_phases.proofs.Received.{own_name, other_name}
 use Rattle.tss_control.specs.Members.{registered_of, opening_reader, uses_of, total}
 use Rattle.tss_control.specs.Chains.{HasChains}
-use Rattle.tss_names.proofs.SentLemmas.{posted_all-later, after_use-later}
+use Rattle.tss_protocol.proofs.SentLemmas.{posted_all-later, after_use-later}
 use Rattle.tss_control.proofs.chains.Alike.{AreAlike, HasChains-alike}
 use Rattle.tss_control.proofs.chains.Settled.{alike_written}
 

@@ -19,7 +19,7 @@ use Rattle.tss_phases.proofs.QuietEvents.{phase_of-ack}
 use Rattle.tss_phases.proofs.TakeEvent.{phase_of-take, phase_of-take-other}
 use Rattle.tss_phases.proofs.Tests.{something}
 use Rattle.tss_names.specs.Tasks.{task_at, IsOperandOf, HasTaskNumbers}
-use Rattle.tss_names.proofs.FrontLemmas.{is_of_front, KeepsFront-after_event}
+use Rattle.tss_protocol.proofs.FrontLemmas.{is_of_front, KeepsFront-after_event}
 use Rattle.tss_control.proofs.rounds.EntriesQuiet.{decoded_before}
 
 -- what is decoded of a spawned task after an event was decoded before

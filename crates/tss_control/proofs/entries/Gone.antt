@@ -17,13 +17,15 @@ use Rattle.tss_protocol.specs.UnitMachine.{IsEnabled, is_enabled, after_event, w
 use Rattle.tss_phases.specs.Orderly.{AreOrderly}
 use Rattle.tss_phases.proofs.Tests.{something, not_both}
 use Rattle.tss_locality.proofs.LeftFields.{Leaves-after_event}
+use Rattle.tss_locality.proofs.SeparateObjects.{decide_range}
+use Rattle.tss_control.proofs.rounds.EntryOf.{decide_entry_of, entry_of_beside}
 use Rattle.tss_control.specs.Members.{operand_among, IsVersionOf, IsOpenOf, IsMember, total}
-use Rattle.tss_control.specs.Entries.{IsGoingHome, IsLeaving, IsUsed, IsAbsent, IsLive, IsRetiring, HasCause, HasEntries, HasRetirement}
+use Rattle.tss_control.specs.Entries.{HasEntryOf, IsGoingHome, IsLeaving, IsUsed, IsAbsent, IsLive, IsRetiring, HasCause, HasEntries, HasRetirement}
 use Rattle.tss_control.specs.Chains.{HasChains}
 use Rattle.tss_control.specs.Control.{HasGroundwork}
 use Rattle.tss_control.proofs.rounds.EntriesFrames.{DecodesNoMore, entries_kept}
 use Rattle.tss_control.proofs.entries.Decoded.{later_decodes_none}
-use Rattle.tss_control.proofs.rounds.EntriesNames.{HasOperandOn, operand_of_object, one_object}
+use Rattle.tss_control.proofs.rounds.EntriesNames.{HasOperandOn, operand_of_object}
 use Rattle.tss_control.proofs.entries.Copy.{going_entries}
 use Rattle.tss_control.proofs.rounds.RetirementFrames.{HasRetirement-same, retirement_kept}
 use Rattle.tss_control.proofs.rounds.Facts.{Basis}
@@ -110,25 +112,23 @@ module _ (m : Machine) (S : State) (basis : Basis m S) (orderly : AreOrderly S) 
     goes_home : IsGoingHome S g.object v
     goes_home = inr (g, there, last, refl)
 
-    entry_by : (x : Option Entry) → get S.entries g.object.base ≡ x → (e : Entry) × (x ≡ Some e)
-    entry_by (Some e) at = (e, refl)
-    entry_by None none =
-        let absent = h.absent v operand.0 operand.1 (ap (λ (x : Range). get S.entries x.base) operand.2 ∙ none) in
-        absurd (absent.stays v (inr (subst (λ x. IsGoingHome S x v) (sym operand.2) goes_home)))
+    -- the object has an entry
+    own_entry : HasEntryOf S g.object
+    own_entry = elim (decide_entry_of S g.object) [
+      | inl f ↦ f
+      | inr none ↦
+          let absent = h.absent v operand.0 operand.1 (λ f. none (subst (HasEntryOf S) operand.2 f)) in
+          absurd (absent.stays v (inr (subst (λ x. IsGoingHome S x v) (sym operand.2) goes_home)))
+    ]
 
     abbrev e : Entry
-    e = (entry_by (get S.entries g.object.base) refl).0
+    e = own_entry.entry
 
     at : get S.entries g.object.base ≡ Some e
-    at = (entry_by (get S.entries g.object.base) refl).1
+    at = own_entry.there
 
     object : e.object ≡ g.object
-    object =
-        let q = h.operand g.object.base e at in
-        sym q.1.2
-        ∙ one_object m S basis orderly e.latest v q.1.0 operand.0 q.1.1 operand.1
-        (ap (λ (x : Range). x.base) q.1.2 ∙ q.0 ∙ ap (λ (x : Range). x.base) (sym operand.2))
-        ∙ operand.2
+    object = own_entry.object
 
     retires_by : (b : Bool) → e.retiring ≡ b → e.retiring ≡ true
     retires_by true on = on
@@ -220,17 +220,18 @@ module _ (m : Machine) (S : State) (basis : Basis m S) (orderly : AreOrderly S) 
       stays = λ w k. a.stays w (leaving_back x w k);
     }
 
-    absent_by : (o : OpName) (p : Operand) → operand_among ts o ≡ Some p → get T.entries p.object.base ≡ None
+    -- the other objects keep their entries
+    still_entered : (x : Range) → x ≢ g.object → HasEntryOf S x → HasEntryOf T x
+    still_entered x other f =
+        entry_of_beside S T e (ap (λ (x : Range). get S.entries x.base) object ∙ at)
+        (entries ∙ ap (λ (x : Range). remove S.entries x.base) (sym object)) x (λ same. other (same ∙ object)) f
+
+    absent_by : (o : OpName) (p : Operand) → operand_among ts o ≡ Some p → (HasEntryOf T p.object → ⊥)
         → IsAbsent ts T p.object
-    absent_by o p among none = elim (decide_key nat_order p.object.base g.object.base) [
-      | inl same ↦
-          let is = one_object m S basis orderly o v p operand.0 among operand.1
-          (same ∙ ap (λ (x : Range). x.base) (sym operand.2)) ∙ operand.2 in
-          subst (IsAbsent ts T) (sym is) absent_gone
+    absent_by o p among none = elim (decide_range p.object g.object) [
+      | inl same ↦ subst (IsAbsent ts T) (sym same) absent_gone
       | inr other ↦
-          absent_other p.object
-          (h.absent o p among (sym (beside_removed nat_order S.entries g.object.base p.object.base other)
-          ∙ ap (λ m. get m p.object.base) (sym entries) ∙ none))
+          absent_other p.object (h.absent o p among (λ f. none (still_entered p.object other f)))
     ]
 
     -- entries of other objects
@@ -286,10 +287,15 @@ module _ (m : Machine) (S : State) (basis : Basis m S) (orderly : AreOrderly S) 
         → HasCause T w y count
     retired_cause w y count version c =
         let p = chains.opener w y version in
+        let own : HasEntryOf S y.object = elim (decide_entry_of S y.object) [
+          | inl f ↦ f
+          | inr none ↦
+              absurd ((h.absent w p.0 p.1 (λ f. none (subst (HasEntryOf S) p.2 f))).members w
+              (inl (y, version, sym p.2)))
+        ] in
         let other : y.object.base ≢ g.object.base = λ same.
-        let is = one_object m S basis orderly w v p.0 operand.0 p.1 operand.1
-        (ap (λ (x : Range). x.base) p.2 ∙ same ∙ ap (λ (x : Range). x.base) (sym operand.2)) in
-        no_version w (y, version, sym p.2 ∙ is ∙ operand.2) in (
+        let one = same_Some own.entry e (sym own.there ∙ ap (get S.entries) same ∙ at) in
+        no_version w (y, version, sym own.object ∙ ap (λ (e : Entry). e.object) one ∙ object) in (
           c.0,
           ap (λ m. get m y.object.base) entries ∙ beside_removed nat_order S.entries g.object.base y.object.base other
               ∙ c.1,

@@ -14,12 +14,13 @@ use Rattle.tss_protocol.specs.Names.{same_name}
 use Rattle.tss_protocol.specs.State.{State, Entry, Version}
 use Rattle.tss_phases.proofs.Received.{own_name}
 use Rattle.tss_phases.proofs.Tests.{not_both}
+use Rattle.tss_control.proofs.rounds.EntryOf.{entry_of_new, entry_of_still}
 use Rattle.tss_control.specs.Members.{operand_among, IsWriterOn, IsVersionOf, IsOpenOf, IsMember, registered_of, opening_reader, uses_of, total}
-use Rattle.tss_control.specs.Entries.{IsGoingHome, IsLeaving, IsUsed, IsAbsent, IsLive, IsLastVersion, IsRetiring, HasEntries}
+use Rattle.tss_control.specs.Entries.{HasEntryOf, IsGoingHome, IsLeaving, IsUsed, IsAbsent, IsLive, IsLastVersion, IsRetiring, HasEntries}
 use Rattle.tss_control.specs.Readers.{Arrivals}
 use Rattle.tss_control.specs.Control.{HasGroundwork, IsControlled}
 use Rattle.tss_control.proofs.rounds.EntriesFrames.{DecodesNoMore}
-use Rattle.tss_control.proofs.entries.OfVersions.{HasEntryOf, entry_awake_of, released_within, registered_within}
+use Rattle.tss_control.proofs.entries.OfVersions.{entry_awake_of, released_within, registered_within}
 use Rattle.tss_control.proofs.rounds.Facts.{Facts}
 
 -- what such an answer leaves
@@ -260,12 +261,11 @@ module _ (m : Machine) (S : State) (facts : Facts m S) (v : OpName) (x : Version
     pub entries_granted : HasEntries ts T
     entries_granted = record {
       absent = λ q r among none.
-          let apart : r.object.base ≢ e.object.base = λ same.
-          none-some n (sym none ∙ ap (λ m. get m r.object.base) d.entries
-          ∙ ap (get (insert S.entries e.object.base n)) same ∙ at_inserted nat_order S.entries e.object.base n) in
-          absent_after r.object (λ same. apart (ap (λ (x : Range). x.base) same))
-          (h.entries.absent q r among (sym (beside_inserted nat_order S.entries e.object.base n r.object.base apart)
-          ∙ ap (λ m. get m r.object.base) (sym d.entries) ∙ none));
+          let base : n.object.base ≡ e.object.base = refl in
+          absent_after r.object
+          (λ same. none (subst (HasEntryOf T) (sym same) (entry_of_new S T e.object.base n d.entries base)))
+          (h.entries.absent q r among (λ f. none (entry_of_still S T e.object.base n d.entries base
+          (λ c at. ap (λ (c : Entry). c.object) (same_Some c e (sym at ∙ entry_at))) r.object f)));
       operand = λ b c there. elim (from_entries b c there) [
         | inl new ↦
             subst (λ c. (c.object.base ≡ b)

@@ -23,12 +23,12 @@ use Rattle.tss_phases.proofs.Received.{own_name}
 use Rattle.tss_phases.proofs.SettlingLemmas.{name_from_test}
 use Rattle.tss_phases.proofs.Tests.{something, not_both}
 use Rattle.tss_control.specs.Members.{total}
-use Rattle.tss_control.specs.Entries.{HasCause, HasEntries, HasRetirement}
+use Rattle.tss_control.specs.Entries.{HasEntryOf, HasCause, HasEntries, HasRetirement}
 use Rattle.tss_control.specs.Readers.{Arrivals}
 use Rattle.tss_control.specs.Control.{HasGroundwork, IsControlled}
 use Rattle.tss_control.proofs.rounds.EntriesFrames.{DecodesNoMore, HasEntries-same}
 use Rattle.tss_control.proofs.entries.Decoded.{later_decodes_none}
-use Rattle.tss_control.proofs.entries.OfVersions.{HasEntryOf, entry_of_version, entry_awake_of, released_within, registered_within}
+use Rattle.tss_control.proofs.entries.OfVersions.{entry_of_version, entry_awake_of, released_within, registered_within}
 use Rattle.tss_control.proofs.entries.Granted.{Grants, entries_granted}
 use Rattle.tss_control.proofs.rounds.RetirementFrames.{retirement_kept, cause_same}
 use Rattle.tss_control.proofs.entries.RetirementDecode.{cause_written}

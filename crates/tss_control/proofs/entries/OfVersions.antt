@@ -10,18 +10,12 @@ use Rattle.tss_base.specs.declared.machine.Machine.{Machine}
 use Rattle.tss_maps.proofs.Changes.{decide_get}
 use Rattle.tss_protocol.specs.State.{State, Entry, Version}
 use Rattle.tss_control.specs.Members.{operand_among, IsVersionOf, IsMember, registered_of, opening_reader, uses_of, total}
-use Rattle.tss_control.specs.Entries.{IsLeaving, IsRetiring}
+use Rattle.tss_control.specs.Entries.{HasEntryOf, IsLeaving, IsRetiring}
 use Rattle.tss_control.specs.Readers.{Arrivals}
 use Rattle.tss_control.specs.Control.{HasGroundwork, IsControlled}
 use Rattle.tss_control.proofs.rounds.ReadersCounts.{few_released}
-use Rattle.tss_control.proofs.rounds.EntriesNames.{one_object}
+use Rattle.tss_control.proofs.rounds.EntryOf.{decide_entry_of}
 use Rattle.tss_control.proofs.rounds.Facts.{Facts}
-
--- the entry of an object
-pub record HasEntryOf (S : State) (x : Range) : Type 0 where
-  pub entry : Entry
-  pub there : get S.entries x.base ≡ Some entry
-  pub object : entry.object ≡ x
 
 module _ (m : Machine) (S : State) (facts : Facts m S) where
   open facts use {basis, ts, g, control as h}
@@ -29,18 +23,9 @@ module _ (m : Machine) (S : State) (facts : Facts m S) where
   -- an operand of a member's object has an entry there
   pub entry_of_member : (o : OpName) (p : Operand) → operand_among ts o ≡ Some p → (v : OpName) → IsMember S p.object v
       → HasEntryOf S p.object
-  entry_of_member o p among v k = elim (decide_get S.entries p.object.base) [
-    | inl none ↦ absurd ((h.entries.absent o p among none).members v k)
-    | inr e ↦
-        let q = h.entries.operand p.object.base e.0 e.1 in
-        record {
-          entry = e.0;
-          there = e.1;
-          object =
-              sym q.1.2
-              ∙ one_object m S basis h.orderly e.0.latest o q.1.0 p q.1.1 among
-              (ap (λ (x : Range). x.base) q.1.2 ∙ q.0);
-        }
+  entry_of_member o p among v k = elim (decide_entry_of S p.object) [
+    | inl f ↦ f
+    | inr none ↦ absurd ((h.entries.absent o p among none).members v k)
   ]
 
   module _ (v : OpName) (x : Version) (at : get S.versions v ≡ Some x) where

@@ -22,7 +22,7 @@ use Rattle.tss_control.specs.Chains.{HasChains}
 use Rattle.tss_control.specs.Entries.{HasEntries, HasRetirement}
 use Rattle.tss_control.specs.Readers.{Arrivals}
 use Rattle.tss_control.specs.Control.{HasGroundwork, IsControlled}
-use Rattle.tss_names.proofs.SentLemmas.{AllSent, AllSent-append}
+use Rattle.tss_protocol.proofs.SentLemmas.{AllSent, AllSent-append}
 use Rattle.tss_protocol.proofs.SettleCases.{OthersSettled}
 use Rattle.tss_control.proofs.chains.Registered.{Registers}
 use Rattle.tss_control.proofs.chains.Opened.{HasChains-registered}

@@ -13,7 +13,7 @@ use Rattle.tss_protocol.specs.UnitMachine.{IsEnabled, after_event, without, afte
 use Rattle.tss_phases.specs.Orderly.{AreOrderly}
 use Rattle.tss_control.specs.Entries.{HasEntries, HasRetirement}
 use Rattle.tss_control.specs.Control.{HasGroundwork}
-use Rattle.tss_names.proofs.SentLemmas.{AllSent, after_ready-all, after_link-all, flight_after_finish-all}
+use Rattle.tss_protocol.proofs.SentLemmas.{AllSent, after_ready-all, after_link-all, flight_after_finish-all}
 use Rattle.tss_names.proofs.AskingLemmas.{IsAside, decodes_aside}
 use Rattle.tss_control.proofs.rounds.EntriesFrames.{DecodesNoMore, HasEntries-same}
 use Rattle.tss_control.proofs.rounds.EntriesQuiet.{IsQuietEvent, quiet_objects, quiet_entries}

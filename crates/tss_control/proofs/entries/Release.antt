@@ -24,7 +24,7 @@ use Rattle.tss_control.specs.Entries.{IsLeaving, IsRetiring, HasEntries, HasReti
 use Rattle.tss_control.specs.Readers.{Arrivals}
 use Rattle.tss_control.specs.Holders.{IsOwnOrRead}
 use Rattle.tss_control.specs.Control.{HasGroundwork, IsControlled}
-use Rattle.tss_names.proofs.SentLemmas.{AllSent, AllSent-append}
+use Rattle.tss_protocol.proofs.SentLemmas.{AllSent, AllSent-append}
 use Rattle.tss_control.proofs.chains.Alike.{AreAlike}
 use Rattle.tss_control.proofs.chains.Settled.{HasChains-written}
 use Rattle.tss_control.proofs.chains.Released.{others_written, produced_like, released_like}

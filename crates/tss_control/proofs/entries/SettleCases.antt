@@ -12,7 +12,7 @@ use Rattle.tss_protocol.specs.Mail.{StorageName, Message, Decode, Ack, Open, Use
 use Rattle.tss_protocol.specs.State.{State, Version}
 use Rattle.tss_protocol.specs.Versions.{Versioned, settle_asking, may_ask, put_version, ready_with, settled, unlinked}
 use Rattle.tss_control.specs.Chains.{HasChains}
-use Rattle.tss_names.proofs.SentLemmas.{AllSent}
+use Rattle.tss_protocol.proofs.SentLemmas.{AllSent}
 use Rattle.tss_protocol.proofs.SettleCases.{OthersSettled, IsQuiet, Asks, IsTakenOver, IsPassedBy, SettleCase, moved_up, settle_cases}
 use Rattle.tss_protocol.proofs.UnlinkedVersions.{GaveWay, gave_way_beside, gave_way_over, took_over}
 use Rattle.tss_control.proofs.chains.Settled.{chains_next, chains_own}

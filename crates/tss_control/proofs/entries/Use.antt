@@ -24,7 +24,7 @@ use Rattle.tss_control.specs.Entries.{HasEntries, HasRetirement}
 use Rattle.tss_protocol.specs.Settled.{IsSettled}
 use Rattle.tss_control.specs.Readers.{Arrivals}
 use Rattle.tss_control.specs.Control.{HasGroundwork, IsControlled}
-use Rattle.tss_names.proofs.SentLemmas.{AllSent}
+use Rattle.tss_protocol.proofs.SentLemmas.{AllSent}
 use Rattle.tss_names.proofs.AskingLemmas.{IsAside}
 use Rattle.tss_control.proofs.chains.Alike.{AreAlike}
 use Rattle.tss_control.proofs.chains.Use.{IsUsed, used_total}

@@ -13,7 +13,7 @@ use Rattle.tss_protocol.specs.State.{Version}
 use Rattle.tss_protocol.specs.Versions.{ready_with, put_version, first_version}
 use Rattle.tss_phases.specs.Told.{tells}
 use Rattle.tss_phases.proofs.SettlingLemmas.{ready_with_told}
-use Rattle.tss_names.proofs.SentLemmas.{AllSent}
+use Rattle.tss_protocol.proofs.SentLemmas.{AllSent}
 use Rattle.tss_control.proofs.holders.Settled.{HeldAlike, TellsOwn}
 use Rattle.tss_control.proofs.holders.Thinned.{ThinsHeld}
 

@@ -12,7 +12,7 @@ use Rattle.tss_phases.specs.Told.{phase_told}
 use Rattle.tss_phases.specs.Leaving.{phase_linked}
 use Rattle.tss_phases.proofs.Records.{operand_in, task_of_record}
 use Rattle.tss_control.specs.Runners.{IsAtStage, is_late}
-use Rattle.tss_names.proofs.FrontLemmas.{ComeFrom}
+use Rattle.tss_protocol.proofs.FrontLemmas.{ComeFrom}
 use Rattle.tss_control.proofs.holders.Stages.{StayFinished}
 
 -- in the second state an operand is late only where it was late in the first

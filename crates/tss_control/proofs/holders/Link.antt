@@ -37,7 +37,7 @@ use Rattle.tss_control.specs.Members.{operand_among}
 use Rattle.tss_control.specs.Readers.{Arrivals}
 use Rattle.tss_control.specs.Holders.{IsTrue, HasHolders}
 use Rattle.tss_control.specs.Control.{HasGroundwork, IsControlled}
-use Rattle.tss_names.proofs.SentLemmas.{AllSent}
+use Rattle.tss_protocol.proofs.SentLemmas.{AllSent}
 use Rattle.tss_control.proofs.rounds.HoldersNext.{linking_waits}
 use Rattle.tss_control.proofs.holders.Fits.{Holding, HoldsIn, HasOpened, HasCome}
 use Rattle.tss_control.proofs.holders.Moves.{TellsTrue, holding_news}

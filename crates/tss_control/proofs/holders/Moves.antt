@@ -15,7 +15,7 @@ use Rattle.tss_phases.proofs.Shown.{waiting_shows}
 use Rattle.tss_phases.proofs.PhaseLemmas.{phase_telling}
 use Rattle.tss_protocol.specs.Names.{same_name}
 use Rattle.tss_control.specs.Holders.{link_fits}
-use Rattle.tss_names.proofs.SentLemmas.{AllSent}
+use Rattle.tss_protocol.proofs.SentLemmas.{AllSent}
 use Rattle.tss_control.proofs.holders.Fits.{LinksFit, Holding}
 
 -- nothing isn't something

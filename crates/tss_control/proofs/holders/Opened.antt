@@ -22,7 +22,7 @@ use Rattle.tss_phases.proofs.ToldPhases.{first_tells}
 use Rattle.tss_control.specs.Members.{registered_of, opening_reader, uses_of}
 use Rattle.tss_control.specs.Readers.{Arrivals}
 use Rattle.tss_control.specs.Control.{HasGroundwork, IsControlled}
-use Rattle.tss_names.proofs.SentLemmas.{AllSent, AllSent-append}
+use Rattle.tss_protocol.proofs.SentLemmas.{AllSent, AllSent-append}
 use Rattle.tss_protocol.proofs.SettleCases.{HasNext}
 use Rattle.tss_control.proofs.chains.Registered.{link_to, linked_to}
 use Rattle.tss_control.proofs.chains.Open.{following, at_followed, behind_followed, beside_followed, others_followed}

@@ -34,7 +34,7 @@ use Rattle.tss_control.specs.Members.{operand_among}
 use Rattle.tss_control.specs.Readers.{Arrivals, Has, head_of, oldest_of}
 use Rattle.tss_control.specs.Holders.{IsTrue, IsOwnOrRead, HasHolders, PromiseFits}
 use Rattle.tss_control.specs.Control.{HasGroundwork, IsControlled}
-use Rattle.tss_names.proofs.SentLemmas.{AllSent, AllSent-append}
+use Rattle.tss_protocol.proofs.SentLemmas.{AllSent, AllSent-append}
 use Rattle.tss_control.proofs.rounds.ReadersLists.{has_oldest}
 use Rattle.tss_control.proofs.rounds.ReleaseFacts.{Releases, releases_facts}
 use Rattle.tss_control.proofs.holders.Fits.{Holding, LinksFit, HoldsIn, HasOpened, HasCome, Needs, holding_of, holding_mapped, holders_by}

@@ -32,7 +32,7 @@ use Rattle.tss_locality.proofs.LeftFields.{Leaves-after_event}
 use Rattle.tss_names.specs.Tasks.{HasTaskNumbers, spawned_after_event}
 use Rattle.tss_names.specs.Stages.{HasStages}
 use Rattle.tss_control.specs.Runners.{IsAtStage, is_late, HasRunners}
-use Rattle.tss_names.proofs.FrontLemmas.{ComeFrom, all_come, KeepsFront, KeepsFront-after_event}
+use Rattle.tss_protocol.proofs.FrontLemmas.{ComeFrom, all_come, KeepsFront, KeepsFront-after_event}
 use Rattle.tss_names.proofs.TakeLemmas.{TakesTask, takes_take}
 use Rattle.tss_control.proofs.holders.Stages.{RunsOn, runs_on}
 use Rattle.tss_control.proofs.holders.Late.{NoLater, late_same, late_kept}

@@ -12,7 +12,7 @@ use Rattle.tss_phases.specs.Phase.{Phase, Waiting}
 use Rattle.tss_phases.specs.Told.{is_ready_for, tells}
 use Rattle.tss_phases.proofs.SettlingLemmas.{name_from_test}
 use Rattle.tss_phases.specs.Openers.{version_opener, opener_by, produced_opener, open_opener}
-use Rattle.tss_names.proofs.SentLemmas.{AllSent}
+use Rattle.tss_protocol.proofs.SentLemmas.{AllSent}
 use Rattle.tss_control.proofs.holders.Moves.{TellsTrue}
 use Rattle.tss_control.proofs.holders.Settled.{HeldAlike, TellsOwn}
 

@@ -16,7 +16,7 @@ use Rattle.tss_protocol.specs.Versions.{Versioned, sending, died, buffer_of, rea
 use Rattle.tss_protocol.specs.Names.{same_name}
 use Rattle.tss_phases.specs.Told.{tells}
 use Rattle.tss_phases.proofs.Received.{own_name}
-use Rattle.tss_names.proofs.SentLemmas.{AllSent}
+use Rattle.tss_protocol.proofs.SentLemmas.{AllSent}
 use Rattle.tss_protocol.proofs.SettleCases.{OthersSettled, HasNext, moved_up, at_changed, beside_changed, settle_cases}
 
 -- ---- versions that are alike

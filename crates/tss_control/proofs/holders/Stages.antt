@@ -20,7 +20,7 @@ use Rattle.tss_phases.proofs.Records.{operand_in}
 use Rattle.tss_phases.proofs.OrderlyLemmas.{telling_stands}
 use Rattle.tss_names.specs.Tasks.{HasTaskNumbers, spawned_after_event}
 use Rattle.tss_names.specs.Stages.{HasStages}
-use Rattle.tss_names.proofs.FrontLemmas.{KeepsFront}
+use Rattle.tss_protocol.proofs.FrontLemmas.{KeepsFront}
 use Rattle.tss_names.proofs.SpawnLemmas.{SpawnsOne}
 use Rattle.tss_names.proofs.TakeLemmas.{TakesTask}
 use Rattle.tss_names.proofs.NumberLemmas.{taken_newest, last_taken_before}

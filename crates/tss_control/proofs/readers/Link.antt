@@ -27,7 +27,7 @@ use Rattle.tss_phases.proofs.LinkEvent.{link_tells, link_tells_next, linked_task
 use Rattle.tss_locality.proofs.LeftFields.{Leaves-after_event}
 use Rattle.tss_control.specs.Readers.{Arrivals, IsLinking, AreNeighbours, HasReaders}
 use Rattle.tss_control.specs.Holders.{HasHolders}
-use Rattle.tss_names.proofs.SentLemmas.{after_link-all}
+use Rattle.tss_protocol.proofs.SentLemmas.{after_link-all}
 use Rattle.tss_control.proofs.rounds.HoldersNext.{linking_waits}
 use Rattle.tss_control.proofs.rounds.ReadersLists.{IsNext, next_apart, chained_at, newest_at}
 use Rattle.tss_control.proofs.rounds.ReadersKept.{is_told, told_from_test, waited, LooksAlike, alike_same}

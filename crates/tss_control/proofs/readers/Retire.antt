@@ -19,11 +19,11 @@ use Rattle.tss_phases.specs.Orderly.{AreOrderly}
 use Rattle.tss_phases.proofs.Tests.{something, both}
 use Rattle.tss_phases.proofs.QuietEvents.{phase_of-retire}
 use Rattle.tss_locality.proofs.LeftFields.{Leaves-after_event}
+use Rattle.tss_control.proofs.rounds.EntryOf.{decide_entry_of}
 use Rattle.tss_control.specs.Chains.{HasChains}
-use Rattle.tss_control.specs.Entries.{IsLastVersion, HasEntries}
+use Rattle.tss_control.specs.Entries.{HasEntryOf, IsLastVersion, HasEntries}
 use Rattle.tss_control.specs.Control.{HasGroundwork}
 use Rattle.tss_control.specs.Readers.{Arrivals, HasReaders}
-use Rattle.tss_control.proofs.rounds.EntriesNames.{one_object}
 use Rattle.tss_control.proofs.rounds.ReadersKept.{alike_same, same_version}
 use Rattle.tss_control.proofs.rounds.ReadersStates.{StaysOrGone, readers_kept, readers_fewer}
 use Rattle.tss_control.proofs.readers.Links.{links-retire}
@@ -61,21 +61,15 @@ module _ (m : Machine) (S : State) (basis : Basis m S) (orderly : AreOrderly S) 
         last = r.last x (ap (get S.mail.retires) (sym latest) ∙ retires) (ap (get S.versions) (sym latest) ∙ there);
       }
 
-  retired_by : (e : Option Entry) → get S.entries x.object.base ≡ e → IsRetired S v x
-  retired_by None none =
-      let p = chains.opener v x there in
-      absurd ((h.absent v p.0 p.1 (ap (λ (x : Range). get S.entries x.base) p.2 ∙ none)).members v
-      (inl (x, there, sym p.2)))
-  retired_by (Some e) at =
-      let p = chains.opener v x there in
-      let q = h.operand x.object.base e at in
-      let same = one_object m S basis orderly e.latest v q.1.0 p.0 q.1.1 p.1
-      (ap (λ (x : Range). x.base) q.1.2 ∙ q.0 ∙ ap (λ (x : Range). x.base) (sym p.2)) in
-      retired_of e at (sym q.1.2 ∙ same ∙ p.2) e.retiring refl
-
   -- its entry retires, and it is the only version
   pub retires_last : IsRetired S v x
-  retires_last = retired_by (get S.entries x.object.base) refl
+  retires_last =
+      let p = chains.opener v x there in
+      elim (decide_entry_of S x.object) [
+        | inl f ↦ retired_of f.entry f.there f.object f.entry.retiring refl
+        | inr none ↦
+            absurd ((h.absent v p.0 p.1 (λ f. none (subst (HasEntryOf S) p.2 f))).members v (inl (x, there, sym p.2)))
+      ]
 
   -- as many readers have released it as have registered
   pub retires_released : x.registered ≤ x.released

@@ -17,8 +17,9 @@ use Rattle.tss_phases.specs.Phase.{phase_of, is_decoded}
 use Rattle.tss_phases.specs.Orderly.{AreOrderly}
 use Rattle.tss_phases.proofs.Received.{other_name}
 use Rattle.tss_phases.proofs.Tests.{not_both}
+use Rattle.tss_control.proofs.rounds.EntryOf.{no_entry_at, entry_of_new, entry_of_still}
 use Rattle.tss_control.specs.Members.{operand_among, IsWriterOn, IsOpenOf, IsMember, registered_of, first_reader, opening_reader, uses_of, total}
-use Rattle.tss_control.specs.Entries.{IsLeaving, IsUsed, IsAbsent, IsLive, IsRetiring, HasEntries}
+use Rattle.tss_control.specs.Entries.{HasEntryOf, IsLeaving, IsUsed, IsAbsent, IsLive, IsRetiring, HasEntries}
 use Rattle.tss_control.specs.Chains.{HasChains}
 use Rattle.tss_control.specs.Control.{HasGroundwork}
 use Rattle.tss_control.proofs.rounds.EntriesLeaving.{SameLeaving, leaving_turned, version_back, going_back, leaving_back, last_version_still}
@@ -93,9 +94,9 @@ module _ (m : Machine) (S : State) (basis : Basis m S) (orderly : AreOrderly S) 
   other_object b e at apart same =
       apart (sym (h.operand b e at).0 ∙ ap (λ (x : Range). x.base) (sym same))
 
-  absent_after : (x : Range) → x.base ≢ p.object.base → IsAbsent ts S x → IsAbsent ts T x
+  absent_after : (x : Range) → p.object ≢ x → IsAbsent ts S x → IsAbsent ts T x
   absent_after x apart a = record {
-    members = λ v e. a.members v (member_back x v (λ same. apart (ap (λ (x : Range). x.base) (sym same))) e);
+    members = λ v e. a.members v (member_back x v apart e);
     unused = λ u. a.unused (use_back x u);
     stays = λ v l. a.stays v (leaving_back S T d.leaving x v l);
   }
@@ -125,7 +126,7 @@ module _ (m : Machine) (S : State) (basis : Basis m S) (orderly : AreOrderly S) 
 
   module _ (awake : (e : Entry) → get S.entries p.object.base ≡ Some e → e.retiring ≡ false) where
     stays_by : (x : Option Entry) → get S.entries p.object.base ≡ x → (v : OpName) → IsLeaving S p.object v → ⊥
-    stays_by None none v l = (h.absent o p among none).stays v l
+    stays_by None none v l = (h.absent o p among (no_entry_at S p.object none)).stays v l
     stays_by (Some e) at v l =
         (h.live p.object.base e at (awake e at)).stays v
         (subst (λ x. IsLeaving S x v) (sym (object_of_entry m S basis orderly h o p there e at)) l)
@@ -202,13 +203,11 @@ module _ (m : Machine) (S : State) (basis : Basis m S) (orderly : AreOrderly S) 
   pub entries_opened : ((e : Entry) → get S.entries p.object.base ≡ Some e → e.retiring ≡ false) → HasEntries ts T
   entries_opened awake = record {
     absent = λ q r at none.
-        let apart : r.object.base ≢ p.object.base = λ same.
-        none-some n (sym none ∙ ap (λ m. get m r.object.base) d.entries
-        ∙ ap (get (insert S.entries p.object.base n)) same
-        ∙ at_inserted nat_order S.entries p.object.base n) in
-        absent_after r.object apart
-        (h.absent q r at (sym (beside_inserted nat_order S.entries p.object.base n r.object.base apart)
-        ∙ ap (λ m. get m r.object.base) (sym d.entries) ∙ none));
+        let base : n.object.base ≡ p.object.base = ap (λ (x : Range). x.base) d.object in
+        absent_after r.object
+        (λ same. none (subst (HasEntryOf T) (d.object ∙ same) (entry_of_new S T p.object.base n d.entries base)))
+        (h.absent q r at (λ f. none (entry_of_still S T p.object.base n d.entries base
+        (λ e at. object_of_entry m S basis orderly h o p there e at ∙ sym d.object) r.object f)));
     operand = λ b e at. elim (from_entries b e at) [
       | inl new ↦
           subst (λ e. (e.object.base ≡ b)

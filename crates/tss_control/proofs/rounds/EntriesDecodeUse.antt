@@ -19,11 +19,12 @@ use Rattle.tss_phases.specs.Phase.{phase_of, is_decoded}
 use Rattle.tss_phases.specs.Orderly.{AreOrderly}
 use Rattle.tss_phases.proofs.Received.{own_name, other_name}
 use Rattle.tss_phases.proofs.Tests.{not_both}
+use Rattle.tss_control.proofs.rounds.EntryOf.{entry_of_new, entry_of_still}
 use Rattle.tss_control.specs.Members.{operand_among, IsWriterOn, IsOpenOf, IsMember, registered_of, opening_reader, uses_of, total}
-use Rattle.tss_control.specs.Entries.{IsUsed, IsAbsent, IsLive, IsRetiring, HasEntries}
+use Rattle.tss_control.specs.Entries.{HasEntryOf, IsUsed, IsAbsent, IsLive, IsRetiring, HasEntries}
 use Rattle.tss_control.specs.Control.{HasGroundwork}
 use Rattle.tss_control.proofs.rounds.EntriesLeaving.{SameLeaving, leaving_turned, version_back, going_back, leaving_back, last_version_still}
-use Rattle.tss_control.proofs.rounds.EntriesNames.{decode_among, no_use}
+use Rattle.tss_control.proofs.rounds.EntriesNames.{decode_among, no_use, object_of_entry}
 use Rattle.tss_control.proofs.rounds.Facts.{Basis}
 
 -- what a decode that sends a use leaves, by the entry
@@ -174,13 +175,12 @@ module _ (m : Machine) (S : State) (basis : Basis m S) (orderly : AreOrderly S) 
   pub entries_used : HasEntries ts T
   entries_used = record {
     absent = λ q r at none.
-        let apart : r.object.base ≢ p.object.base = λ same.
-        none-some more_sent (sym none ∙ ap (λ m. get m r.object.base) d.entries
-        ∙ ap (get (insert S.entries p.object.base more_sent)) same
-        ∙ at_inserted nat_order S.entries p.object.base more_sent) in
-        absent_after r.object (λ same. apart (ap (λ (x : Range). x.base) (sym same)))
-        (h.absent q r at (sym (beside_inserted nat_order S.entries p.object.base more_sent r.object.base apart)
-        ∙ ap (λ m. get m r.object.base) (sym d.entries) ∙ none));
+        let base : more_sent.object.base ≡ p.object.base = (h.operand p.object.base n d.there).0 in
+        let own = object_of_entry m S basis orderly h o p there n d.there in
+        absent_after r.object
+        (λ same. none (subst (HasEntryOf T) (own ∙ same) (entry_of_new S T p.object.base more_sent d.entries base)))
+        (h.absent q r at (λ f. none (entry_of_still S T p.object.base more_sent d.entries base
+        (λ e at. ap (λ (e : Entry). e.object) (same_Some e n (sym at ∙ d.there))) r.object f)));
     operand = λ b e at. elim (from_entries b e at) [
       | inl new ↦
           subst (λ e. (e.object.base ≡ b)

@@ -7,6 +7,7 @@ use Rattle.tss_base.specs.declared.operand.Operand.{Operand}
 use Rattle.tss_base.specs.declared.operand.Task.{Task}
 use Rattle.tss_protocol.specs.State.{State, Entry, Version}
 use Rattle.tss_phases.specs.Phase.{phase_of, is_decoded}
+use Rattle.tss_control.proofs.rounds.EntryOf.{entry_of_left}
 use Rattle.tss_control.specs.Members.{operand_among, IsVersionOf, IsOpenOf, IsMember, total}
 use Rattle.tss_control.specs.Entries.{IsGoingHome, IsLeaving, IsUsed, IsAbsent, IsLive, IsLastVersion, IsRetiring, HasEntries}
 
@@ -82,7 +83,7 @@ entries_kept ts S T h k =
     λ b e there. ap (λ es. get es b) (sym k.entries) ∙ there in
     record {
       absent = λ o p at none. absent_still ts S T k.more p.object
-          (h.absent o p at (ap (λ es. get es p.object.base) (sym k.entries) ∙ none));
+          (h.absent o p at (λ f. none (entry_of_left S T k.entries p.object f)));
       operand = λ b e there. h.operand b e (before b e there);
       live = λ b e there live.
           let l = h.live b e (before b e there) live in

@@ -19,7 +19,7 @@ use Rattle.tss_phases.specs.Orderly.{AreOrderly}
 use Rattle.tss_phases.proofs.Tests.{not_both}
 use Rattle.tss_locality.specs.Agreement.{operand_in}
 use Rattle.tss_locality.specs.Rounds.{object_or, object_in}
-use Rattle.tss_locality.proofs.RoundObjects.{apart_in_round}
+use Rattle.tss_locality.proofs.RoundObjects.{finds_own}
 use Rattle.tss_names.specs.Tasks.{taken_by, IsTaken, IsOperandOf, HasTaskNumbers, IsUndecoded}
 use Rattle.tss_names.specs.Names.{IsDecoded}
 use Rattle.tss_control.specs.Members.{first_there, operand_among, IsMember}
@@ -117,13 +117,6 @@ below_or_not a b = grind (arith, nat_tests)
 module _ (m : Machine) (S : State) (basis : Basis m S) (orderly : AreOrderly S) where
   open basis use {all, ts, ground}
 
-  -- objects of the round with one base are one
-  pub one_object : (o q : OpName) (p r : Operand) → operand_among ts o ≡ Some p → operand_among ts q ≡ Some r
-      → p.object.base ≡ r.object.base → p.object ≡ r.object
-  one_object o q p r a b same =
-      apart_in_round ts S.main.epoch ground.round.separate ground.round.named o q p.object r.object
-      (object_of_operand ts o p a) (object_of_operand ts q r b) same
-
   -- an operand whose decode is under way is of the round
   pub decode_among : (o : OpName) (p : Operand) → get S.mail.decodes o ≡ Some p → operand_among ts o ≡ Some p
   decode_among o p there =
@@ -135,10 +128,7 @@ module _ (m : Machine) (S : State) (basis : Basis m S) (orderly : AreOrderly S) 
   -- an entry at the base of its object is of that object
   pub object_of_entry : HasEntries ts S → (o : OpName) (p : Operand) → get S.mail.decodes o ≡ Some p → (e : Entry)
       → get S.entries p.object.base ≡ Some e → e.object ≡ p.object
-  object_of_entry h o p there e at =
-      let q = h.operand p.object.base e at in
-      sym q.1.2
-      ∙ one_object e.latest o q.1.0 p q.1.1 (decode_among o p there) (ap (λ (x : Range). x.base) q.1.2 ∙ q.0)
+  object_of_entry h o p there e at = finds_own S ts ground.round o p e there at
 
   -- what has been decoded of its object is of no later task
   pub none_later : (o q : OpName) (p r : Operand) → get S.mail.decodes o ≡ Some p → operand_among ts q ≡ Some r

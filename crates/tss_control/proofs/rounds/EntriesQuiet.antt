@@ -19,7 +19,7 @@ use Rattle.tss_phases.specs.Orderly.{FitsPhase, IsOrderly, AreOrderly}
 use Rattle.tss_phases.proofs.PhaseLemmas.{phase_decoding}
 use Rattle.tss_phases.proofs.Tests.{not_both}
 use Rattle.tss_locality.proofs.LeftFields.{Leaves-after_event}
-use Rattle.tss_names.proofs.SentLemmas.{AllSent, after_ready-all, after_link-all, flight_after_finish-all}
+use Rattle.tss_protocol.proofs.SentLemmas.{AllSent, after_ready-all, after_link-all, flight_after_finish-all}
 use Rattle.tss_control.proofs.rounds.EntriesFrames.{SameObjects}
 
 -- ---- decoded operands

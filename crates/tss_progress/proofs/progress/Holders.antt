@@ -9,7 +9,7 @@ use Rattle.tss_base.specs.Names.{Named, Numbered}
 use Rattle.tss_protocol.specs.Mail.{StorageName, Home, Buffer, OpenContents, GoneContents, Message, Mail, posted_all}
 use Rattle.tss_protocol.specs.State.{Version, CopyState}
 use Rattle.tss_protocol.specs.Versions.{version_changed, change_version, ready_with, first_version, head_ready, settled}
-use Rattle.tss_names.proofs.SentLemmas.{AllSent, settled-later, posted_all-later}
+use Rattle.tss_protocol.proofs.SentLemmas.{AllSent, settled-later, posted_all-later}
 use Rattle.tss_names.proofs.JointLemmas.{posted_all-append}
 use Rattle.tss_names.proofs.HeldEvents.{HoldsNothing, posted_all-nothing}
 use Rattle.tss_progress.proofs.progress.Settled.{VersionHolds, GoneHolds, HoldsIn, put_holds, CanSettle, settled_holds}

@@ -29,7 +29,7 @@ use Rattle.tss_phases.proofs.FinishEvent.{finished_task, flight-finish, phase_of
 use Rattle.tss_phases.proofs.Records.{record_beside_put}
 use Rattle.tss_phases.proofs.Tests.{something}
 use Rattle.tss_control.specs.Runners.{is_late}
-use Rattle.tss_names.proofs.FrontLemmas.{ComeFrom, all_come, KeepsFront, KeepsFront-after_event}
+use Rattle.tss_protocol.proofs.FrontLemmas.{ComeFrom, all_come, KeepsFront, KeepsFront-after_event}
 use Rattle.tss_names.proofs.PlaceLemmas.{beside_remaining}
 use Rattle.tss_names.proofs.StageLemmas.{waiting≢finished, queued≢finished, running≢finished}
 use Rattle.tss_control.proofs.holders.Late.{record_came}

@@ -33,7 +33,9 @@ use Rattle.tss_phases.proofs.OrderlyLemmas.{decoding_stands}
 use Rattle.tss_control.specs.Members.{operand_among}
 use Rattle.tss_control.specs.Readers.{Arrivals}
 use Rattle.tss_control.specs.Control.{HasGroundwork, IsControlled}
-use Rattle.tss_control.proofs.rounds.EntriesNames.{decode_among, object_of_entry, one_object}
+use Rattle.tss_control.proofs.rounds.EntriesNames.{decode_among, object_of_entry}
+use Rattle.tss_control.proofs.rounds.EntryOf.{decide_entry_of}
+use Rattle.tss_control.specs.Entries.{HasEntryOf}
 use Rattle.tss_progress.proofs.progress.Stuck.{IsQuiet}
 use Rattle.tss_progress.proofs.progress.Phases.{HasLetGo}
 use Rattle.tss_progress.proofs.progress.Oldest.{own_record, past}
@@ -92,19 +94,12 @@ module _ (m : Machine) (S : State) (facts : Facts m S) where
   -- the object of a version has an entry
   pub entry_of_version : (v : OpName) (y : Version) → get S.versions v ≡ Some y
       → (e : Entry) × (get S.entries y.object.base ≡ Some e) × (e.object ≡ y.object)
-  entry_of_version v y there = elim (decide_get S.entries y.object.base) [
-    | inl none ↦
+  entry_of_version v y there = elim (decide_entry_of S y.object) [
+    | inl f ↦ (f.entry, f.there, f.object)
+    | inr none ↦
         let q = control.chains.opener v y there in
-        absurd ((control.entries.absent v q.0 q.1 (ap (λ (z : Range). get S.entries z.base) q.2 ∙ none)).members v
+        absurd ((control.entries.absent v q.0 q.1 (λ f. none (subst (HasEntryOf S) q.2 f))).members v
         (inl (y, there, sym q.2)))
-    | inr some ↦
-        let q = control.chains.opener v y there in
-        let e = control.entries.operand y.object.base some.0 some.1 in (
-          some.0,
-          some.1,
-          sym e.1.2 ∙ one_object m S basis control.orderly some.0.latest v e.1.0 q.0 e.1.1 q.1
-              (ap (λ (z : Range). z.base) e.1.2 ∙ e.0 ∙ ap (λ (z : Range). z.base) (sym q.2)) ∙ q.2,
-        )
   ]
 
   -- a place is held by a version

@@ -21,7 +21,7 @@ use Rattle.tss_protocol.specs.MainEvent.{main_by, after_call}
 use Rattle.tss_protocol.specs.UnitMachine.{without, after_take, decode_message_taken, ready_message_taken, link_message_taken, after_start, start_task, after_exec, after_finish, bye_message_taken, idle_message_taken}
 use Rattle.tss_control.specs.Readers.{Arrivals}
 use Rattle.tss_control.specs.Control.{HasGroundwork, IsControlled}
-use Rattle.tss_names.proofs.SentLemmas.{after_ready-all, after_link-all, flight_after_finish-all}
+use Rattle.tss_protocol.proofs.SentLemmas.{after_ready-all, after_link-all, flight_after_finish-all}
 use Rattle.tss_names.proofs.HeldEvents.{HoldsNothing, decodes_nothing}
 use Rattle.tss_progress.proofs.progress.Drained.{HaveHolders}
 use Rattle.tss_progress.proofs.progress.Holders.{Holder, Held, sent_nothing}

@@ -19,7 +19,7 @@ use Rattle.tss_protocol.specs.Versions.{Versioned, put_version, ready_with, firs
 use Rattle.tss_protocol.specs.UnitMachine.{without, can_open_message, open_message_taken, use_message_taken, release_message_taken}
 use Rattle.tss_control.specs.Readers.{Arrivals}
 use Rattle.tss_control.specs.Control.{HasGroundwork, IsControlled}
-use Rattle.tss_names.proofs.SentLemmas.{AllSent, AllSent-append}
+use Rattle.tss_protocol.proofs.SentLemmas.{AllSent, AllSent-append}
 use Rattle.tss_names.proofs.PlainLemmas.{name_apart}
 use Rattle.tss_names.proofs.HeldEvents.{HoldsNothing}
 use Rattle.tss_progress.proofs.progress.Drained.{HaveHolders}

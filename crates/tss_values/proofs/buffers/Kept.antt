@@ -17,7 +17,7 @@ use Rattle.tss_names.specs.Held.{IsCopied}
 use Rattle.tss_values.specs.Buffers.{OpenHas, VersionHas, GoneHas, CopyHas, HasBuffer, HasBuffers}
 use Rattle.tss_protocol.proofs.SettleCases.{OthersSettled}
 use Rattle.tss_control.proofs.chains.Settled.{chains_next}
-use Rattle.tss_names.proofs.SentLemmas.{AllSent}
+use Rattle.tss_protocol.proofs.SentLemmas.{AllSent}
 use Rattle.tss_values.proofs.buffers.Settled.{KeepsStorages, IsNoGone, gones_kept, LeavesAll, GivesStorage, TakesStorage, SettlesBuffers, settles_buffers}
 
 -- ---- holders

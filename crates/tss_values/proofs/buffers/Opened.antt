@@ -22,7 +22,7 @@ use Rattle.tss_control.specs.Chains.{HasChains}
 use Rattle.tss_values.specs.Buffers.{HasBuffer, HasBuffers}
 use Rattle.tss_control.specs.Readers.{Arrivals}
 use Rattle.tss_control.specs.Control.{HasGroundwork, IsControlled}
-use Rattle.tss_names.proofs.SentLemmas.{AllSent, posted_all-later, settled-later}
+use Rattle.tss_protocol.proofs.SentLemmas.{AllSent, posted_all-later, settled-later}
 use Rattle.tss_names.proofs.JointLemmas.{posted_all-append}
 use Rattle.tss_names.proofs.PlainLemmas.{still_none}
 use Rattle.tss_names.proofs.HeldEvents.{HoldsNothing, posted_all-nothing}

@@ -22,7 +22,7 @@ use Rattle.tss_phases.proofs.Tests.{both}
 use Rattle.tss_locality.proofs.LeftFields.{Leaves-after_event}
 use Rattle.tss_names.specs.Held.{HasHeldPlaces}
 use Rattle.tss_values.specs.Buffers.{HasBuffer, HasBuffers}
-use Rattle.tss_names.proofs.SentLemmas.{AllSent}
+use Rattle.tss_protocol.proofs.SentLemmas.{AllSent}
 use Rattle.tss_names.proofs.HeldEvents.{HoldsNothing, posted_all-nothing}
 use Rattle.tss_control.proofs.rounds.EntriesQuiet.{IsQuietEvent, quiet_objects}
 use Rattle.tss_values.proofs.buffers.Settled.{KeepsStorages, written_storages}

@@ -16,7 +16,7 @@ use Rattle.tss_control.specs.Chains.{HasChains}
 use Rattle.tss_values.specs.Buffers.{HasBuffers}
 use Rattle.tss_control.specs.Readers.{Arrivals}
 use Rattle.tss_control.specs.Control.{HasGroundwork, IsControlled}
-use Rattle.tss_names.proofs.SentLemmas.{AllSent, AllSent-append, posted_all-later, settled-later}
+use Rattle.tss_protocol.proofs.SentLemmas.{AllSent, AllSent-append, posted_all-later, settled-later}
 use Rattle.tss_names.proofs.JointLemmas.{posted_all-append}
 use Rattle.tss_names.proofs.HeldEvents.{HoldsNothing, posted_all-nothing}
 use Rattle.tss_control.proofs.chains.Alike.{AreAlike}

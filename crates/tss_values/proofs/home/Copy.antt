@@ -19,22 +19,22 @@ use Rattle.tss_phases.proofs.Tests.{something}
 use Rattle.tss_locality.proofs.LeftFields.{Leaves-after_event}
 use Rattle.tss_control.specs.Members.{operand_among}
 use Rattle.tss_control.specs.Readers.{Arrivals}
-use Rattle.tss_control.specs.Entries.{IsGoingHome}
+use Rattle.tss_control.specs.Entries.{IsGoingHome, HasEntryOf}
 use Rattle.tss_control.specs.Control.{HasGroundwork, IsControlled}
 use Rattle.tss_program_order.proofs.FlatWrites.{map_put-beside}
 use Rattle.tss_program_order.proofs.StoreFrames.{length-piece}
-use Rattle.tss_control.proofs.rounds.EntriesNames.{operand_of_object, one_object}
 use Rattle.tss_control.proofs.holders.KeepsOrder.{AreOrderly-controlled}
-use Rattle.tss_values.proofs.Values.{HasReturns, HasHome}
+use Rattle.tss_values.proofs.Values.{HasReturns, HasHome, IsInside}
 use Rattle.tss_values.proofs.returns.Copy.{copy_object}
-use Rattle.tss_values.proofs.home.Kept.{decoded_kept}
-use Rattle.tss_values.proofs.home.Beside.{IsInside, SameByte, LeavesHome, one_inside, home_left}
+use Rattle.tss_values.proofs.home.Kept.{decoded_kept, EntriesStay, stay_absent, later_unclaimed}
+use Rattle.tss_values.proofs.home.Beside.{SameByte, LeavesHome, home_left}
 use Rattle.tss_control.proofs.rounds.Facts.{Facts}
+use Rattle.tss_values.proofs.LiveObjects.{inside_covers, entry_named, one_covered, member_named, going_entry}
 
 module _ (m : Machine) (i : ImageState) (S : State) (facts : Facts m S) (h : HasHome m i facts.ts S) (b : ℕ)
     (c : CopyState) (there : get S.copies b ≡ Some c) (moved : c.moved ≤ c.object.len)
     (after : AreOrderly (after_event m S (event.Copy b))) where
-  open facts use {basis, ts, ground, control as k}
+  open facts use {basis, ts, control as k}
 
   abbrev T : State
   T = after_event m S (event.Copy b)
@@ -60,57 +60,48 @@ module _ (m : Machine) (i : ImageState) (S : State) (facts : Facts m S) (h : Has
       ∙ map_put-beside S.home.bytes (c.object.base + c.moved) (piece_of c bytes) a
       (λ low high. out (omega (arith, low), omega (arith, high, count, moved)))
 
-  operand : (p : Operand) × (operand_among ts c.version ≡ Some p) × (p.object ≡ c.object)
-  operand = operand_of_object ts c.version c.object (copy_object m S basis b c there)
-
   goes_home : (x : Range) → c.object ≡ x → IsGoingHome S x c.version
   goes_home x same = inl (b, c, there, refl, same)
 
   -- the object that is copied has an entry
-  has_entry : get S.entries operand.0.object.base ≡ None → ⊥
-  has_entry none =
-      (k.entries.absent c.version operand.0 operand.1 none).stays c.version
-      (inr (goes_home operand.0.object (sym operand.2)))
+  own_entry : HasEntryOf S c.object
+  own_entry = going_entry m S facts c.version c.object (copy_object m S basis b c there) (goes_home c.object refl)
 
   -- and no version of it is being opened
   none_opens : (o : OpName) (d : OpenContents) → get S.mail.opens o ≡ Some d → d.operand.object ≡ c.object → ⊥
-  none_opens o d at same = by_entry (get S.entries operand.0.object.base) refl
+  none_opens o d at same = by_retiring own_entry.entry.retiring refl
     where
-      by_retiring : (e : Entry) → get S.entries operand.0.object.base ≡ Some e → e.object ≡ c.object → (b : Bool)
-          → e.retiring ≡ b → ⊥
-      by_retiring e found object true on =
-          (k.entries.retiring operand.0.object.base e found on).no_open o (d, at, same ∙ sym object)
-      by_retiring e found object false off =
-          (k.entries.live operand.0.object.base e found off).stays c.version
-          (inr (goes_home e.object (sym object)))
+      by_retiring : (r : Bool) → own_entry.entry.retiring ≡ r → ⊥
+      by_retiring true on =
+          (k.entries.retiring c.object.base own_entry.entry own_entry.there on).no_open o
+          (d, at, same ∙ sym own_entry.object)
+      by_retiring false off =
+          (k.entries.live c.object.base own_entry.entry own_entry.there off).stays c.version
+          (inr (goes_home own_entry.entry.object (sym own_entry.object)))
 
-      by_entry : (x : Option Entry) → get S.entries operand.0.object.base ≡ x → ⊥
-      by_entry None none = has_entry none
-      by_entry (Some e) found =
-          let q = k.entries.operand operand.0.object.base e found in
-          by_retiring e found
-          (sym q.1.2
-          ∙ one_object m S basis k.orderly e.latest c.version q.1.0 operand.0 q.1.1 operand.1
-          (ap (λ (x : Range). x.base) q.1.2 ∙ q.0)
-          ∙ operand.2)
-          e.retiring refl
+  stay : EntriesStay S T
+  stay n e at = (e, ap (λ es. get es n) (λ j. (Leaves-after_event m S (event.Copy b) j).entries) ∙ at, refl)
 
   leaves : LeavesHome ts S T
   leaves = record {
     main = λ j. (Leaves-after_event m S (event.Copy b) j).main;
-    entries = λ n none. ap (λ es. get es n) (sym (λ j. (Leaves-after_event m S (event.Copy b) j).entries)) ∙ none;
+    entries = stay_absent S T stay;
+    unclaimed = later_unclaimed m S (event.Copy b) refl stay;
     opens = λ o d at. ap (λ os. get os o) (sym opens) ∙ at;
     decoded = λ o p at. decoded_kept m S (event.Copy b) refl k.orderly after o;
-    loose = λ a each. beside a (λ inside.
-        has_entry (each c.version operand.0 operand.1 (subst (λ x. IsInside x a) (sym operand.2) inside)));
+    loose = λ a free. beside a (λ inside.
+        free c.object.base own_entry.entry own_entry.there
+        (subst (λ x. IsInside x a) (sym own_entry.object) inside));
     opening = λ o d at first a inside. beside a (λ also.
         none_opens o d at
-        (one_inside S ts ground.round o c.version d.operand operand.0 (k.chains.opens o d at).operand operand.1 a inside
-        (subst (λ x. IsInside x a) (sym operand.2) also) ∙ operand.2));
+        (one_covered m S basis d.operand.object c.object
+        (member_named m S facts o d.operand (k.chains.opens o d at).operand o (inr (d, at, refl)))
+        (entry_named m S basis c.object own_entry) a (inside_covers d.operand.object a inside)
+        (inside_covers c.object a also)));
   }
 
   home_copied : HasHome m i ts T
-  home_copied = home_left m i ts S T ground.round leaves h
+  home_copied = home_left m i S T basis k.orderly leaves h
 
 module _ (m : Machine) (i : ImageState) (S : State) (facts : Facts m S) where
   open facts use {ts}

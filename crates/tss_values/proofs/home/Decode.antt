@@ -13,7 +13,7 @@ use Rattle.tss_base.specs.declared.operand.Task.{Task}
 use Rattle.tss_base.specs.declared.machine.Machine.{Machine}
 use Rattle.tss_base.specs.declared.event.Event.TheVariants as event
 use Rattle.tss_base.specs.Image.{ImageState}
-use Rattle.tss_maps.proofs.Keys.{name_order, nat_order}
+use Rattle.tss_maps.proofs.Keys.{name_order, nat_order, decide_key}
 use Rattle.tss_maps.proofs.Changes.{at_inserted, beside_inserted, from_inserted, decide_get}
 use Rattle.tss_model.specs.Memory.{bytes_of}
 use Rattle.tss_protocol.specs.Names.{bank_of}
@@ -22,11 +22,11 @@ use Rattle.tss_protocol.specs.Renaming.{HasTurn, entry_after_decode, live_messag
 use Rattle.tss_protocol.specs.UnitMachine.{is_enabled, IsEnabled, after_event, without, can_decode_message, decode_message_taken}
 use Rattle.tss_protocol.specs.State.{State, Entry}
 use Rattle.tss_protocol.proofs.TurnLemmas.{decode_in_turn}
-use Rattle.tss_phases.specs.Phase.{is_ahead, is_decoded, look_ups, phase_of}
+use Rattle.tss_phases.specs.Phase.{is_ahead, is_decoded, look_ups, phase_of, LookUps}
 use Rattle.tss_phases.specs.Orderly.{AreOrderly}
 use Rattle.tss_names.specs.Tasks.{IsTaken}
 use Rattle.tss_control.specs.Members.{operand_among}
-use Rattle.tss_phases.proofs.DecodeEvent.{decoding_before, phase_of-decode, phase_of-decode-other}
+use Rattle.tss_phases.proofs.DecodeEvent.{decoding_before, phase_of-decode, phase_of-decode-other, look_ups-decode-other}
 use Rattle.tss_phases.proofs.Tests.{something}
 use Rattle.tss_locality.proofs.LeftFields.{Leaves-after_event}
 use Rattle.tss_control.specs.Readers.{Arrivals}
@@ -35,8 +35,10 @@ use Rattle.tss_control.specs.Control.{HasGroundwork, IsControlled}
 use Rattle.tss_names.proofs.NumberLemmas.{number_within}
 use Rattle.tss_control.proofs.rounds.DecodeFacts.{earlier_decoded}
 use Rattle.tss_control.proofs.rounds.EntriesNames.{decode_among}
-use Rattle.tss_values.proofs.Values.{Starts, bytes_before, IsFirstAhead, HasHome}
+use Rattle.tss_values.proofs.Values.{Starts, bytes_before, IsFirstAhead, HasHome, IsInside, IsUnclaimed}
 use Rattle.tss_control.proofs.rounds.Facts.{Basis, Facts}
+use Rattle.tss_locality.proofs.EntryChanges.{decoded_object}
+use Rattle.tss_locality.proofs.RoundObjects.{finds_own}
 
 below_or_same : (a b : ℕ) → (b < a) ⊎ (a ≤ b)
 below_or_same a b = grind arith
@@ -71,7 +73,7 @@ module _ (m : Machine) (S : State) (basis : Basis m S) (orderly : AreOrderly S) 
 module _ (m : Machine) (i : ImageState) (S : State) (basis : Basis m S) (orderly : AreOrderly S)
     (values : HasHome m i basis.ts S) (o : OpName) (p : Operand) (there : get S.mail.decodes o ≡ Some p)
     (turn : HasTurn m.sizes S.mail.decodes o p) where
-  open basis use {ts}
+  open basis use {ts, ground}
 
   abbrev T : State
   T = after_event m S (event.Decode o)
@@ -153,6 +155,48 @@ module _ (m : Machine) (i : ImageState) (S : State) (basis : Basis m S) (orderly
             f.first a b at same (other_decoded a other ∙ early);
       }
 
+  -- the entry is of the operand's object
+  own_object : (e : Option Entry) → get S.entries base ≡ e → (entry_after_decode o p e).object ≡ p.object
+  own_object None none = decoded_object o p None
+  own_object (Some e) at = decoded_object o p (Some e) ∙ finds_own S ts ground.round o p e there at
+
+  own_entry : get T.entries base ≡ Some (entry_after_decode o p (get S.entries base))
+  own_entry =
+      ap (λ es. get es base) entries_after
+      ∙ at_inserted nat_order S.entries base (entry_after_decode o p (get S.entries base))
+
+  -- another decode is left
+  decode_left : (q : OpName) → q ≢ o → get T.mail.decodes q ≡ get S.mail.decodes q
+  decode_left q apart = ap (λ (l : LookUps). l.decoding) (look_ups-decode-other m S o p there q apart)
+
+  -- nobody claims less: the operand's claim is now its entry's
+  was_unclaimed : (a : ℕ) → IsUnclaimed T a → IsUnclaimed S a
+  was_unclaimed a free = record {
+    entered = λ b e at inside. elim (decide_key nat_order b base) [
+      | inl same ↦
+          let is = finds_own S ts ground.round o p e there (ap (get S.entries) (sym same) ∙ at) in
+          own_free (subst (λ x. IsInside x a) is inside)
+      | inr other ↦
+          free.entered b e
+          (ap (λ es. get es b) entries_after
+          ∙ beside_inserted nat_order S.entries base (entry_after_decode o p (get S.entries base)) b other
+          ∙ at) inside
+    ];
+    arriving = λ t at j r of inside.
+        free.arriving t ((λ j. (Leaves-after_event m S (event.Decode o) j).inbox) ∙ at) j r of inside;
+    decoding = λ q r at inside. elim (decide_key name_order q o) [
+      | inl same ↦
+          let is = same_Some r p (sym at ∙ ap (get S.mail.decodes) same ∙ there) in
+          own_free (subst (λ (r : Operand). IsInside r.object a) is inside)
+      | inr apart ↦ free.decoding q r (decode_left q apart ∙ at) inside
+    ];
+  }
+    where
+      own_free : IsInside p.object a → ⊥
+      own_free inside =
+          free.entered base (entry_after_decode o p (get S.entries base)) own_entry
+          (subst (λ x. IsInside x a) (sym (own_object (get S.entries base) refl)) inside)
+
   home_decoded : HasHome m i ts T
   home_decoded =
       let home : T.home ≡ S.home = λ j. (Leaves-after_event m S (event.Decode o) j).home in
@@ -161,15 +205,9 @@ module _ (m : Machine) (i : ImageState) (S : State) (basis : Basis m S) (orderly
         ahead = λ x q r s none first starts.
             let b = absent_before x.base none in
             ap (λ h. bytes_of h x) home ∙ values.ahead x q r s b.1 (first_before x q r b.0 first) starts;
-        beside = λ a e each.
+        beside = λ a e free.
             ap (λ h. get h.bytes a) home
-            ∙ values.beside a (sym main ∙ e ∙ ap (λ c. (flat_beside i m.limits c).main) main)
-            (λ q r at within.
-            let k = each q r at within in
-            let b = absent_before r.object.base k.0 in
-            let apart : q ≢ o = λ same.
-            b.0 (ap (λ (p : Operand). p.object.base) (same_Some r p (sym at ∙ ap (operand_among ts) same ∙ among))) in
-            (b.1, sym (other_decoded q apart) ∙ k.1))
+            ∙ values.beside a (sym main ∙ e ∙ ap (λ c. (flat_beside i m.limits c).main) main) (was_unclaimed a free)
             ∙ ap (λ c. get (flat_beside i m.limits c).memory.bytes a) (sym main);
         opening = λ q c s at first reads starts. ap (λ h. bytes_of h c.operand.object) home
             ∙ (elim (opens_after q c at) [

@@ -1,7 +1,7 @@
 -- What stands at home stays right after each event that leaves it: all but those of main, decode, start, exec, copy and
 -- gone.
-use Rattle.std.proofs.Common.{◌≡◌, ℕ, Bool, true, false, List, Option, Some, None, refl, sym, ap, ◌∙◌, inl, inr}
-use Rattle.std.specs.Prelude.{slice_get}
+use Rattle.std.proofs.Common.{◌≡◌, ℕ, Bool, true, false, List, Option, Some, None, refl, sym, ap, ◌∙◌, inl, inr, arith}
+use Rattle.std.specs.Prelude.{slice_get, ◌||◌, nat_lt}
 use Rattle.std.specs.FinMap.{get}
 use Rattle.std.proofs.lemmas.Option.{none-some, same_Some}
 use Rattle.tss_base.specs.declared.operand.OpName.{OpName}
@@ -19,8 +19,8 @@ use Rattle.tss_protocol.specs.Renaming.{may_retire, retiring_entry, idle_by, aft
 use Rattle.tss_protocol.specs.Versions.{after_open, after_use, after_release, after_nack}
 use Rattle.tss_protocol.specs.Buffers.{sent_by_retire}
 use Rattle.tss_protocol.specs.UnitMachine.{is_enabled, IsEnabled, after_event, without, can_take, open_message_taken, use_message_taken, release_message_taken, idle_message_taken, retire_version}
-use Rattle.tss_phases.specs.Phase.{is_decoded, phase_of}
-use Rattle.tss_phases.proofs.TakeEvent.{inbox_is_ahead, phase_of-take, phase_of-take-other}
+use Rattle.tss_phases.specs.Phase.{is_decoded, phase_of, LookUps}
+use Rattle.tss_phases.proofs.TakeEvent.{inbox_is_ahead, phase_of-take, phase_of-take-other, look_ups-take, look_ups-take-other, decodes_own}
 use Rattle.tss_phases.proofs.OrderlyLemmas.{ahead_by_test}
 use Rattle.tss_phases.proofs.QuietEvents.{phase_of-ack}
 use Rattle.tss_phases.proofs.Tests.{something}
@@ -31,13 +31,15 @@ use Rattle.tss_names.specs.Tasks.{task_at}
 use Rattle.tss_control.specs.Members.{operand_among}
 use Rattle.tss_control.specs.Readers.{Arrivals}
 use Rattle.tss_control.specs.Control.{HasGroundwork, IsControlled}
-use Rattle.tss_names.proofs.FrontLemmas.{is_of_front}
-use Rattle.tss_names.proofs.SentLemmas.{posted_all-later, after_open-later, after_use-later, after_release-later, after_nack-later, after_idle-later, sent_by_retire-later}
+use Rattle.tss_protocol.proofs.FrontLemmas.{is_of_front}
+use Rattle.tss_protocol.proofs.SentLemmas.{posted_all-later, after_open-later, after_use-later, after_release-later, after_nack-later, after_idle-later, sent_by_retire-later}
 use Rattle.tss_control.proofs.rounds.EntriesQuiet.{quiet_objects}
-use Rattle.tss_values.proofs.Values.{HasHome}
+use Rattle.tss_values.proofs.Values.{HasHome, IsUnclaimed}
 use Rattle.tss_control.proofs.holders.KeepsOrder.{AreOrderly-controlled}
-use Rattle.tss_values.proofs.home.Kept.{home_kept, decoded_kept}
+use Rattle.tss_values.proofs.home.Kept.{home_kept, decoded_kept, EntriesStay, stay_absent, stay_loose, stay_unclaimed, later_unclaimed}
 use Rattle.tss_control.proofs.rounds.Facts.{Facts}
+use Rattle.tss_protocol.specs.Names.{operand_name}
+use Rattle.tss_protocol.specs.Stations.{operand_at, flight_after_take}
 
 -- opens that are under way were so before
 abbrev pub NoMoreOpens : Mail → Mail → Type 0
@@ -88,27 +90,31 @@ module _ (m : Machine) (S : State) where
 
   -- ---- entries after an idle
 
-  retiring_there : (b : ℕ) (e : Option Entry) (q : ℕ) → get (retiring_entry S.entries b e) q ≡ None
-      → get S.entries q ≡ None
-  retiring_there b None q at = at
-  retiring_there b (Some e) q at = elim (decide_key nat_order q b) [
-    | inl same ↦
-        absurd (none-some (record e { retiring = true })
-        (sym at ∙ ap (get (retiring_entry S.entries b (Some e))) same
-        ∙ at_inserted nat_order S.entries b (record e { retiring = true })))
-    | inr apart ↦ sym (beside_inserted nat_order S.entries b (record e { retiring = true }) q apart) ∙ at
+  retiring_stay : (b : ℕ) (e : Option Entry) → get S.entries b ≡ e → (q : ℕ) (x : Entry) → get S.entries q ≡ Some x
+      → (f : Entry) × (get (retiring_entry S.entries b e) q ≡ Some f) × (f.object ≡ x.object)
+  retiring_stay b None is q x at = (x, at, refl)
+  retiring_stay b (Some e) is q x at = elim (decide_key nat_order q b) [
+    | inl same ↦ (
+      record e { retiring = true },
+      ap (get (retiring_entry S.entries b (Some e))) same
+          ∙ at_inserted nat_order S.entries b (record e { retiring = true }),
+      ap (λ (e : Entry). e.object) (same_Some e x (sym is ∙ ap (get S.entries) (sym same) ∙ at)),
+    )
+    | inr apart ↦
+        (x, beside_inserted nat_order S.entries b (record e { retiring = true }) q apart ∙ at, refl)
   ]
 
-  idle_there : (v : OpName) (b count : ℕ) (e : Option Entry) (may : Bool) (q : ℕ)
-      → get (idle_by S.entries v b e may).part q ≡ None → get S.entries q ≡ None
-  idle_there v b count e true q at = retiring_there b e q at
-  idle_there v b count e false q at = at
+  idle_stay : (v : OpName) (b : ℕ) (e : Option Entry) → get S.entries b ≡ e → (may : Bool) (q : ℕ) (x : Entry)
+      → get S.entries q ≡ Some x
+      → (f : Entry) × (get (idle_by S.entries v b e may).part q ≡ Some f) × (f.object ≡ x.object)
+  idle_stay v b e is true q x at = retiring_stay b e is q x at
+  idle_stay v b e is false q x at = (x, at, refl)
 
-  entries-idle : (v : OpName) (i : Option IdleContents) (q : ℕ)
-      → get (idle_message_taken (without S (event.Idle v)) v i).entries q ≡ None → get S.entries q ≡ None
-  entries-idle v None q at = at
-  entries-idle v (Some i) q at =
-      idle_there v i.base i.count (get S.entries i.base) (may_retire v i.count (get S.entries i.base)) q at
+  entries-idle : (v : OpName) (i : Option IdleContents)
+      → EntriesStay S (idle_message_taken (without S (event.Idle v)) v i)
+  entries-idle v None q x at = (x, at, refl)
+  entries-idle v (Some i) q x at =
+      idle_stay v i.base (get S.entries i.base) refl (may_retire v i.count (get S.entries i.base)) q x at
 
   opens-nack : (v : OpName) → (after_event m S (event.Nack v)).mail.opens ≡ S.mail.opens
   unfolding after_event
@@ -136,9 +142,9 @@ module _ (m : Machine) (S : State) where
   unfolding after_event
   more-retire v = same_opens S.mail (after_event m S (event.Retire v)).mail (opens-retire v (get S.versions v))
 
-  fewer-idle : (v : OpName) (b : ℕ) → get (after_event m S (event.Idle v)).entries b ≡ None → get S.entries b ≡ None
+  stay-idle : (v : OpName) → EntriesStay S (after_event m S (event.Idle v))
   unfolding after_event
-  fewer-idle v b = entries-idle v (get S.mail.idles v) b
+  stay-idle v = entries-idle v (get S.mail.idles v)
 
 -- ---- the events
 
@@ -148,20 +154,21 @@ module _ (m : Machine) (i : ImageState) (S : State) (facts : Facts m S) (values 
   -- one behind the gateway
   by_later : (e : Event) → IsEnabled m S e → is_of_front e ≡ false → (after_event m S e).home ≡ S.home
       → (after_event m S e).main ≡ S.main
-      → ((b : ℕ) → get (after_event m S e).entries b ≡ None → get S.entries b ≡ None)
-      → NoMoreOpens S.mail (after_event m S e).mail → HasHome m i ts (after_event m S e)
+      → EntriesStay S (after_event m S e) → NoMoreOpens S.mail (after_event m S e).mail
+      → HasHome m i ts (after_event m S e)
   by_later e on later home main entries opens =
       home_kept m i ts S (after_event m S e) (record {
         home = home;
         main = main;
-        entries = entries;
+        entries = stay_absent S (after_event m S e) entries;
+        unclaimed = later_unclaimed m S e later entries;
         opens = opens;
         decoded = λ o p at.
             decoded_kept m S e later h.orderly (AreOrderly-controlled m S facts e on) o;
       }) values
 
-  same_entries : (T : State) → T.entries ≡ S.entries → (b : ℕ) → get T.entries b ≡ None → get S.entries b ≡ None
-  same_entries T e b at = ap (λ es. get es b) (sym e) ∙ at
+  same_entries : (T : State) → T.entries ≡ S.entries → EntriesStay S T
+  same_entries T e b x at = (x, ap (λ es. get es b) e ∙ at, refl)
 
   -- open
   pub HasHome-open : (o : OpName) → IsEnabled m S (event.Open o)
@@ -210,7 +217,7 @@ module _ (m : Machine) (i : ImageState) (S : State) (facts : Facts m S) (values 
   HasHome-idle v on =
       let e = event.Idle v in
       by_later e on refl (λ j. (Leaves-after_event m S e j).home) (λ j. (Leaves-after_event m S e j).main)
-      (fewer-idle m S v) (more-idle m S v)
+      (stay-idle m S v) (more-idle m S v)
 
   -- ready
   pub HasHome-ready : (o : OpName) → IsEnabled m S (event.Ready o)
@@ -248,6 +255,10 @@ module _ (m : Machine) (i : ImageState) (S : State) (facts : Facts m S) (values 
       (same_entries (after_event m S e) (λ j. (Leaves-after_event m S e j).entries))
       (same_opens S.mail (after_event m S e).mail (quiet_objects m S e tt).opens)
 
+  decodes-ack : (o : OpName) → (after_event m S (event.Ack o)).mail.decodes ≡ S.mail.decodes
+  unfolding after_event
+  decodes-ack o = refl
+
   -- ack
   pub HasHome-ack : (o : OpName) → HasHome m i ts (after_event m S (event.Ack o))
   HasHome-ack o =
@@ -255,7 +266,13 @@ module _ (m : Machine) (i : ImageState) (S : State) (facts : Facts m S) (values 
       home_kept m i ts S (after_event m S e) (record {
         home = λ j. (Leaves-after_event m S e j).home;
         main = λ j. (Leaves-after_event m S e j).main;
-        entries = same_entries (after_event m S e) (λ j. (Leaves-after_event m S e j).entries);
+        entries =
+            stay_absent S (after_event m S e)
+            (same_entries (after_event m S e) (λ j. (Leaves-after_event m S e j).entries));
+        unclaimed =
+            stay_unclaimed S (after_event m S e)
+            (same_entries (after_event m S e) (λ j. (Leaves-after_event m S e j).entries))
+            (λ j. (Leaves-after_event m S e j).inbox) (decodes-ack o);
         opens = same_opens S.mail (after_event m S e).mail (quiet_objects m S e tt).opens;
         decoded = λ q p at. ap is_decoded (phase_of-ack m S o q);
       }) values
@@ -276,13 +293,54 @@ module _ (m : Machine) (i : ImageState) (S : State) (facts : Facts m S) (values 
         (ahead_by_test (look_ups S o) (h.orderly o) (inbox_is_ahead m S t inbox o same)))
   ]
 
+  -- each operand of the task is to be decoded
+  taken_decode : (t : Task) → S.inbox ≡ Some t → (o : OpName) (p : Operand) → o.task ≡ t.number
+      → slice_get (operands_of t) o.place ≡ Some p → get (after_event m S event.Take).mail.decodes o ≡ Some p
+  taken_decode t inbox o p number at =
+      let l : LookUps = record (look_ups S o) {
+        station = operand_at (flight_after_take S.flight t) o;
+        ahead = nat_lt S.main.spawned o.task || false;
+      } in
+      ap (λ (l : LookUps). l.decoding)
+      (look_ups-take m S t inbox o ∙ decodes_own t.number 0 (operands_of t) o.place p o l at number (omega arith))
+
+  -- and what was to be decoded still is
+  still_decode : (t : Task) → S.inbox ≡ Some t → (o : OpName) (p : Operand) → get S.mail.decodes o ≡ Some p
+      → get (after_event m S event.Take).mail.decodes o ≡ Some p
+  still_decode t inbox o p there = elim (decide_key nat_order o.task t.number) [
+    | inr other ↦ ap (λ (l : LookUps). l.decoding) (look_ups-take-other m S t inbox o other) ∙ there
+    | inl same ↦
+        let k = (ground.gateway.decodes o p there).2 in
+        let is = same_Some k.task t (sym k.spawned ∙ ap (task_at all) same ∙ (ground.numbers.inbox t inbox).task) in
+        taken_decode t inbox o p same (ap (λ t. slice_get (operands_of t) o.place) (sym is) ∙ k.place)
+  ]
+
+  taken_unclaimed : (t : Task) → S.inbox ≡ Some t → (a : ℕ) → IsUnclaimed (after_event m S event.Take) a
+      → IsUnclaimed S a
+  taken_unclaimed t inbox a free =
+      let e : Event = event.Take in
+      record {
+        entered =
+            stay_loose S (after_event m S e)
+            (same_entries (after_event m S e) (λ j. (Leaves-after_event m S e j).entries)) a free.entered;
+        arriving = λ u there j p at inside.
+            let is = same_Some u t (sym there ∙ inbox) in
+            free.decoding (operand_name t.number j) p
+            (taken_decode t inbox (operand_name t.number j) p refl
+            (ap (λ u. slice_get (operands_of u) j) (sym is) ∙ at)) inside;
+        decoding = λ o p at inside. free.decoding o p (still_decode t inbox o p at) inside;
+      }
+
   taken_home : (t : Task) → S.inbox ≡ Some t → HasHome m i ts (after_event m S event.Take)
   taken_home t inbox =
       let e : Event = event.Take in
       home_kept m i ts S (after_event m S e) (record {
         home = λ j. (Leaves-after_event m S e j).home;
         main = λ j. (Leaves-after_event m S e j).main;
-        entries = same_entries (after_event m S e) (λ j. (Leaves-after_event m S e j).entries);
+        entries =
+            stay_absent S (after_event m S e)
+            (same_entries (after_event m S e) (λ j. (Leaves-after_event m S e j).entries));
+        unclaimed = taken_unclaimed t inbox;
         opens = same_opens S.mail (after_event m S e).mail (quiet_objects m S e tt).opens;
         decoded = taken_decoded t inbox;
       }) values

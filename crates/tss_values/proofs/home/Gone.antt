@@ -17,7 +17,7 @@ use Rattle.tss_model.specs.Memory.{bytes_of}
 use Rattle.tss_model.specs.MainStep.{MainState, Flat}
 use Rattle.tss_model.specs.InOrder.{Started, flat_stepped, end_of_started}
 use Rattle.tss_protocol.specs.Mail.{GoneContents}
-use Rattle.tss_protocol.specs.State.{State}
+use Rattle.tss_protocol.specs.State.{State, Entry}
 use Rattle.tss_protocol.specs.UnitMachine.{IsEnabled, is_enabled, after_event, without, gone_message_taken}
 use Rattle.tss_phases.specs.Phase.{phase_of, is_decoded}
 use Rattle.tss_phases.specs.Orderly.{AreOrderly}
@@ -31,18 +31,20 @@ use Rattle.tss_program_order.proofs.FlatNumbers.{number_there}
 use Rattle.tss_program_order.proofs.FlatOrder.{trapped_next, started_at-by, flat_stepped-ended}
 use Rattle.tss_names.proofs.NumberLemmas.{number_within}
 use Rattle.tss_control.proofs.rounds.Spawned.{of_spawned}
-use Rattle.tss_control.proofs.rounds.EntriesNames.{one_object, name_decoded}
+use Rattle.tss_control.proofs.rounds.EntriesNames.{name_decoded}
 use Rattle.tss_control.proofs.entries.Gone.{GoneEntry, gone_entries, gone_entry}
 use Rattle.tss_control.proofs.holders.KeepsOrder.{AreOrderly-controlled}
 use Rattle.tss_values.proofs.home.Bytes.{HasBytes, HasBytes-in_order, HavePlacedObjects, object_loaded}
 use Rattle.tss_values.proofs.MainEndings.{EndsItself, no_task_trap}
 use Rattle.tss_values.proofs.NamingLemmas.{found_last}
-use Rattle.tss_values.proofs.FindsLeft.{finds_left}
-use Rattle.tss_values.proofs.Values.{Starts, RunsOut, IsGood, bytes_before, bytes_after, HasReturns, IsFirstAhead, HasHome, HasMain, HasNaming}
-use Rattle.tss_values.proofs.home.Kept.{home_kept, decoded_kept}
-use Rattle.tss_values.proofs.home.Beside.{IsInside}
-use Rattle.tss_values.proofs.UndecodedOperands.{byte_of, there_same, decide_inside, decoded_older}
+use Rattle.tss_values.proofs.Values.{Starts, RunsOut, IsGood, bytes_before, bytes_after, HasReturns, IsFirstAhead, HasHome, HasMain, HasNaming, IsInside, IsLive, IsUnclaimed}
+use Rattle.tss_values.proofs.home.Kept.{home_kept, decoded_kept, EntriesStay, stay_absent, later_unclaimed}
+use Rattle.tss_values.proofs.UndecodedOperands.{byte_of, there_same, decide_inside, decoded_older, undecoded_at}
 use Rattle.tss_control.proofs.rounds.Facts.{Facts}
+use Rattle.tss_values.proofs.LiveObjects.{undecoded_named, one_based, live_named}
+use Rattle.tss_protocol.proofs.FrontLemmas.{KeepsFront-after_event}
+use Rattle.std.proofs.lemmas.Option.{same_Some}
+use Rattle.tss_values.proofs.FindsLeft.{found_left}
 
 -- ---- the event
 
@@ -70,14 +72,17 @@ module _ (m : Machine) (i : ImageState) (S : State) (facts : Facts m S) (main : 
 
   -- ---- a version that has died
 
+  stay_died : d.retired ≡ false → EntriesStay S T
+  stay_died died b e at =
+      (e, ap (λ es. get es b) (gone_entries m S basis k.orderly k.chains k.entries v d there false died) ∙ at, refl)
+
   home_died : d.retired ≡ false → HasHome m i ts T
   home_died died =
       home_kept m i ts S T (record {
         home = home;
         main = same_main;
-        entries = λ b none.
-            ap (λ es. get es b)
-            (sym (gone_entries m S basis k.orderly k.chains k.entries v d there false died)) ∙ none;
+        entries = stay_absent S T (stay_died died);
+        unclaimed = later_unclaimed m S (event.Gone v) refl (stay_died died);
         opens = λ o c at. ap (λ os. get os o) (sym opens) ∙ at;
         decoded = λ o p at. decoded o;
       }) h
@@ -115,29 +120,34 @@ module _ (m : Machine) (i : ImageState) (S : State) (facts : Facts m S) (main : 
           ∙ ap (λ es. get es b) (sym entries) ∙ none)
     ]
 
-    own_object : (o : OpName) (p : Operand) → operand_among ts o ≡ Some p → p.object.base ≡ d.object.base
-        → e.operand.object ≡ p.object
-    own_object o p among same =
-        one_object m S basis k.orderly v o e.operand p e.among among
-        (ap (λ (x : Range). x.base) e.on ∙ sym same)
+    -- it is the latest of its object
+    live : IsLive S v e.operand.object
+    live = subst (IsLive S v) (sym e.on) (inr (inr (e.entry, e.there, sym e.latest, e.object)))
+
+    -- an operand that isn't decoded is on it, where its object has the same base
+    own_object : (o : OpName) (p : Operand) → operand_among ts o ≡ Some p → is_decoded (phase_of S o) ≡ false
+        → p.object.base ≡ d.object.base → e.operand.object ≡ p.object
+    own_object o p among early same =
+        one_based m S basis e.operand.object p.object (live_named m S facts v e.operand e.among live)
+        (undecoded_named m S basis k.orderly o p among early) (ap (λ (x : Range). x.base) e.on ∙ sym same)
 
     -- the next operand on it finds it
     next_ahead : (o : OpName) (p : Operand) (s : Started) → IsFirstAhead ts S p.object o p
         → p.object.base ≡ d.object.base → Starts m i o.task s → bytes_of S.home p.object ≡ bytes_before s p
     next_ahead o p s first base starts =
-        let same = own_object o p first.operand base in
+        let same = own_object o p first.operand first.ahead base in
         let less = decoded_older m S basis k.orderly v o e.operand p e.among first.operand same v_decoded
         first.ahead in
         let none : NoWriterBetween ts p.object v o = λ w behind before writer.
         none_between w behind before writer (is_decoded (phase_of S w)) refl in
-        let f = finds_left m i S basis main naming v o e.operand p s e.among
+        let f = found_left m i S basis main naming v o e.operand p s e.among live
         (record { operand = first.operand; starts = starts }) same less none in
         ap (bytes_of S.home) (sym same ∙ e.on) ∙ left_home f.0 f.1 f.2 ∙ f.3
       where
         none_between : (w : OpName) → v.task < w.task → w.task < o.task → IsWriterOn ts p.object w → (b : Bool)
             → is_decoded (phase_of S w) ≡ b → ⊥
         none_between w behind before writer true done =
-            let same = own_object o p first.operand base in
+            let same = own_object o p first.operand first.ahead base in
             let late = latest w (subst (λ x. IsWriterOn ts x w) (sym same ∙ e.on) writer) done in
             omega (arith, late, behind)
         none_between w behind before writer false early =
@@ -180,12 +190,11 @@ module _ (m : Machine) (i : ImageState) (S : State) (facts : Facts m S) (main : 
       -- where all operands on it are decoded it is main's
       last_beside : (a : ℕ) → IsInside d.object a
           → ((o : OpName) (p : Operand) → operand_among ts o ≡ Some p → IsInside p.object a
-          → is_decoded (phase_of S o) ≡ true)
-          → get S.home.bytes a ≡ get (flat_beside i m.limits S.main).memory.bytes a
+          → is_decoded (phase_of S o) ≡ true) → get S.home.bytes a ≡ get (flat_beside i m.limits S.main).memory.bytes a
       last_beside a inside each =
           let on = subst (λ x. IsInside x a) (sym e.on) inside in
           let loaded = object_loaded i all ts ground.known placed v e.operand a e.among on in
-          let there = found_last m i S basis main naming v e.operand started.0 e.among same
+          let there = found_last m i S basis main naming v e.operand started.0 e.among live same
           (λ w behind before writer.
           let inside_w = subst (λ x. IsInside x a) (sym writer.object) on in
           let late = latest w (subst (λ x. IsWriterOn ts x w) e.on writer)
@@ -212,11 +221,10 @@ module _ (m : Machine) (i : ImageState) (S : State) (facts : Facts m S) (main : 
             first = λ q r at on early. first.first q r at on (decoded q ∙ early);
           } in
           ap (λ b. bytes_of b x) home ∙ ahead_by x o p s before starts (from_absent x.base none);
-      beside = λ a is each.
+      beside = λ a is free.
           let same = sym same_main ∙ is ∙ ap (λ c. (flat_beside i m.limits c).main) same_main in
           ap (λ b. get b.bytes a) home
-          ∙ beside_by a same (λ o p at within. let q = each o p at within in (q.0, sym (decoded o) ∙ q.1))
-          (decide_inside d.object a)
+          ∙ beside_by a same free (decide_inside d.object a)
           ∙ ap (λ c. get (flat_beside i m.limits c).memory.bytes a) (sym same_main);
       opening = λ o c s at first reads starts.
           ap (λ b. bytes_of b c.operand.object) home
@@ -232,21 +240,44 @@ module _ (m : Machine) (i : ImageState) (S : State) (facts : Facts m S) (main : 
             ∙ next_ahead o p s (subst (λ x. IsFirstAhead ts S x o p) (sym first.object) first)
             (ap (λ (x : Range). x.base) first.object ∙ base) starts
 
-        beside_by : (a : ℕ) → S.main ≡ (flat_beside i m.limits S.main).main
-            → ((o : OpName) (p : Operand) → operand_among ts o ≡ Some p → IsInside p.object a
-            → (get T.entries p.object.base ≡ None) × (is_decoded (phase_of S o) ≡ true))
+        inbox : T.inbox ≡ S.inbox
+        inbox = λ j. ((KeepsFront-after_event m S (event.Gone v) refl).front j).inbox
+
+        decodes : T.mail.decodes ≡ S.mail.decodes
+        decodes = λ j. ((KeepsFront-after_event m S (event.Gone v) refl).front j).decodes
+
+        -- an operand at an address that nobody claims is decoded
+        free_decoded : (a : ℕ) → IsUnclaimed T a → (o : OpName) (p : Operand) → operand_among ts o ≡ Some p
+            → IsInside p.object a → (b : Bool) → is_decoded (phase_of S o) ≡ b → is_decoded (phase_of S o) ≡ true
+        free_decoded a free o p among within true done = done
+        free_decoded a free o p among within false early =
+            elim (undecoded_at m S basis k.orderly o p among early) [
+              | inl x ↦ absurd (free.arriving x.0 (inbox ∙ x.1) o.place p x.2 within)
+              | inr sent ↦ absurd (free.decoding o p (ap (λ ds. get ds o) decodes ∙ sent) within)
+            ]
+
+        -- beside the object nobody claimed the address before
+        was_unclaimed : (a : ℕ) → IsUnclaimed T a → (IsInside d.object a → ⊥) → IsUnclaimed S a
+        was_unclaimed a free out = record {
+          entered = λ b x at within. elim (decide_key nat_order b d.object.base) [
+            | inl same ↦
+                let is = same_Some x e.entry (sym at ∙ ap (get S.entries) same ∙ e.there) in
+                out (subst (λ x. IsInside x a) (ap (λ (e : Entry). e.object) is ∙ e.object) within)
+            | inr other ↦
+                free.entered b x
+                (ap (λ es. get es b) entries ∙ beside_removed nat_order S.entries d.object.base b other ∙ at) within
+          ];
+          arriving = λ t at j p of within. free.arriving t (inbox ∙ at) j p of within;
+          decoding = λ o p at within. free.decoding o p (ap (λ ds. get ds o) decodes ∙ at) within;
+        }
+
+        beside_by : (a : ℕ) → S.main ≡ (flat_beside i m.limits S.main).main → IsUnclaimed T a
             → IsInside d.object a ⊎ (IsInside d.object a → ⊥)
             → get S.home.bytes a ≡ get (flat_beside i m.limits S.main).memory.bytes a
-        beside_by a same each (inl inside) =
-            last_beside same bytes placed own a inside (λ o p at within. (each o p at within).1)
-        beside_by a same each (inr out) =
-            h.beside a same (λ o p at within.
-            let q = each o p at within in
-            elim (from_absent p.object.base q.0) [
-              | inl base ↦
-                  absurd (out (subst (λ x. IsInside x a) (sym (own_object o p at base) ∙ e.on) within))
-              | inr none ↦ (none, q.1)
-            ])
+        beside_by a same free (inl inside) =
+            last_beside same bytes placed own a inside (λ o p at within.
+            free_decoded a free o p at within (is_decoded (phase_of S o)) refl)
+        beside_by a same free (inr out) = h.beside a same (was_unclaimed a free out)
 
   home_by : (b : Bool) → d.retired ≡ b → HasBytes i S.home → HavePlacedObjects i all → EndsItself S.main
       → HasHome m i ts T

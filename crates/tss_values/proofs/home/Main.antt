@@ -16,15 +16,14 @@ use Rattle.tss_model.specs.Memory.{Memory, covers, byte_at, bytes_of}
 use Rattle.tss_model.specs.Access.{operands_of}
 use Rattle.tss_model.specs.MainStep.{MainState}
 use Rattle.tss_model.specs.InOrder.{Started, flat_stepped}
-use Rattle.tss_protocol.specs.Names.{operand_name}
 use Rattle.tss_protocol.specs.Mail.{Mail}
 use Rattle.tss_protocol.specs.State.{State}
-use Rattle.tss_protocol.specs.MainEvent.{call_next, is_drained}
-use Rattle.tss_protocol.specs.Needs.{is_in_inbox, round_after_event}
+use Rattle.tss_protocol.specs.MainEvent.{call_next}
+use Rattle.tss_protocol.specs.Needs.{round_after_event}
 use Rattle.tss_protocol.specs.UnitMachine.{IsEnabled, after_event}
 use Rattle.tss_phases.specs.Phase.{is_decoded, phase_of}
 use Rattle.tss_phases.proofs.MainEvent.{phase_of-main}
-use Rattle.tss_locality.specs.Rounds.{IsRounded}
+use Rattle.tss_locality.specs.Rounds.{IsRounded, IsIn}
 use Rattle.tss_locality.proofs.Subjects.{arrival_task}
 use Rattle.tss_locality.proofs.RunRounds.{IsRounded-after_event}
 use Rattle.tss_control.specs.Members.{operand_among}
@@ -38,20 +37,22 @@ use Rattle.tss_program_order.proofs.FlatPieces.{NoneAfter}
 use Rattle.tss_program_order.proofs.FlatStarts.{started-number}
 use Rattle.tss_program_order.proofs.RunKeeps.{HasGround}
 use Rattle.tss_program_order.proofs.MainEvent.{main_on-enabled, follows_main, main_rises, cut_off_rises}
-use Rattle.tss_control.proofs.rounds.Spawned.{operand_among-more, from_operand_among, of_spawned, decoded_spawned}
-use Rattle.tss_control.proofs.GroundworkEmpty.{IsBare, IsBare-drained}
+use Rattle.tss_control.proofs.rounds.Spawned.{operand_among-more, from_operand_among, of_spawned}
 use Rattle.tss_control.proofs.GroundworkMain.{KeepsControl, kept_main}
 use Rattle.tss_values.proofs.MainEndings.{EndsItself, own_main}
 use Rattle.tss_names.proofs.ListLemmas.{from_any}
-use Rattle.tss_control.proofs.rounds.RoundTasks.{among_tasks}
-use Rattle.tss_values.proofs.Values.{Starts, bytes_before, IsFirstAhead, HasHome, HasMain}
+use Rattle.tss_values.proofs.Values.{Starts, bytes_before, IsFirstAhead, HasHome, HasMain, IsInside, IsUnclaimed}
 use Rattle.tss_values.proofs.ValuesMain.{follows_home, none_later}
 use Rattle.tss_values.proofs.returns.Returns.{same_at_home}
 use Rattle.tss_values.proofs.returns.Main.{main_at_home}
-use Rattle.tss_values.proofs.home.Beside.{IsInside, operand_named, one_inside, bytes_same}
-use Rattle.tss_values.proofs.UndecodedOperands.{undecoded}
-use Rattle.tss_values.proofs.RoundSteps.{RoundGrows, RoundGoesOn, round_goes_on, drained_inbox, covers_inside, cut_off_apart}
+use Rattle.tss_values.proofs.home.Beside.{bytes_same}
+use Rattle.tss_values.proofs.RoundSteps.{RoundGrows, RoundGoesOn, round_goes_on, covers_inside, cut_off_apart}
 use Rattle.tss_control.proofs.rounds.Facts.{Facts}
+use Rattle.tss_values.proofs.LiveObjects.{inside_covers, undecoded_named, member_named}
+use Rattle.tss_locality.proofs.RoundObjects.{arrival_operand}
+use Rattle.tss_program_order.proofs.FlatNames.{covers-meet}
+use Rattle.tss_control.proofs.rounds.EntriesNames.{decode_among}
+use Rattle.tss_phases.proofs.DecodeEvent.{decoding_before}
 
 -- ---- the event
 
@@ -76,15 +77,9 @@ module _ (m : Machine) (i : ImageState) (S : State) (facts : Facts m S) (code : 
   decoded : (o : OpName) → is_decoded (phase_of T o) ≡ is_decoded (phase_of S o)
   decoded o = ap is_decoded (phase_of-main m S o on)
 
-  -- no operand of a task that wasn't spawned is decoded
-  new_undecoded : (o : OpName) → S.main.spawned < o.task → is_decoded (phase_of T o) ≡ true → ⊥
-  new_undecoded o late done =
-      let low = decoded_spawned S k.orderly o (sym (decoded o) ∙ done) in
-      omega (arith, low, late)
-
-  -- an object of the round is left
-  left : (o : OpName) (p : Operand) → operand_among ts o ≡ Some p → bytes_of T.home p.object ≡ bytes_of S.home p.object
-  left o p e = same_at_home S T p.object (main_at_home m S p.object (operand_named S ts ground.round o p e))
+  -- a named object is left
+  left : (x : Range) → IsIn x S.main.epoch → bytes_of T.home x ≡ bytes_of S.home x
+  left x named = same_at_home S T x (main_at_home m S x named)
 
   goes_on : is_some S.main.ending ≡ false
   goes_on = main_on-enabled m S on
@@ -113,70 +108,43 @@ module _ (m : Machine) (i : ImageState) (S : State) (facts : Facts m S) (code : 
             let new = started_new z e in
             absurd (omega (arith, old, new))
 
-  -- ---- home at the address of no operand that isn't done
-
-  -- where all operands of an address are decoded, and their objects have no entries
-  abbrev AreDone : List Task → State → ℕ → Type 0
-  AreDone us T a =
-      (o : OpName) (p : Operand) → operand_among us o ≡ Some p → IsInside p.object a
-      → (get T.entries p.object.base ≡ None) × (is_decoded (phase_of T o) ≡ true)
+  -- ---- home where nobody claims it
 
   entries_before : (b : ℕ) → get T.entries b ≡ None → get S.entries b ≡ None
   entries_before b none = ap (λ es. get es b) (sym kept.entries) ∙ none
 
-  done_before : (a : ℕ) → AreDone ts T a → AreDone ts S a
-  done_before a each o p at within =
-      let q = each o p at within in (entries_before p.object.base q.0, sym (decoded o) ∙ q.1)
+  -- nobody claims less, where the inbox's task stays there
+  free_before : (a : ℕ) → ((t : Task) → S.inbox ≡ Some t → T.inbox ≡ Some t) → IsUnclaimed T a → IsUnclaimed S a
+  free_before a inbox free = record {
+    entered = λ b e at inside. free.entered b e (ap (λ es. get es b) kept.entries ∙ at) inside;
+    arriving = λ t at j p of inside. free.arriving t (inbox t at) j p of inside;
+    decoding = λ o p at inside. free.decoding o p (ap (λ (m : Mail). get m.decodes o) kept.mail ∙ at) inside;
+  }
 
-  -- a drained state has nothing to do
-  drained_done : (a : ℕ) → is_drained S ≡ true → S.inbox ≡ None → AreDone ts S a
-  drained_done a drained empty o p at within = (bare.entries p.object.base, by (is_decoded (phase_of S o)) refl)
-    where
-      bare : IsBare S
-      bare = IsBare-drained S drained
-
-      by : (b : Bool) → is_decoded (phase_of S o) ≡ b → is_decoded (phase_of S o) ≡ true
-      by true e = e
-      by false e = elim (undecoded m S basis k.orderly o p at e) [
-        | inl waits ↦ absurd (true≢false (sym waits ∙ ap (λ b. is_in_inbox b o.task) empty))
-        | inr sent ↦ absurd (none-some p (sym (bare.decodes o) ∙ sent))
-      ]
-
-  -- no address that is done lies in an object of the new task
-  new_apart : (r : RoundGrows ts us S T) (a : ℕ) → AreDone us T a
+  -- no address that nobody claims lies in an object of the new task
+  new_apart : (r : RoundGrows ts us S T) (a : ℕ) → IsUnclaimed T a
       → list_any (λ o. covers o.object a) (operands_of r.task) ≡ false
-  new_apart r a each = by (list_any (λ o. covers o.object a) (operands_of r.task)) refl
+  new_apart r a free = by (list_any (λ o. covers o.object a) (operands_of r.task)) refl
     where
-      last : (xs : List Task) (t : Task) → slice_get (xs ++ t ∷ []) (length xs) ≡ Some t
-      last [] t = refl
-      last (x ∷ xs) t = last xs t
-
       by : (b : Bool) → list_any (λ o. covers o.object a) (operands_of r.task) ≡ b
           → list_any (λ o. covers o.object a) (operands_of r.task) ≡ false
       by false e = e
       by true e =
           let f = from_any (λ (o : Operand). covers o.object a) (operands_of r.task) e in
-          let there = ap (λ us. slice_get us (length ts)) r.list ∙ last ts r.task in
-          let at = among_tasks us round.one (length ts) r.task there f.0 f.1 f.2 in
-          let inside = covers_inside f.1.object a f.3 in
-          absurd (new_undecoded (operand_name r.task.number f.0) (omega (arith, r.number))
-          (each (operand_name r.task.number f.0) f.1 at inside).1)
+          absurd (free.arriving r.task r.inbox f.0 f.1 f.2 (covers_inside f.1.object a f.3))
 
   -- it has there what program order has
-  done_bytes : (a : ℕ) → T.main ≡ (flat_beside i m.limits T.main).main → AreDone us T a → Agrees m i T a
-  done_bytes a is each = by main.follows
+  free_bytes : (a : ℕ) → T.main ≡ (flat_beside i m.limits T.main).main → IsUnclaimed T a → Agrees m i T a
+  free_bytes a is free = by main.follows
     where
       by_round : (same : S.main ≡ (flat_beside i m.limits S.main).main) → RoundGoesOn ts us S T → Agrees m i T a
       by_round same (inl r) =
           (follows same).beside a (ap (λ o. is_operand_of o a) (none_next same r.inbox))
-          (h.beside a same (done_before a (subst (λ us. AreDone us T a) r.list each)))
+          (h.beside a same (free_before a (λ t at. r.inbox ∙ at) free))
       by_round same (inr (inl r)) = by_next (started_next m i S) refl
         where
           before : Agrees m i S a
-          before =
-              h.beside a same (done_before a (λ o p at within.
-              each o p
-              (ap (λ us. operand_among us o) r.list ∙ operand_among-more ts r.task o p at) within))
+          before = h.beside a same (free_before a (λ t at. absurd (none-some t (sym r.empty ∙ at))) free)
 
           by_next : (z : Option Started) → started_next m i S ≡ z → Agrees m i T a
           by_next None e = (follows same).beside a (ap (λ o. is_operand_of o a) e) before
@@ -186,11 +154,11 @@ module _ (m : Machine) (i : ImageState) (S : State) (facts : Facts m S) (code : 
               (follows same).beside a
               (ap (λ o. is_operand_of o a) e
               ∙ ap (λ (t : Task). list_any (λ o. covers o.object a) (operands_of t)) (sym task)
-              ∙ new_apart r a each)
+              ∙ new_apart r a free)
               before
       by_round same (inr (inr r)) =
           (follows same).beside a (ap (λ o. is_operand_of o a) (none_next same r.inbox))
-          (h.beside a same (drained_done a r.drained (drained_inbox S r.drained)))
+          (h.beside a same (free_before a (λ t at. r.inbox ∙ at) free))
 
       by : (S.main ≡ (flat_beside i m.limits S.main).main) ⊎ IsCutOff i m.limits S.main → Agrees m i T a
       by (inl same) = by_round same (round_goes_on m ts S on)
@@ -215,7 +183,7 @@ module _ (m : Machine) (i : ImageState) (S : State) (facts : Facts m S) (code : 
       → ((q : OpName) (r : Operand) → operand_among ts q ≡ Some r → operand_among us q ≡ Some r)
       → get T.entries p.object.base ≡ None → Starts m i o.task s → bytes_of T.home p.object ≡ bytes_before s p
   ahead_old o p s f old longer none starts =
-      left o p old
+      left p.object (undecoded_named m S basis k.orderly o p old (sym (decoded o) ∙ f.ahead))
       ∙ h.ahead p.object o p s (entries_before p.object.base none) (first_old o p f old longer) starts
 
   -- one of the new task finds what main has there
@@ -224,24 +192,43 @@ module _ (m : Machine) (i : ImageState) (S : State) (facts : Facts m S) (code : 
       → bytes_of T.home p.object ≡ bytes_before s p
   ahead_new r o p s f new none starts = by main.follows
     where
-      done : (a : ℕ) → IsInside p.object a → AreDone ts S a
-      done a inside q t at within = (none_q, by_decoded (is_decoded (phase_of S q)) refl)
+      -- its object is named after the event
+      named : IsIn p.object T.main.epoch
+      named = round.named.arriving r.task r.inbox o.place p from_task
         where
-          longer : operand_among us q ≡ Some t
-          longer = ap (λ us. operand_among us q) r.list ∙ operand_among-more ts r.task q t at
+          from_task : slice_get (operands_of r.task) o.place ≡ Some p
+          from_task = elim (from_operand_among ts r.task o p (ap (λ us. operand_among us o) (sym r.list) ∙ f.operand)) [
+            | inl old ↦
+                let low = of_spawned S ts ground.round o p old in
+                absurd (omega (arith, low, new, r.number))
+            | inr after ↦ arrival_operand r.task o p after
+          ]
 
-          same : t.object ≡ p.object
-          same = one_inside T us round q o t p longer f.operand a within inside
+      -- an object that is named after it and has an address of it is it
+      is_own : (x : Range) → IsIn x T.main.epoch → (a : ℕ) → IsInside x a → IsInside p.object a → x ≡ p.object
+      is_own x also a in_x in_p =
+          round.separate.one x p.object also named
+          (covers-meet x p.object a (inside_covers x a in_x) (inside_covers p.object a in_p))
 
-          none_q : get S.entries t.object.base ≡ None
-          none_q = ap (λ (x : Range). get S.entries x.base) same ∙ entries_before p.object.base none
-
-          by_decoded : (b : Bool) → is_decoded (phase_of S q) ≡ b → is_decoded (phase_of S q) ≡ true
-          by_decoded true e = e
-          by_decoded false e =
-              let late = f.first q t longer same (decoded q ∙ e) in
-              let low = of_spawned S ts ground.round q t at in
-              absurd (omega (arith, late, low, new, r.number))
+      -- nobody claims its addresses before
+      free : (a : ℕ) → IsInside p.object a → IsUnclaimed S a
+      free a inside = record {
+        entered = λ b e at within.
+            let same = is_own e.object (round.named.entered b e (ap (λ es. get es b) kept.entries ∙ at)) a within
+            inside in
+            none-some e (sym (entries_before p.object.base none)
+            ∙ ap (get S.entries) (ap (λ (x : Range). x.base) (sym same) ∙ (ground.round.within.named.entries b e at).1)
+            ∙ at);
+        arriving = λ t at. absurd (none-some t (sym r.empty ∙ at));
+        decoding = λ q t at within.
+            let same = is_own t.object
+            (round.named.decoding q t (ap (λ (m : Mail). get m.decodes q) kept.mail ∙ at)) a within inside in
+            let among = decode_among m S basis k.orderly q t at in
+            let low = of_spawned S ts ground.round q t among in
+            let late = f.first q t (ap (λ us. operand_among us q) r.list ∙ operand_among-more ts r.task q t among) same
+            (decoded q ∙ ap is_decoded (decoding_before m S q t at)) in
+            omega (arith, late, low, new, r.number);
+      }
 
       by_next : (same : S.main ≡ (flat_beside i m.limits S.main).main) → (z : Option Started)
           → started_next m i S ≡ z → bytes_of T.home p.object ≡ bytes_before s p
@@ -257,7 +244,7 @@ module _ (m : Machine) (i : ImageState) (S : State) (facts : Facts m S) (code : 
           ∙ same_bytes (byte_at S.home) (byte_at (flat_beside i m.limits S.main).memory) p.object.base p.object.len
           (λ a low high.
           let inside : IsInside p.object a = (low, high) in
-          ap (λ (o : Option ℕ). unwrap_or o 0) (h.beside a same (done a inside)))
+          ap (λ (o : Option ℕ). unwrap_or o 0) (h.beside a same (free a inside)))
           ∙ ap (λ l. bytes_of (flat_stepped i m.limits l).memory p.object) (taken ∙ sym here)
           ∙ ap (λ h. bytes_of h p.object) (sym (started_at-by i m.limits starts.0 s starts.1).memory)
 
@@ -290,8 +277,10 @@ module _ (m : Machine) (i : ImageState) (S : State) (facts : Facts m S) (code : 
         ap (bytes_of T.home) (sym f.object)
         ∙ ahead_by o p s (subst (λ x. IsFirstAhead us T x o p) (sym f.object) f)
         (ap (λ (x : Range). get T.entries x.base) f.object ∙ none) starts (round_goes_on m ts S on);
-    beside = λ a is each. done_bytes a is each;
+    beside = λ a is free. free_bytes a is free;
     opening = λ o c s at first reads starts.
         let old = ap (λ (m : Mail). get m.opens o) (sym kept.mail) ∙ at in
-        left o c.operand (k.chains.opens o c old).operand ∙ h.opening o c s old first reads starts;
+        left c.operand.object
+        (member_named m S facts o c.operand (k.chains.opens o c old).operand o (inr (c, old, refl)))
+        ∙ h.opening o c s old first reads starts;
   }

@@ -16,27 +16,30 @@ use Rattle.tss_control.specs.Readers.{Arrivals}
 use Rattle.tss_control.specs.Control.{HasGroundwork, IsControlled}
 use Rattle.tss_control.proofs.rounds.EntriesFrames.{SameObjects}
 use Rattle.tss_control.proofs.rounds.EntriesQuiet.{quiet_objects}
-use Rattle.tss_names.proofs.FrontLemmas.{is_of_front}
+use Rattle.tss_protocol.proofs.FrontLemmas.{is_of_front}
 use Rattle.tss_control.proofs.holders.KeepsOrder.{AreOrderly-controlled}
 use Rattle.tss_program_order.proofs.RunKeeps.{HasGround}
 use Rattle.tss_values.proofs.Values.{HasWorkers, HasHome}
 use Rattle.tss_values.proofs.home.Beside.{home_left}
-use Rattle.tss_values.proofs.home.Kept.{decoded_kept}
+use Rattle.tss_values.proofs.home.Kept.{decoded_kept, later_unclaimed}
 use Rattle.tss_values.proofs.workers.Unseen.{LeavesAway, away_start, away_exec}
 use Rattle.tss_control.proofs.rounds.Facts.{Facts}
 use Rattle.tss_values.proofs.WorkerFacts.{WorkerFacts}
 
 module _ (m : Machine) (i : ImageState) (S : State) (work : WorkerFacts m i S) (h : HasHome m i work.ts S) where
-  open work use {facts, ts, ground, control}
+  open work use {facts, basis, ts, control}
 
   -- where the stores leave what is away from workers, so is what stands at home
   home_away : (e : Event) → IsEnabled m S e → is_of_front e ≡ false → (after_event m S e).main ≡ S.main
       → (after_event m S e).entries ≡ S.entries → SameObjects S (after_event m S e)
       → LeavesAway ts S (stores_of (after_event m S e)) → HasHome m i ts (after_event m S e)
   home_away e on later main entries same away =
-      home_left m i ts S (after_event m S e) ground.round (record {
+      home_left m i S (after_event m S e) basis control.orderly (record {
         main = main;
         entries = λ b none. ap (λ (x : Numbered Entry). get x b) (sym entries) ∙ none;
+        unclaimed =
+            later_unclaimed m S e later
+            (λ b y at. (y, ap (λ (x : Numbered Entry). get x b) entries ∙ at, refl));
         opens = λ o c at. ap (λ (x : Named OpenContents). get x o) (sym same.opens) ∙ at;
         decoded = λ o p at.
             decoded_kept m S e later control.orderly (AreOrderly-controlled m S facts e on) o;

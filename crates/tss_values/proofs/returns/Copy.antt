@@ -24,28 +24,21 @@ use Rattle.tss_locality.specs.Rounds.{object_in, IsIn}
 use Rattle.tss_locality.proofs.LeftFields.{Leaves-after_event}
 use Rattle.tss_locality.proofs.RoundObjects.{arrival_operand, found_in_round}
 use Rattle.tss_control.specs.Members.{operand_among}
-use Rattle.tss_control.specs.Entries.{IsGoingHome}
+use Rattle.tss_control.specs.Entries.{HasEntryOf, IsGoingHome}
 use Rattle.tss_program_order.proofs.FlatNames.{covers-meet}
 use Rattle.tss_program_order.proofs.StoreRuns.{stored_by}
 use Rattle.tss_program_order.proofs.StoreFrames.{copy-beside, copy-moved}
-use Rattle.tss_control.proofs.rounds.EntriesNames.{operand_of_object, one_object}
 use Rattle.tss_values.proofs.Values.{IsKnown, IsGood, bytes_after, HasReturns}
 use Rattle.tss_values.proofs.returns.Returns.{SameAtHome, same_at_home, place_inside}
 use Rattle.tss_control.proofs.rounds.Facts.{Basis, Facts}
+use Rattle.tss_values.proofs.LiveObjects.{going_entry, going_named}
 
 -- ---- objects of the round
 
 module _ (m : Machine) (S : State) (basis : Basis m S) where
   open basis use {ts, ground}
 
-  -- an object of the round has been named
-  pub object_named : (o : OpName) (x : Range) → object_in ts o ≡ Some x → IsIn x S.main.epoch
-  object_named o x e =
-      let f = found_in_round ts o x e in
-      subst (λ x. IsIn x S.main.epoch) f.object
-      (ground.round.named f.place f.task f.there o.place f.operand (arrival_operand f.task o f.operand f.arrives))
-
-  -- two objects of the round share no address, or are one
+  -- two named objects share no address, or are one
   pub objects_apart : (x y : Range) → IsIn x S.main.epoch → IsIn y S.main.epoch → x ≢ y → (a : ℕ)
       → covers x a ≡ true → covers y a ≡ false
   objects_apart x y named also apart a inside = by (covers y a) refl
@@ -71,33 +64,19 @@ module _ (m : Machine) (S : State) (facts : Facts m S) where
 
   -- of two versions of one object that go home both are its latest
   pub one_going : (x : Range) (v w : OpName) → object_in ts v ≡ Some x → IsGoingHome S x v → IsGoingHome S x w → v ≡ w
-  one_going x v w named a b = by_entry (get S.entries p.0.object.base) refl
+  one_going x v w named a b = by_retiring own.entry.retiring refl
     where
-      p : (p : Operand) × (operand_among ts v ≡ Some p) × (p.object ≡ x)
-      p = operand_of_object ts v x named
+      own : HasEntryOf S x
+      own = going_entry m S facts v x named a
 
-      by_retiring : (e : Entry) → get S.entries p.0.object.base ≡ Some e → e.object ≡ x → (b : Bool) → e.retiring ≡ b
-          → v ≡ w
-      by_retiring e at object true on =
-          let r = k.entries.retiring p.0.object.base e at on in
-          r.only v (inr (subst (λ x. IsGoingHome S x v) (sym object) a))
-          ∙ sym (r.only w (inr (subst (λ x. IsGoingHome S x w) (sym object) b)))
-      by_retiring e at object false off =
-          absurd ((k.entries.live p.0.object.base e at off).stays v
-          (inr (subst (λ x. IsGoingHome S x v) (sym object) a)))
-
-      by_entry : (o : Option Entry) → get S.entries p.0.object.base ≡ o → v ≡ w
-      by_entry None none =
-          absurd ((k.entries.absent v p.0 p.1 none).stays v
-          (inr (subst (λ x. IsGoingHome S x v) (sym p.2) a)))
-      by_entry (Some e) at =
-          let q = k.entries.operand p.0.object.base e at in
-          by_retiring e at
-          (sym q.1.2
-          ∙ one_object m S basis k.orderly e.latest v q.1.0 p.0 q.1.1 p.1
-          (ap (λ (x : Range). x.base) q.1.2 ∙ q.0)
-          ∙ p.2)
-          e.retiring refl
+      by_retiring : (b : Bool) → own.entry.retiring ≡ b → v ≡ w
+      by_retiring true on =
+          let r = k.entries.retiring x.base own.entry own.there on in
+          r.only v (inr (subst (λ x. IsGoingHome S x v) (sym own.object) a))
+          ∙ sym (r.only w (inr (subst (λ x. IsGoingHome S x w) (sym own.object) b)))
+      by_retiring false off =
+          absurd ((k.entries.live x.base own.entry own.there off).stays v
+          (inr (subst (λ x. IsGoingHome S x v) (sym own.object) a)))
 
 -- ---- the event
 
@@ -138,7 +117,8 @@ module _ (m : Machine) (i : ImageState) (S : State) (facts : Facts m S) (h : Has
       ap (λ x. (after_copy S b x).mail.gones) there ∙ ap (λ last. (posted_all S.mail (sent_by_copy c last)).gones) is
 
   named : IsIn c.object S.main.epoch
-  named = object_named m S basis c.version c.object (copy_object m S basis b c there)
+  named =
+      going_named m S facts c.version c.object (copy_object m S basis b c there) (inl (b, c, there, refl, refl))
 
   -- another object is left
   pub beside : (x : Range) → IsIn x S.main.epoch → x ≢ c.object → SameAtHome S T x
@@ -156,7 +136,8 @@ module _ (m : Machine) (i : ImageState) (S : State) (facts : Facts m S) (h : Has
   -- another copy
   other_copy : (q : ℕ) (d : CopyState) → q ≢ b → get S.copies q ≡ Some d → SameAtHome S T d.object
   other_copy q d apart at =
-      beside d.object (object_named m S basis d.version d.object (copy_object m S basis q d at))
+      beside d.object
+      (going_named m S facts d.version d.object (copy_object m S basis q d at) (inl (q, d, at, refl, refl)))
       (λ same. apart (sym (ground.places.copied q d at).1 ∙ ap (bank_of m.sizes) same
       ∙ (ground.places.copied b c there).1))
 
@@ -165,8 +146,9 @@ module _ (m : Machine) (i : ImageState) (S : State) (facts : Facts m S) (h : Has
       → SameAtHome S T d.object
   other_gone w d at last =
       let named_d = gone_object m S basis w d at in
-      beside d.object (object_named m S basis w d.object named_d) (λ same.
-      let one = one_going m S facts d.object w c.version named_d (inr (d, at, last, refl))
+      let home : IsGoingHome S d.object w = inr (d, at, last, refl) in
+      beside d.object (going_named m S facts w d.object named_d home) (λ same.
+      let one = one_going m S facts d.object w c.version named_d home
       (inl (b, c, there, refl, sym same)) in
       (ground.places.gones w d at).1 (b, c, there, sym one))
 

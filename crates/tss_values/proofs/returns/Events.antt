@@ -50,7 +50,7 @@ module _ (m : Machine) (i : ImageState) (S : State) (facts : Facts m S) where
     -- what is brought home after such an event
     pub HasReturns-beside : (e : Event) → IsBesideWorkers e → IsEnabled m S e
         → HasReturns m i (round_after_event m S ts e) (after_event m S e)
-    HasReturns-beside event.Main q on = HasReturns-main m i S basis h
+    HasReturns-beside event.Main q on = HasReturns-main m i S facts h
     HasReturns-beside event.Take q on =
         returns_kept m i ts S (after_event m S event.Take) (returns_left m S event.Take tt) h
     HasReturns-beside (event.Decode o) q on =

@@ -30,8 +30,9 @@ use Rattle.tss_control.proofs.rounds.Spawned.{operand_among-more}
 use Rattle.tss_control.proofs.rounds.EntriesNames.{operand_of_object}
 use Rattle.tss_values.proofs.Values.{IsKnown, HasReturns}
 use Rattle.tss_values.proofs.returns.Returns.{SameAtHome, KeepsReturns, returns_kept}
-use Rattle.tss_values.proofs.returns.Copy.{object_named, copy_object, gone_object}
-use Rattle.tss_control.proofs.rounds.Facts.{Basis}
+use Rattle.tss_values.proofs.returns.Copy.{copy_object, gone_object}
+use Rattle.tss_values.proofs.LiveObjects.{going_named}
+use Rattle.tss_control.proofs.rounds.Facts.{Facts}
 
 -- ---- named objects
 
@@ -72,8 +73,8 @@ known_by_call ts v p q before Barrier d e = absurd (none-some p e)
 known_by_call ts v p q before Print d e = e
 known_by_call ts v p q before (Unknown n) d e = e
 
-module _ (m : Machine) (i : ImageState) (S : State) (basis : Basis m S) where
-  open basis use {ts}
+module _ (m : Machine) (i : ImageState) (S : State) (facts : Facts m S) where
+  open facts use {basis, ts}
 
   abbrev T : State
   T = after_event m S event.Main
@@ -99,13 +100,14 @@ module _ (m : Machine) (i : ImageState) (S : State) (basis : Basis m S) where
               old,
               λ j. buffer_bytes (left j).contents c.buffer,
               main_at_home m S c.object
-                  (object_named m S basis c.version c.object (copy_object m S basis bank c old)),
+                  (going_named m S facts c.version c.object (copy_object m S basis bank c old)
+                  (inl (bank, c, old, refl, refl))),
             );
         gones = λ v g at last.
             let old = ap (λ m. get m v) (sym (λ j. (left j).mail.gones)) ∙ at in (
               old,
               main_at_home m S g.object
-                  (object_named m S basis v g.object (gone_object m S basis v g old)),
+                  (going_named m S facts v g.object (gone_object m S basis v g old) (inr (g, old, last, refl))),
             );
       }
 

@@ -5,10 +5,10 @@ use Rattle.tss_base.specs.declared.operand.OpName.{OpName}
 use Rattle.tss_base.specs.declared.operand.Task.{Task}
 use Rattle.tss_base.specs.declared.machine.Machine.{Machine}
 use Rattle.tss_protocol.specs.State.{State, Version, CopyState}
-use Rattle.tss_control.specs.Entries.{IsGoingHome}
+use Rattle.tss_control.specs.Entries.{HasEntryOf, IsGoingHome}
 use Rattle.tss_control.specs.Readers.{Arrivals}
 use Rattle.tss_control.specs.Control.{HasGroundwork, IsControlled}
-use Rattle.tss_control.proofs.entries.OfVersions.{HasEntryOf, entry_of_version}
+use Rattle.tss_control.proofs.entries.OfVersions.{entry_of_version}
 use Rattle.tss_control.proofs.rounds.Facts.{Facts}
 
 module _ (m : Machine) (S : State) (facts : Facts m S) (v : OpName) (y : Version)

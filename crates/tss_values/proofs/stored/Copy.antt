@@ -18,31 +18,26 @@ use Rattle.tss_control.proofs.rounds.EntriesNames.{object_of_operand}
 use Rattle.tss_values.proofs.storages.Homes.{not_copied_home}
 use Rattle.tss_values.proofs.Values.{content, HasStored, HasReturns}
 use Rattle.tss_values.proofs.returns.Returns.{same_at_home}
-use Rattle.tss_values.proofs.returns.Copy.{object_named, beside}
+use Rattle.tss_values.proofs.returns.Copy.{beside}
 use Rattle.tss_values.proofs.stored.Frames.{stored_each, stored_at, stored_kept}
 use Rattle.tss_values.proofs.stored.Taken.{keeps_phase}
 use Rattle.tss_control.proofs.rounds.Facts.{Facts}
+use Rattle.tss_values.proofs.LiveObjects.{version_named}
 
 module _ (m : Machine) (i : ImageState) (S : State) (facts : Facts m S) (h : HasStored m i facts.ts S)
     (r : HasReturns m i facts.ts S) (b : ℕ)
     (room : (c : CopyState) → get S.copies b ≡ Some c → c.object.len ≤ length (buffer_bytes S.contents c.buffer)) where
-  open facts use {basis, ts, control as k}
+  open facts use {ts, control as k}
 
   abbrev T : State
   T = after_event m S (event.Copy b)
 
   -- an object with a version is named, and isn't copied
-  version_named : (v : OpName) (y : Version) → get S.versions v ≡ Some y → IsIn y.object S.main.epoch
-  version_named v y e =
-      let p = k.chains.opener v y e in
-      subst (λ x. IsIn x S.main.epoch) p.2
-      (object_named m S basis v p.0.object (object_of_operand ts v p.0 p.1))
-
   copy_content : (c : CopyState) → get S.copies b ≡ Some c → (v : OpName) (y : Version) → get S.versions v ≡ Some y
       → (st : StorageName) → content T y.object st ≡ content S y.object st
   copy_content c there v y e Home =
       same_at_home S T y.object
-      (beside m i S facts r b c there (room c there) y.object (version_named v y e)
+      (beside m i S facts r b c there (room c there) y.object (version_named m S facts v y e)
       (λ same. not_copied_home m S facts v y e b c there (sym same)))
   copy_content c there v y e (Buffer n) =
       ap (λ bytes. take y.object.len (buffer_bytes bytes n)) (λ j. (Leaves-after_event m S (event.Copy b) j).contents)

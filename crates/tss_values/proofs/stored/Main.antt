@@ -17,15 +17,14 @@ use Rattle.tss_protocol.specs.UnitMachine.{IsEnabled, after_event}
 use Rattle.tss_phases.proofs.MainEvent.{phase_of-main}
 use Rattle.tss_locality.specs.Rounds.{object_in}
 use Rattle.tss_locality.proofs.LeftFields.{Leaves-after_event}
-use Rattle.tss_control.specs.Chains.{HasChains}
 use Rattle.tss_control.proofs.rounds.EntriesNames.{object_of_operand}
 use Rattle.tss_values.proofs.Values.{content, IsKnown, HasStored}
 use Rattle.tss_values.proofs.returns.Returns.{same_at_home}
 use Rattle.tss_values.proofs.returns.Main.{main_at_home, known_before_main}
-use Rattle.tss_values.proofs.returns.Copy.{object_named}
 use Rattle.tss_values.proofs.stored.Frames.{IsStored, stored_each, stored_at, stored_kept}
 use Rattle.tss_values.proofs.stored.Taken.{keeps_phase}
-use Rattle.tss_control.proofs.rounds.Facts.{Basis}
+use Rattle.tss_values.proofs.LiveObjects.{version_named}
+use Rattle.tss_control.proofs.rounds.Facts.{Facts}
 
 -- what a version's storage has stays so in a round that knows no more of its opener
 stored_known : (m : Machine) (i : ImageState) (ts us : List Task) (S : State) (v : OpName) (y : Version)
@@ -37,8 +36,8 @@ stored_known m i ts us S v y before h = record {
   releasing = λ st p s at known writer lets ends. h.releasing st p s at (before p s known) writer lets ends;
 }
 
-module _ (m : Machine) (i : ImageState) (S : State) (basis : Basis m S) (chains : HasChains basis.ts S) where
-  open basis use {ts}
+module _ (m : Machine) (i : ImageState) (S : State) (facts : Facts m S) where
+  open facts use {ts, control}
 
   abbrev T : State
   T = after_event m S event.Main
@@ -46,7 +45,7 @@ module _ (m : Machine) (i : ImageState) (S : State) (basis : Basis m S) (chains 
   -- the object of a version is that of its opener
   object_opened : (v : OpName) (y : Version) → get S.versions v ≡ Some y → object_in ts v ≡ Some y.object
   object_opened v y there =
-      let p = chains.opener v y there in
+      let p = control.chains.opener v y there in
       object_of_operand ts v p.0 p.1 ∙ ap Some p.2
 
   -- it stays as it was
@@ -54,7 +53,7 @@ module _ (m : Machine) (i : ImageState) (S : State) (basis : Basis m S) (chains 
       → content T y.object st ≡ content S y.object st
   main_content v y there Home =
       same_at_home S T y.object
-      (main_at_home m S y.object (object_named m S basis v y.object (object_opened v y there)))
+      (main_at_home m S y.object (version_named m S facts v y there))
   main_content v y there (Buffer n) =
       ap (λ bytes. take y.object.len (buffer_bytes bytes n)) (λ j. (Leaves-after_event m S event.Main j).contents)
 
@@ -67,7 +66,7 @@ module _ (m : Machine) (i : ImageState) (S : State) (basis : Basis m S) (chains 
       stored_each m i us T (λ v y e.
       let there = sym (λ j. get (same j).versions v) ∙ e in
       stored_known m i ts us T v y
-      (λ p s. known_before_main m i S basis v y.object (object_opened v y there) p s)
+      (λ p s. known_before_main m i S facts v y.object (object_opened v y there) p s)
       (stored_kept m i ts S T v y y
       (keeps_phase ts S T v y (phase_of-main m S v on) (λ st at. main_content v y there st) (λ j. (same j).workers))
       (stored_at m i ts S h v y there)))

@@ -52,7 +52,7 @@ inout_not_output : Inout ≡ Output → ⊥
 inout_not_output e = cc
 
 module _ (m : Machine) (i : ImageState) (S : State) (facts : Facts m S) (h : HasStored m i facts.ts S)
-    (home : HasHome m i facts.ts S) (finds : FindsLeft m i facts.ts) (o : OpName)
+    (home : HasHome m i facts.ts S) (finds : FindsLeft m i facts.ts S) (o : OpName)
     (on : IsEnabled m S (event.Open o)) (order : KeepsOrder S (event.Open o)) (c : OpenContents)
     (opening : get S.mail.opens o ≡ Some c) where
   open facts use {ts, g, control as k}
@@ -208,7 +208,11 @@ module _ (m : Machine) (i : ImageState) (S : State) (facts : Facts m S) (h : Has
         }
 
     open_behind : HasStored m i ts T
-    open_behind = stored_settled m i ts U T f.version (u_chains h) finds
+    open_behind =
+        stored_settled m i ts S U T f.version (u_chains h) finds
+        (λ q among.
+        let p = k.chains.opener f.version u there in
+        inl (u, there, sym p.2 ∙ ap (λ (p : Operand). p.object) (same_Some p.0 q (sym p.1 ∙ among))))
 
   by_follow : (s : Option Follow) → c.follows ≡ s → is_followable S.versions s ≡ true → HasStored m i ts T
   by_follow None to follows = open_first to
@@ -217,7 +221,7 @@ module _ (m : Machine) (i : ImageState) (S : State) (facts : Facts m S) (h : Has
       open_behind f to u.0 u.1
 
 module _ (m : Machine) (i : ImageState) (S : State) (facts : Facts m S) (h : HasStored m i facts.ts S)
-    (home : HasHome m i facts.ts S) (finds : FindsLeft m i facts.ts) where
+    (home : HasHome m i facts.ts S) (finds : FindsLeft m i facts.ts S) where
   open facts use {ts}
 
   -- open

@@ -37,7 +37,7 @@ told_not_releasing (inl e) = cc
 told_not_releasing (inr e) = cc
 
 module _ (m : Machine) (i : ImageState) (S : State) (facts : Facts m S) (h : HasStored m i facts.ts S)
-    (finds : FindsLeft m i facts.ts) where
+    (finds : FindsLeft m i facts.ts S) where
   open facts use {ts, g, ground, control as k}
 
   -- ---- release

@@ -18,7 +18,7 @@ use Rattle.tss_protocol.specs.Versions.{put_version, settled}
 use Rattle.tss_phases.specs.Phase.{Releasing, phase_of}
 use Rattle.tss_phases.specs.Openers.{open_opener, opener_by, version_opener}
 use Rattle.tss_phases.proofs.ForwardPhases.{GoesOnFrom}
-use Rattle.tss_control.specs.Members.{operand_among, NoWriterBetween}
+use Rattle.tss_control.specs.Members.{operand_among, NoWriterBetween, IsMember}
 use Rattle.tss_control.specs.Chains.{HasChains, IsFollowed}
 use Rattle.tss_control.specs.Readers.{Arrivals}
 use Rattle.tss_control.specs.Control.{IsControlled}
@@ -34,12 +34,12 @@ use Rattle.tss_values.proofs.stored.Quiet.{LeavesBytes, content_left, keeps_alik
 
 -- ---- what program order says
 
--- an operand of a round that program order starts finds its object as an operand before it left it, where no task
+-- an operand of a round that program order starts finds its object as a version before it left it, where no task
 -- between them writes the object: that one was started, and is good
-abbrev pub FindsLeft : Machine → ImageState → List Task → Type 0
-FindsLeft m i ts =
-    (v w : OpName) (q p : Operand) (s : Started) → operand_among ts v ≡ Some q → IsKnown m i ts w p s
-    → q.object ≡ p.object → v.task < w.task → NoWriterBetween ts p.object v w
+abbrev pub FindsLeft : Machine → ImageState → List Task → State → Type 0
+FindsLeft m i ts S =
+    (v w : OpName) (q p : Operand) (s : Started) → operand_among ts v ≡ Some q → IsMember S q.object v
+    → IsKnown m i ts w p s → q.object ≡ p.object → v.task < w.task → NoWriterBetween ts p.object v w
     → (t : Started) × Starts m i v.task t × IsGood m i t q × (bytes_after m i t q ≡ bytes_before s p)
 
 -- ---- a settle
@@ -58,8 +58,8 @@ pub record SettlesStored (m : Machine) (i : ImageState) (ts : List Task) (U T : 
   pub keeps : (w : OpName) (y : Version) → get U.versions w ≡ Some y → y.storage ≡ None → y.produced ≡ false
       → phase_of T w ≡ Releasing → ⊥
 
-module _ (m : Machine) (i : ImageState) (ts : List Task) (U T : State) (v : OpName) (d : SettlesStored m i ts U T v)
-    (finds : FindsLeft m i ts) where
+module _ (m : Machine) (i : ImageState) (ts : List Task) (S U T : State) (v : OpName) (d : SettlesStored m i ts U T v)
+    (finds : FindsLeft m i ts S) (member : (q : Operand) → operand_among ts v ≡ Some q → IsMember S q.object v) where
   held : SettlesHeld U.versions v (settled U.versions v)
   held = settles_held U.versions v d.others (λ z e. chains_next ts U d.chains v z e)
 
@@ -112,7 +112,7 @@ module _ (m : Machine) (i : ImageState) (ts : List Task) (U T : State) (v : OpNa
         (subst (λ o. NoWriterBetween ts o v t.follow.version) (sym pw)
         ((d.chains.storages v t.version t.there).alone t.follow t.next t.way)) in
         let f =
-        finds v w q.0 p s q.1 known (q.2 ∙ sym pw)
+        finds v w q.0 p s q.1 (member q.0 q.1) known (q.2 ∙ sym pw)
         (subst (λ (a : OpName). v.task < a.task) t.is next.younger) alone in
         ap (λ o. content T o st) same_object
         ∙ d.leaves t.version st q.0 f.0 t.there made (sym same_storage ∙ at)
@@ -177,7 +177,7 @@ waits_still ts g S T k w on late y e none off lets =
 -- ---- one version is written over and then settled
 
 module _ (m : Machine) (i : ImageState) (ts : List Task) (g : Arrivals) (S T : State) (k : IsControlled ts g S)
-    (h : HasStored m i ts S) (finds : FindsLeft m i ts) (left : LeavesBytes S T)
+    (h : HasStored m i ts S) (finds : FindsLeft m i ts S) (left : LeavesBytes S T)
     (on : (q : OpName) → GoesOnFrom S T q) (late : (q : OpName) → NoLater S T q) (v : OpName) (x y : Version)
     (there : get S.versions v ≡ Some x) (like : AreAlike x y) (registered : y.registered ≡ x.registered)
     (versions : T.versions ≡ (settled (put_version S.versions v y) v).part)
@@ -226,4 +226,8 @@ module _ (m : Machine) (i : ImageState) (ts : List Task) (g : Arrivals) (S T : S
 
   -- the storages of all versions
   pub HasStored-settled : HasStored m i ts T
-  HasStored-settled = stored_settled m i ts W T v settles finds
+  HasStored-settled =
+      stored_settled m i ts S W T v settles finds
+      (λ q among.
+      let p = k.chains.opener v x there in
+      inl (x, there, sym p.2 ∙ ap (λ (p : Operand). p.object) (same_Some p.0 q (sym p.1 ∙ among))))

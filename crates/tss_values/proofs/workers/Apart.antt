@@ -26,8 +26,9 @@ use Rattle.tss_program_order.proofs.StoreRuns.{InScope}
 use Rattle.tss_program_order.proofs.StoreStart.{placed_in-parts}
 use Rattle.tss_program_order.proofs.StoreFrames.{IsElsewhere, IsBeside}
 use Rattle.tss_maps.proofs.Places.{find_there}
-use Rattle.tss_values.proofs.workers.Hold.{IsHeld, held_at, one_object, writes_beside, holds_other}
+use Rattle.tss_values.proofs.workers.Hold.{IsHeld, held_at, writes_beside, holds_other, holder_named}
 use Rattle.tss_control.proofs.rounds.Facts.{Facts}
+use Rattle.tss_values.proofs.LiveObjects.{one_covered}
 
 -- an operand with its storage stands at its place
 pub placed_from : (os : List Operand) (ss : List StorageName) → length ss ≡ length os → (k : ℕ) (o : Operand)
@@ -82,7 +83,7 @@ same_place : (n j k : ℕ) → operand_name n j ≡ operand_name n k → j ≡ k
 same_place n j k e = ap (λ (o : OpName). o.place) e
 
 module _ (m : Machine) (S : State) (facts : Facts m S) (buffers : HasBuffers facts.ts S) where
-  open facts use {ts, g, ground, control}
+  open facts use {basis, ts, g, ground, control}
 
   module _ (n : ℕ) (x : Flying) (flying : get S.flight n ≡ Some x) (complete : is_complete x ≡ true)
       (unfinished : x.stage ≡ stage.Finished → ⊥) where
@@ -99,9 +100,10 @@ module _ (m : Machine) (S : State) (facts : Facts m S) (buffers : HasBuffers fac
           let b_ = placed_in-parts (operands_of x.task) (storages_of x) k q f in
           let h = held j a_.0 p.storage a_.1 a_.2 in
           let l = held k b_.0 q.storage b_.1 b_.2 in
-          let same = one_object m S facts (operand_name n j) (operand_name n k) a_.0 b_.0 a
-          h.holds.among l.holds.among (ap (λ (r : Range). covers r a) a_.3 ∙ inside)
-          (ap (λ (r : Range). covers r a) b_.3 ∙ also) in
+          let same = one_covered m S basis (a_.0).object (b_.0).object
+          (holder_named m S facts (operand_name n j) a_.0 h.source h.holds)
+          (holder_named m S facts (operand_name n k) b_.0 l.source l.holds) a
+          (ap (λ (r : Range). covers r a) a_.3 ∙ inside) (ap (λ (r : Range). covers r a) b_.3 ∙ also) in
           same_place n j k (ground.known.single (operand_name n j) (operand_name n k) a_.0 b_.0 h.holds.among
           l.holds.among same refl);
       buffers = λ j k p q b e f mine its.

@@ -1,6 +1,6 @@
 -- Workers stand where program order has their tasks after main's event, a copy and a gone, and after the start of
 -- another.
-use Rattle.std.proofs.Common.{◌≡◌, ◌≢◌, ℕ, ◌≤◌, true, false, List, length, Option, Some, None, refl, sym, ap, ◌∙◌, subst}
+use Rattle.std.proofs.Common.{◌≡◌, ◌≢◌, ℕ, ◌≤◌, true, false, List, length, Option, Some, None, refl, sym, ap, ◌∙◌, subst, inl}
 use Rattle.std.specs.Prelude.{◌-◌, slice_index}
 use Rattle.std.specs.FinMap.{get}
 use Rattle.tss_base.specs.declared.operand.OpName.{OpName}
@@ -19,11 +19,8 @@ use Rattle.tss_protocol.specs.Buffers.{buffer_bytes, contents_after_gone}
 use Rattle.tss_protocol.specs.Workers.{Stores, placed_in, storage_byte, outputs_zeroed}
 use Rattle.tss_protocol.specs.UnitMachine.{stores_of, after_event, after_copy, gone_message_taken, without}
 use Rattle.tss_locality.proofs.LeftFields.{Leaves-after_event}
-use Rattle.tss_locality.specs.Rounds.{IsIn}
 use Rattle.tss_control.specs.Members.{operand_among}
 use Rattle.tss_program_order.proofs.FlatFixed.{IsFixed}
-use Rattle.tss_control.proofs.rounds.Rounds.{found_among}
-use Rattle.tss_locality.proofs.RoundObjects.{arrival_operand}
 use Rattle.tss_program_order.proofs.RunKeeps.{after_event-ground, outputs_zeroed-ranges}
 use Rattle.tss_values.proofs.room.Stores.{bytes_beside_gone}
 use Rattle.tss_values.proofs.storages.Shares.{HoldsStorage, version_not_gone}
@@ -31,11 +28,13 @@ use Rattle.tss_values.proofs.storages.Homes.{not_copied_home}
 use Rattle.tss_program_order.proofs.StoreStart.{room_stays}
 use Rattle.tss_program_order.proofs.StoreFrames.{copy-beside, outputs_zeroed-left}
 use Rattle.tss_values.proofs.Values.{HasReturns}
-use Rattle.tss_values.proofs.returns.Copy.{object_named, objects_apart, copy_object}
+use Rattle.tss_values.proofs.returns.Copy.{objects_apart, copy_object}
 use Rattle.tss_values.proofs.returns.Main.{main_at_home}
 use Rattle.tss_values.proofs.workers.Apart.{task_separate, holder_beside}
 use Rattle.tss_values.proofs.workers.Runs.{SameFixed, AllRun, LeavesHeld, runs_left}
 use Rattle.tss_values.proofs.WorkerFacts.{WorkerFacts}
+use Rattle.tss_values.proofs.LiveObjects.{going_named}
+use Rattle.tss_values.proofs.workers.Hold.{holder_named}
 
 module _ (m : Machine) (i : ImageState) (S : State) (work : WorkerFacts m i S) where
   open work use {facts, buffers, workers, basis, all, ts, g, ground}
@@ -64,12 +63,6 @@ module _ (m : Machine) (i : ImageState) (S : State) (work : WorkerFacts m i S) w
           ap (λ (c : Named (List ℕ)). storage_byte (record { home = x.home; contents = c }) r.object (Buffer b) a)
           contents
 
-  -- the object of an operand is named
-  named_object : (q : OpName) (r : Operand) → operand_among ts q ≡ Some r → IsIn r.object S.main.epoch
-  named_object q r e =
-      let f = found_among ts q r e in
-      ground.round.named f.place f.task f.there q.place r (arrival_operand f.task q r f.arrives)
-
   -- ---- main
 
   -- main's event
@@ -81,7 +74,7 @@ module _ (m : Machine) (i : ImageState) (S : State) (work : WorkerFacts m i S) w
       (stores_of (after_event m S event.Main))
       (leaves_home (stores_of (after_event m S event.Main)) b.task.number (after_event-ground m S event.Main).ranges
       (λ j. (left j).contents)
-      (λ q r t l e a inside. main_at_home m S r.object (named_object q r l.among) a inside) fixed)
+      (λ q r t l e a inside. main_at_home m S r.object (holder_named m S facts q r t l) a inside) fixed)
 
   -- ---- copy
 
@@ -89,8 +82,8 @@ module _ (m : Machine) (i : ImageState) (S : State) (work : WorkerFacts m i S) w
     copy_apart : (q : OpName) (r : Operand) (t : Source) → HoldsStorage ts g S q r t → (a : ℕ)
         → covers r.object a ≡ true → covers c.object a ≡ false
     copy_apart q r t l a inside =
-        objects_apart m S basis r.object c.object (named_object q r l.among)
-        (object_named m S basis c.version c.object (copy_object m S basis k c at))
+        objects_apart m S basis r.object c.object (holder_named m S facts q r t l)
+        (going_named m S facts c.version c.object (copy_object m S basis k c at) (inl (k, c, at, refl, refl)))
         (λ same. not_copied_home m S facts t.version l.told.version l.told.there k c at
         (sym same ∙ sym l.told.object)) a inside
 

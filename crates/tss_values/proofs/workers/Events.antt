@@ -23,7 +23,7 @@ use Rattle.tss_values.proofs.workers.Start.{runs_start}
 use Rattle.tss_values.proofs.WorkerFacts.{WorkerFacts}
 
 module _ (m : Machine) (i : ImageState) (S : State) (work : WorkerFacts m i S) (accepted : IsAccepted i)
-    (fixed : HasFixed i S) (same : (e : Event) → SameFixed i S (after_event m S e)) (finds : FindsLeft m i work.ts)
+    (fixed : HasFixed i S) (same : (e : Event) → SameFixed i S (after_event m S e)) (finds : FindsLeft m i work.ts S)
     (values : HasValues m i work.all work.ts S) where
   open work use {facts, workers}
 

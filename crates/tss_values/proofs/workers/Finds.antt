@@ -121,7 +121,7 @@ module _ (m : Machine) (i : ImageState) (S : State) (facts : Facts m S) (buffers
 
     -- ---- its value
 
-    module _ (stored : HasStored m i ts S) (finds : FindsLeft m i ts) (s : Started) (starts : Starts m i n s) where
+    module _ (stored : HasStored m i ts S) (finds : FindsLeft m i ts S) (s : Started) (starts : Starts m i n s) where
       known : IsKnown m i ts (operand_name n k) p s
       known = record { operand = holding.holds.among; starts = starts }
 
@@ -143,7 +143,7 @@ module _ (m : Machine) (i : ImageState) (S : State) (facts : Facts m S) (buffers
       by_age e arrival (inr older) =
           let q = control.chains.opener version state there in
           let same = q.2 ∙ holding.holds.told.object in
-          let f = finds version (operand_name n k) q.0 p s q.1 known same older
+          let f = finds version (operand_name n k) q.0 p s q.1 (inl (state, there, sym q.2)) known same older
           (subst (λ z. NoWriterBetween ts z version (operand_name n k)) holding.holds.told.object arrival.alone) in
           stored.produced version state storage q.0 f.0 there (made (ap writes e)) stands
           (record { operand = q.1; starts = f.1 }) f.2

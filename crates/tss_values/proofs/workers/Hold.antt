@@ -35,6 +35,7 @@ use Rattle.tss_control.proofs.rounds.RoundTasks.{among_tasks}
 use Rattle.tss_values.proofs.storages.Shares.{HoldsStorage, record_holds, one_buffer, one_version, reads_produced, writes_open}
 use Rattle.tss_program_order.proofs.StoreFrames.{IsElsewhere}
 use Rattle.tss_control.proofs.rounds.Facts.{Facts}
+use Rattle.tss_values.proofs.LiveObjects.{one_covered, version_named}
 
 -- an operand of a task, with what it was told
 pub record IsHeld (ts : List Task) (g : Arrivals) (S : State) (n k : ℕ) (p : Operand) (storage : StorageName)
@@ -51,7 +52,7 @@ mapped_from f None y e = absurd (none-some y e)
 mapped_from f (Some x) y e = (x, refl, same_Some (f x) y e)
 
 module _ (m : Machine) (S : State) (facts : Facts m S) where
-  open facts use {all, ts, g, ground, control}
+  open facts use {basis, ts, g, ground, control}
 
   -- ---- operands of a task that has all it needs, and hasn't finished
 
@@ -121,17 +122,11 @@ module _ (m : Machine) (S : State) (facts : Facts m S) where
 
   -- ---- what lies beside an object that is written
 
-  -- objects of the round that share an address are one
-  pub one_object : (o q : OpName) (p z : Operand) (a : ℕ) → operand_among ts o ≡ Some p → operand_among ts q ≡ Some z
-      → covers p.object a ≡ true → covers z.object a ≡ true → p.object ≡ z.object
-  one_object o q p z a e f inside also =
-      ground.round.separate.one p.object z.object (named o p e) (named q z f)
-      (covers-meet p.object z.object a inside also)
-    where
-      named : (o : OpName) (p : Operand) → operand_among ts o ≡ Some p → IsIn p.object S.main.epoch
-      named o p e =
-          let f = found_among ts o p e in
-          ground.round.named f.place f.task f.there o.place p (arrival_operand f.task o p f.arrives)
+  -- the object of an operand that holds a version is named
+  pub holder_named : (o : OpName) (p : Operand) (s : Source) → HoldsStorage ts g S o p s → IsIn p.object S.main.epoch
+  holder_named o p s holds =
+      subst (λ x. IsIn x S.main.epoch) holds.told.object
+      (version_named m S facts s.version holds.told.version holds.told.there)
 
   module _ (buffers : HasBuffers ts S) (o : OpName) (p : Operand) (s : Source) (holds : HoldsStorage ts g S o p s)
       (writer : writes p.mode ≡ true) where
@@ -145,8 +140,8 @@ module _ (m : Machine) (S : State) (facts : Facts m S) where
         → IsElsewhere p.object s.storage other a
     writes_beside v y other there stored apart a inside = record {
       home = λ mine its. false_from_ne_true (covers p.object a) (λ also.
-          let q = control.chains.opener v y there in
-          let same = one_object o v p q.0 a holds.among q.1 also (ap (λ (r : Range). covers r a) q.2 ∙ inside) ∙ q.2 in
+          let same = one_covered m S basis p.object y.object (holder_named o p s holds)
+          (version_named m S facts v y there) a also inside in
           apart (sym (one_version ts S control.chains buffers s.version v holds.told.version y holds.told.there there
           (holds.told.object ∙ same) Home (holds.told.storage ∙ ap Some mine) (stored ∙ ap Some its)) ∙ writes_own));
       buffer = λ b mine its.

@@ -64,7 +64,7 @@ reads_unwritten Inout unwritten = refl
 
 module _ (m : Machine) (i : ImageState) (S : State) (work : WorkerFacts m i S) (accepted : IsAccepted i)
     (fixed : (a : ℕ) → IsFixed i a → byte_at S.home a ≡ byte_at (loaded i) a) (stored : HasStored m i work.ts S)
-    (room : HasRoom m work.ts S) (finds : FindsLeft m i work.ts) (main : HasMain m i work.all S) where
+    (room : HasRoom m work.ts S) (finds : FindsLeft m i work.ts S) (main : HasMain m i work.all S) where
   open work use {facts, buffers, image, workers, all, ground, control}
 
   -- ---- what it finds

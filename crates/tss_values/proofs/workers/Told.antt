@@ -18,7 +18,7 @@ use Rattle.tss_protocol.specs.Workers.{busy_at_start}
 use Rattle.tss_protocol.specs.UnitMachine.{IsEnabled, after_event}
 use Rattle.tss_control.specs.Control.{HasGroundwork, IsControlled}
 use Rattle.tss_control.specs.Readers.{Arrivals}
-use Rattle.tss_names.proofs.FrontLemmas.{KeepsFront}
+use Rattle.tss_protocol.proofs.FrontLemmas.{KeepsFront}
 use Rattle.tss_names.proofs.TakeLemmas.{TakesTask}
 use Rattle.tss_names.proofs.NumberLemmas.{taken_newest, last_taken_before}
 use Rattle.tss_names.proofs.BackLemmas.{Standing, standing_by, standing_of, ReadiesOperand, ChangesTask, StartsTask, ExecutesTask, FinishesTask, kept_by_standing}

@@ -1,6 +1,6 @@
 -- A worker's start and its stretches leave the buffers of copies, home where no object has an entry, where the first
 -- version of an object is being opened, and in objects that are copied home, or have come there.
-use Rattle.std.proofs.Common.{◌≡◌, ℕ, true, false, List, [], ◌∷◌, Option, Some, None, inl, refl, sym, ap, ◌∙◌, arith}
+use Rattle.std.proofs.Common.{◌≡◌, ℕ, true, false, List, [], ◌∷◌, Option, Some, None, inl, refl, sym, ap, ◌∙◌, arith, inr, subst}
 use Rattle.std.specs.Prelude.{slice_get}
 use Rattle.std.specs.FinMap.{get}
 use Rattle.std.proofs.lemmas.Bool.{false_from_ne_true}
@@ -28,21 +28,21 @@ use Rattle.tss_values.specs.Buffers.{HasBuffers}
 use Rattle.tss_control.specs.Readers.{Arrivals}
 use Rattle.tss_control.specs.Entries.{IsGoingHome}
 use Rattle.tss_control.specs.Control.{HasGroundwork, IsControlled}
-use Rattle.tss_control.proofs.rounds.EntriesNames.{operand_of_object}
 use Rattle.tss_names.proofs.QueueLemmas.{in_queue, at_front}
 use Rattle.tss_program_order.proofs.RunKeeps.{HasGround}
 use Rattle.tss_names.proofs.StageLemmas.{queued≢finished}
-use Rattle.tss_values.proofs.storages.Beside.{copy_elsewhere, no_entry_apart, going_apart}
+use Rattle.tss_values.proofs.storages.Beside.{copy_elsewhere, going_apart}
 use Rattle.tss_values.proofs.storages.Shares.{HoldsStorage}
 use Rattle.tss_program_order.proofs.StoreBytes.{covers_parts}
 use Rattle.tss_program_order.proofs.StoreViews.{AreUnseen, outputs_zeroed-unseen, exec_stretch-unseen, home_unseen, buffer_unseen}
-use Rattle.tss_values.proofs.Values.{HasWorkers}
-use Rattle.tss_values.proofs.home.Beside.{IsInside, inside_covers}
+use Rattle.tss_values.proofs.Values.{HasWorkers, IsInside, IsLoose}
 use Rattle.tss_values.proofs.workers.Apart.{held}
-use Rattle.tss_values.proofs.workers.Hold.{IsHeld, one_object, writes_own}
+use Rattle.tss_values.proofs.workers.Hold.{IsHeld, writes_own, holder_named}
 use Rattle.tss_values.proofs.workers.Runs.{worker_holds, worker_separate}
 use Rattle.tss_control.proofs.rounds.Facts.{Facts}
 use Rattle.tss_values.proofs.WorkerFacts.{WorkerFacts}
+use Rattle.tss_values.proofs.LiveObjects.{inside_covers, one_covered, member_named, going_named}
+use Rattle.tss_control.proofs.entries.OfVersions.{entry_of_version}
 
 -- home has the same at an address
 abbrev pub SameThere : State → Stores → ℕ → Type 0
@@ -50,8 +50,7 @@ SameThere S x a = get x.home.bytes a ≡ get S.home.bytes a
 
 -- what is left
 pub record LeavesAway (ts : List Task) (S : State) (x : Stores) : Type 0 where
-  pub loose : (a : ℕ) → ((o : OpName) (p : Operand) → operand_among ts o ≡ Some p → IsInside p.object a
-      → get S.entries p.object.base ≡ None) → SameThere S x a
+  pub loose : (a : ℕ) → IsLoose S a → SameThere S x a
   pub opening : (o : OpName) (c : OpenContents) → get S.mail.opens o ≡ Some c → c.follows ≡ None → (a : ℕ)
       → IsInside c.operand.object a → SameThere S x a
   pub going : (y : Range) (v : OpName) → object_in ts v ≡ Some y → IsGoingHome S y v → (a : ℕ) → covers y a ≡ true
@@ -69,19 +68,19 @@ away_itself ts S = record {
 }
 
 module _ (m : Machine) (i : ImageState) (S : State) (work : WorkerFacts m i S) where
-  open work use {facts, buffers, all, ts, g, ground, control}
+  open work use {facts, basis, buffers, all, ts, g, ground, control}
 
   -- ---- an operand that writes what it holds
 
   module _ (o : OpName) (p : Operand) (s : Source) (holds : HoldsStorage ts g S o p s) (writer : writes p.mode ≡ true)
     where
-      -- an object that has no entry isn't its own
-      loose_apart : (a : ℕ) → ((q : OpName) (r : Operand) → operand_among ts q ≡ Some r → IsInside r.object a
-          → get S.entries r.object.base ≡ None) → covers p.object a ≡ false
-      loose_apart a each =
+      -- where no entry's object lies, its own doesn't
+      loose_apart : (a : ℕ) → IsLoose S a → covers p.object a ≡ false
+      loose_apart a free =
           false_from_ne_true (covers p.object a) (λ inside.
-          no_entry_apart ts g S ground.round control buffers o p s holds writer m all ground p.object
-          (each o p holds.among (covers_parts p.object a inside)) refl)
+          let e = entry_of_version m S facts s.version holds.told.version holds.told.there in
+          free holds.told.version.object.base e.entry e.there
+          (subst (λ x. IsInside x a) (sym (e.object ∙ holds.told.object)) (covers_parts p.object a inside)))
 
       -- nor is one whose first version is being opened
       opening_apart : (d : OpName) (c : OpenContents) → get S.mail.opens d ≡ Some c → c.follows ≡ None → (a : ℕ)
@@ -89,7 +88,8 @@ module _ (m : Machine) (i : ImageState) (S : State) (work : WorkerFacts m i S) w
       opening_apart d c at first a within =
           false_from_ne_true (covers p.object a) (λ inside.
           let opens = control.chains.opens d c at in
-          let same = one_object m S facts o d p c.operand a holds.among opens.operand inside
+          let same = one_covered m S basis p.object c.operand.object (holder_named m S facts o p s holds)
+          (member_named m S facts d c.operand opens.operand d (inr (c, at, refl))) a inside
           (inside_covers c.operand.object a within) in
           let own = writes_own m S facts buffers o p s holds writer in
           let version : IsVersionOf S c.operand.object o =
@@ -103,11 +103,10 @@ module _ (m : Machine) (i : ImageState) (S : State) (work : WorkerFacts m i S) w
           → covers y a ≡ true → covers p.object a ≡ false
       going_beside y v named going a within =
           false_from_ne_true (covers p.object a) (λ inside.
-          let r = operand_of_object ts v y named in
-          let same = one_object m S facts v o r.0 p a r.1 holds.among
-          (ap (λ (z : Range). covers z a) r.2 ∙ within) inside in
+          let same = one_covered m S basis y p.object (going_named m S facts v y named going)
+          (holder_named m S facts o p s holds) a within inside in
           going_apart ts g S ground.round control buffers o p s holds writer m all ground y v going
-          (sym r.2 ∙ same))
+          same)
 
   -- ---- a task that holds all that it was told
 

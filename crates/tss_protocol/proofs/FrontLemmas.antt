@@ -17,7 +17,7 @@ use Rattle.tss_protocol.specs.State.{State, OperandState, Flying, Busy, Version,
 use Rattle.tss_protocol.specs.Stations.{is_complete, awaited, with_operand, is_gone, remaining_tasks, woken_in, woken_by, task_after_ready, linked_in, linked_by, operand_after_link, finished_in, parted_in, parted_by, operand_after_bye}
 use Rattle.tss_protocol.specs.Buffers.{is_last_piece}
 use Rattle.tss_protocol.specs.UnitMachine.{after_event, with_sent, without, open_message_taken, use_message_taken, ready_message_taken, link_message_taken, after_start, start_task, after_exec, after_finish, release_message_taken, bye_message_taken, idle_message_taken, nack_message_taken, retire_version, after_copy, gone_message_taken}
-use Rattle.tss_names.proofs.SentLemmas.{AllSent, IsLater, posted_all-later, after_open-later, after_use-later, after_release-later, after_nack-later, after_ready-later, after_link-later, flight_after_finish-later, after_idle-later, sent_by_retire-later, sent_by_copy-later}
+use Rattle.tss_protocol.proofs.SentLemmas.{AllSent, IsLater, posted_all-later, after_open-later, after_use-later, after_release-later, after_nack-later, after_ready-later, after_link-later, flight_after_finish-later, after_idle-later, sent_by_retire-later, sent_by_copy-later}
 
 -- ---- tasks in flight
 
