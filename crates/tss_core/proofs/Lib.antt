@@ -2,3 +2,4 @@ pub mod WordsLemmas
 pub mod PutLemmas
 pub mod PlainLemmas
 pub mod TaskLemmas
+pub mod KeptLemmas

@@ -1,8 +1,10 @@
 -- What a step answers and leaves.
-use Rattle.std.specs.Prelude.{◌≡◌, Option, None}
+use Rattle.std.specs.Prelude.{◌≡◌, true, Option, None}
+use Rattle.tss_isa.specs.declared.instr.Instr.{Instr}
+use Rattle.tss_isa.specs.InstrTable.{fits}
 use Rattle.tss_model.specs.Registers.{Registers}
 use Rattle.tss_model.specs.Core as model
-use Rattle.tss_model.specs.Core.{Write, Stepped, Executed, core_step}
+use Rattle.tss_model.specs.Core.{Write, Stepped, Executed, execute, core_step}
 use Rattle.tss_core.specs.declared.stepping.Outcome.{Outcome}
 use Rattle.tss_core.specs.declared.stepping.Outcome.TheVariants.{Next, Call, Ended, Trapped, Touched}
 use Rattle.tss_core.specs.Views.{Sight, IsAfter}
@@ -10,6 +12,11 @@ use Rattle.tss_core.specs.Views.{Sight, IsAfter}
 -- the step of an actor by what a view shows
 abbrev pub step_of : Sight → Registers → Stepped
 step_of s r = core_step s.actor s.byte s.word r
+
+-- the step is this instruction, whose fields are in their ranges
+pub record Executes (s : Sight) (r : Registers) (i : Instr) : Type 0 where
+  pub exact : step_of s r ≡ execute s.actor s.byte r i
+  pub fits : fits i ≡ true
 
 -- what it answers
 abbrev pub outcome_of : Stepped → Outcome

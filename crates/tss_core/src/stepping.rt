@@ -1,10 +1,10 @@
 // One step of an actor.
-ghost use Rattle.std.specs.Prelude.{◌≡◌, ◌==◌, ◌-◌, ◌%◌, ◌^◌, ◌<◌, ◌≤◌, IsTrue, None};
+ghost use Rattle.std.specs.Prelude.{◌≡◌, ◌==◌, ◌-◌, ◌%◌, ◌^◌, ◌<◌, ◌≤◌, IsTrue, IfOk, IfErr, None};
 ghost use Rattle.tss_isa.specs.InstrTable.{fits};
 ghost use Rattle.tss_model.specs.Registers.{trap_of, onward};
 ghost use Rattle.tss_model.specs.Core.{execute, load_from, store_to, result_in, jump_to, branch_if, moved, even};
 ghost use Rattle.tss_core.specs.Views.{IsAfter, is_width};
-ghost use Rattle.tss_core.specs.Steps.{IsStep, StepsTo, step_of, outcome_of, registers_after, write_of};
+ghost use Rattle.tss_core.specs.Steps.{IsStep, StepsTo, Executes, step_of, outcome_of, registers_after, write_of};
 
 use crate::access::Deny;
 use crate::arithmetic::{extended, load_width, op_of, op_result, passes, store_width};
@@ -30,8 +30,7 @@ pub enum Outcome {
 }
 
 /// One step of the actor whose registers and view these are.
-#[inline]
-#[tactic(auto, unfolding(tss_model::specs::Core::core_step))]
+#[inline(always)]
 pub fn step<V: View>(regs: &mut Regs, view: &mut V) -> Outcome
     requires { regs.old.done < 2 ^ 64 - 1 }
     ensures exact { result ≡ outcome_of (step_of (V.sight view.old) regs.old) }
@@ -39,16 +38,42 @@ pub fn step<V: View>(regs: &mut Regs, view: &mut V) -> Outcome
     ensures bytes { IsAfter (V.sight view.old) (write_of (step_of (V.sight view.old) regs.old)) (V.sight view.new) }
     ensures leaves { V.Leaves view.old (write_of (step_of (V.sight view.old) regs.old)) view.new }
 {
+    match instr_here(regs, view) {
+        Ok(instr) => execute(regs, view, instr),
+        Err(outcome) => outcome,
+    }
+}
+
+/// The instruction at the pc, or what a step answers where there is none to execute.
+#[inline(always)]
+#[tactic(auto, using(crate::proofs::KeptLemmas::stepped_by_kept))]
+fn instr_here<V: View>(regs: &Regs, view: &V) -> Result<Instr, Outcome>
+    ensures instr { IfOk result (λ i. Executes (V.sight view.now) regs.now i) }
+    ensures none { IfErr result (λ o. StepsTo (step_of (V.sight view.now) regs.now) regs.now regs.now o) }
+{
+    match view.kept(regs.pc()) {
+        Some(instr) => Ok(instr),
+        None => instr_read(regs, view),
+    }
+}
+
+/// The same, by the word at the pc.
+#[inline(never)]
+#[tactic(auto, unfolding(tss_model::specs::Core::core_step))]
+fn instr_read<V: View>(regs: &Regs, view: &V) -> Result<Instr, Outcome>
+    ensures instr { IfOk result (λ i. Executes (V.sight view.now) regs.now i) }
+    ensures none { IfErr result (λ o. StepsTo (step_of (V.sight view.now) regs.now) regs.now regs.now o) }
+{
     let pc = regs.pc();
     if pc == END_PC {
-        return Outcome::Ended;
+        return Err(Outcome::Ended);
     }
     let Some(word) = view.fetch(pc) else {
-        return trapped(regs, FETCH_OUTSIDE, pc);
+        return Err(trapped(regs, FETCH_OUTSIDE, pc));
     };
     match decode(word) {
-        Some(instr) => execute(regs, view, instr),
-        None => trapped(regs, ILLEGAL, word),
+        Some(instr) => Ok(instr),
+        None => Err(trapped(regs, ILLEGAL, word)),
     }
 }
 

@@ -162,6 +162,11 @@ row_of o w =
 unfoldable pub instr_of : ℕ → Option Instr
 instr_of w = row_of (opcode w) w
 
+-- the instruction of a word that may be there
+abbrev pub instr_at : Option ℕ → Option Instr
+instr_at (Some w) = instr_of w
+instr_at None = None
+
 -- ---- from an instruction to its word
 
 abbrev pub test_code : Test → ℕ

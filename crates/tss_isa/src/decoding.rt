@@ -9,7 +9,7 @@ use crate::fields::{
 use crate::instr::{EBREAK, ECALL, ImmOp, Instr, LoadKind, RegOp, StoreKind, Test};
 
 /// The instruction of a word, or none where the word is illegal. The instruction fits, and `encode` gives the word back.
-#[inline]
+#[inline(always)]
 pub fn decode(word: u32) -> Option<Instr>
     ensures exact { result ≡ instr_of word }
     ensures inverse { IfSome result (λ i. IsTrue (fits i) × (word_of i ≡ word)) }

@@ -7,4 +7,5 @@ mod ReadLemmas
 mod LoadLemmas
 mod LoadingLemmas
 mod SegmentLemmas
+mod KeptLemmas
 mod StripedLemmas

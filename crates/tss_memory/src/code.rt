@@ -1,32 +1,43 @@
 // The code of an image.
-ghost use Rattle.std.specs.Prelude.{◌≡◌, ◌<◌, ◌≤◌, IfOk, IsTrue, option_map};
+ghost use Rattle.std.specs.Prelude.{◌≡◌, ◌+◌, ◌*◌, ◌^◌, ◌<◌, ◌≤◌, IfOk, IfSome, IsNone, IsTrue, Some, length, option_map};
 ghost use Rattle.std.specs.List.Sorted.{IsPartitionPoint};
 ghost use Rattle.tss_base.specs.Range.{contains};
 ghost use Rattle.tss_base.specs.Image.{segment_end};
+ghost use Rattle.tss_base.specs.declared.addresses.TheConstants.{END_PC};
+ghost use Rattle.tss_isa.specs.InstrTable.{fits, instr_at};
 ghost use Rattle.tss_model.specs.Memory.{code_word, frozen, segment_range, segment_word};
-ghost use Rattle.tss_memory.specs.Segments.{AreApart, segment_with};
+ghost use Rattle.tss_memory.specs.Segments.{AreApart, AreKept, IsKept, segment_with, unless_break};
 
 use crate::numbers::number_of;
 use std::alloc::{AllocError, Global};
 use std::marker::Model;
+use tss_base::addresses::END_PC;
 use tss_base::{Image, Segment};
+use tss_isa::{Instr, decode};
 
-/// The segments that can be executed, with their bytes as loaded. They never change, whatever is stored in memory.
+/// The most words that are kept decoded, those of a megabyte.
+const KEPT_WORDS: u32 = 0x4_0000;
+
+/// The segments that can be executed, with their bytes as loaded. They never change, whatever is stored in memory. The
+/// words of the first, from its base on, are kept as they are decoded, so that a step reads an instruction by its place.
+/// EBREAK is kept where there is no instruction: a step at it ends its actor, so it may read the word anew.
 #[derive(Drop, Debug)]
 pub struct Code {
     segments: Vec<Segment>,
+    start: u32,
+    kept: Vec<Instr>,
 }
 
 impl Model for Code {
     ghost use Rattle.std.specs.Prelude.{List};
     ghost use Rattle.tss_base.specs.Image.{SegmentState};
-    ghost use Rattle.tss_memory.specs.Segments.{AreApart};
+    ghost use Rattle.tss_memory.specs.Segments.{IsCode};
 
     ghost Value = { List SegmentState };
 
     ghost view = { λ c. c.segments.items };
 
-    ghost invariant = { λ c. AreApart c.segments.items };
+    ghost invariant = { λ c. IsCode c.segments.items c.start c.kept.items };
 }
 
 impl Code {
@@ -34,8 +45,13 @@ impl Code {
     pub(crate) fn load(alloc: Global, image: &Image) -> Result<Code, AllocError>
         ensures { IfOk result (λ c. c ≡ frozen image.now) }
     {
+        let segments = code_segments(alloc, image)?;
+        let (start, count) = kept_words(segments.as_slice());
+        let kept = kept_from(alloc, segments.as_slice(), start, count)?;
         Ok(Code {
-            segments: code_segments(alloc, image)?,
+            segments,
+            start,
+            kept,
         })
     }
 
@@ -44,12 +60,95 @@ impl Code {
     pub fn fetch(&self, pc: u32) -> Option<u32>
         ensures { result ≡ code_word self.now pc }
     {
-        if !pc.is_multiple_of(4) {
-            return None;
-        }
-        let segment = segment_at(self.segments.as_slice(), pc)?;
-        Some(word_in(segment, pc))
+        word_at(self.segments.as_slice(), pc)
     }
+
+    /// The instruction at a pc, where it is kept decoded. None says nothing.
+    #[inline(always)]
+    pub fn kept(&self, pc: u32) -> Option<Instr>
+        ensures exact { IfSome result (λ i. instr_at (code_word self.now pc) ≡ Some i) }
+        ensures fits { IfSome result (λ i. IsTrue (fits i)) }
+        ensures end { pc ≡ END_PC → IsNone result }
+    {
+        let beyond = pc.wrapping_sub(self.start);
+        let place = (beyond / 4) as usize;
+        if beyond % 4 == 0 && place < self.kept.len() {
+            let instr = self.kept[place];
+            unless_break(instr)
+        } else {
+            None
+        }
+    }
+}
+
+/// An instruction that isn't EBREAK.
+#[inline(always)]
+fn unless_break(instr: Instr) -> Option<Instr>
+    ensures { result ≡ unless_break instr }
+{
+    match instr {
+        Instr::Ebreak => None,
+        _ => Some(instr),
+    }
+}
+
+/// Where the words begin that are kept decoded, and how many they are.
+fn kept_words(segments: &[Segment]) -> (u32, u32)
+    ensures { result.0 + 4 * result.1 ≤ END_PC }
+{
+    match segments.first() {
+        Some(first) => {
+            let start = first.base();
+            if start < END_PC {
+                let room = (END_PC - start) / 4;
+                (start, (first.len() / 4).min(room).min(KEPT_WORDS))
+            } else {
+                (0, 0)
+            }
+        }
+        None => (0, 0),
+    }
+}
+
+/// What is kept for so many pcs from an address on, four apart.
+fn kept_from(
+    alloc: Global,
+    segments: &[Segment],
+    start: u32,
+    count: u32,
+) -> Result<Vec<Instr>, AllocError>
+    requires apart { AreApart segments.now }
+    requires within { start + 4 * count ≤ END_PC }
+    ensures kept { IfOk result (λ kept. AreKept segments.now start kept.items) }
+    ensures count { IfOk result (λ kept. length kept.items ≡ count) }
+{
+    let mut kept = Vec::with_capacity(alloc, count as usize)?;
+    for k in 0..count {
+        kept.push(kept_for(word_at(segments, start + 4 * k)))?;
+    }
+    Ok(kept)
+}
+
+/// What is kept for a pc that has this word, or none.
+fn kept_for(word: Option<u32>) -> Instr
+    ensures { IsKept word result }
+{
+    match word {
+        Some(word) => decode(word).unwrap_or(Instr::Ebreak),
+        None => Instr::Ebreak,
+    }
+}
+
+/// The word at a pc.
+fn word_at(segments: &[Segment], pc: u32) -> Option<u32>
+    requires { AreApart segments.now }
+    ensures { result ≡ code_word segments.now pc }
+{
+    if !pc.is_multiple_of(4) {
+        return None;
+    }
+    let segment = segment_at(segments, pc)?;
+    Some(word_in(segment, pc))
 }
 
 /// The segments of an image that can be executed.

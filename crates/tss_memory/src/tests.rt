@@ -7,6 +7,7 @@ use std::alloc::Global;
 use std::process::Abort;
 use std::test::Fail;
 use tss_base::{Image, Range, Segment};
+use tss_isa::{ImmOp, Instr};
 
 /// The base of the first segment.
 const FIRST: u32 = 0x10000;
@@ -144,5 +145,26 @@ fn overwritten_bytes_are_told_as_loaded(rt: HostRuntime) -> Result<(), Fail> {
     is_loaded(&rt, &image, &space, FIRST + 2, [1; 4]);
     is_loaded(&rt, &image, &space, FIRST + 8, [2; 4]);
     is_loaded(&rt, &image, &space, 0xFFFEFFFC, [0; 4]);
+    Ok(())
+}
+
+#[test]
+fn the_first_segment_keeps_its_instructions(rt: HostRuntime) -> Result<(), Fail> {
+    // addi x6, x5, -1; ebreak; no instruction; half a word
+    let bytes = vec![in rt.alloc();
+        0x13, 0x83, 0xF2, 0xFF, 0x73, 0x00, 0x10, 0x00, 0x00, 0x00, 0x00, 0x00, 0x13, 0x83,
+    ]?;
+    let segments = vec![in rt.alloc(); Segment::new(FIRST, bytes, false, true)]?;
+    let (_, code) = Space::load(rt.alloc(), &Image::new(FIRST, segments))?;
+    let decrement = Instr::OpImm {
+        op: ImmOp::Addi,
+        rd: 6,
+        rs1: 5,
+        imm: -1,
+    };
+    assert_eq!(rt; code.kept(FIRST), Some(decrement));
+    for at in [FIRST - 4, FIRST + 2, FIRST + 4, FIRST + 8, FIRST + 12] {
+        assert_eq!(rt; code.kept(at), None, "at {at}");
+    }
     Ok(())
 }

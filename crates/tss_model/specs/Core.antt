@@ -240,6 +240,6 @@ execute_fetched actor byte r (Some w) = execute_word actor byte r w (instr_of w)
 execute_fetched actor byte r None = Trapped (trap_of r FETCH_OUTSIDE r.pc)
 
 -- one step: the first of these that applies. The pc is where a task has ended; there is no word at the pc; the word is
--- ILLEGAL; the instruction is executed or traps. Whether a budget is spent is tested before it by who takes the step
+-- illegal; the instruction is executed or traps. Whether a budget is spent is tested before it by who takes the step
 unfoldable pub core_step : Actor → (ℕ → ℕ) → (ℕ → Option ℕ) → Registers → Stepped
 core_step actor byte word r = if r.pc == END_PC then Ended else execute_fetched actor byte r (word r.pc)
