@@ -1,10 +1,14 @@
 // The inbox of an idle gateway.
+ghost use Rattle.std.specs.Prelude.{◌≡◌};
+
 use crate::Gateway;
 use std::test::Fail;
 use tss_base::{Blocked, Mode, OpName, Operand, Range, Task};
 
 /// A task with one operand.
-fn task(number: u32) -> Task {
+fn task(number: u32) -> Task
+    ensures { result.count ≡ 1 }
+{
     let object = Range {
         base: 0x20000,
         len: 4,
