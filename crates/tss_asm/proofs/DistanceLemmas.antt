@@ -1,11 +1,11 @@
 -- Distances between places, and the two parts of an address.
-use Rattle.std.proofs.Common.{◌≡◌, ℕ, suc, ◌+◌, ◌-◌, ◌*◌, ◌/◌, ◌%◌, ◌^◌, ◌<◌, ◌≤◌, Bool, true, false, ◌&&◌, refl, sym, ap, ◌∙◌, subst}
+use Rattle.std.proofs.Common.{◌≡◌, ℕ, suc, ◌+◌, ◌-◌, ◌*◌, ◌/◌, ◌%◌, ◌^◌, ◌<◌, ◌≤◌, Bool, true, false, refl, sym, ap, ◌∙◌}
 use Rattle.std.proofs.Common.{arith, ◌⊎◌, inl, inr}
-use Rattle.std.specs.Prelude.{ℤ, pos, negsuc, ◌==◌, nat_lt, nat_le, if◌then◌else◌}
+use Rattle.std.specs.Prelude.{pos, negsuc, ◌==◌, nat_lt, nat_le, if◌then◌else◌}
 use Rattle.std.proofs.lemmas.Bool.Decides.{nat_tests}
 use Rattle.std.proofs.lemmas.Int.{ints}
 use Rattle.tss_isa.specs.Fields.{signed}
-use Rattle.tss_isa.specs.InstrTable.{is_within, is_even, is_upper, twos}
+use Rattle.tss_isa.specs.InstrTable.{is_within, is_even, is_upper}
 use Rattle.tss_asm.specs.Words.{distance, upper_part, lower_part}
 
 pub forward : (from to d : ℕ) → to ≡ from + d → distance from to ≡ pos (4 * d)

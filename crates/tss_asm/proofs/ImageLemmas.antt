@@ -1,26 +1,23 @@
 -- The image of a program without faults is accepted, and is loaded as the words that were built.
-use Rattle.std.proofs.Common.{◌≡◌, ℕ, ◌+◌, ◌*◌, ◌-◌, ◌^◌, ◌<◌, ◌≤◌, Bool, true, false, cond, refl, sym, ap, ◌∙◌, subst, arith}
-use Rattle.std.proofs.Common.{Option, None, List, [], ◌∷◌, ◌++◌, length, take, drop, length-append, append-nil}
+use Rattle.std.proofs.Common.{◌≡◌, ℕ, ◌+◌, ◌*◌, ◌-◌, ◌^◌, ◌<◌, Bool, true, false, cond, refl, sym, ap, ◌∙◌, arith}
+use Rattle.std.proofs.Common.{None, List, [], ◌∷◌, ◌++◌, length, take, drop, length-append, append-nil}
 use Rattle.std.specs.Prelude.{filter, flat_map, map, replicate, nat_lt, nat_le, ◌==◌, not, Result, Ok, Err, IfOk}
 use Rattle.std.specs.Global.{Vec}
 use Rattle.std.proofs.Math.Seq.{take-append_seam, drop-append_seam}
 use Rattle.std.proofs.lemmas.Bool.{eqb-true}
 use Rattle.std.proofs.lemmas.Bool.Decides.{nat_tests}
 use Rattle.std.proofs.lemmas.List.{take_all}
-use Rattle.std.proofs.lemmas.List.Concat.{length-flat_map}
-use Rattle.byteorder.specs.Endian.{little_number, little_bytes}
+use Rattle.byteorder.specs.Endian.{little_number}
 use Rattle.byteorder.specs.Numbers.{little_number-reads_back}
 use Rattle.tss_base.specs.Image.{SegmentState}
-use Rattle.tss_base.specs.declared.addresses.TheConstants.{SEGMENTS_END}
-use Rattle.tss_base.specs.declared.bounds.TheConstants.{MAX_IMAGE_BYTES}
 use Rattle.tss_elf.specs.declared.header.ProgramHeader.{ProgramHeader}
 use Rattle.tss_elf.specs.declared.refusal.Refusal.{Refusal}
 use Rattle.tss_elf.specs.declared.refusal.Refusal.TheVariants as check
-use Rattle.tss_elf.specs.Fields.{half_at, word_at, header_at, headers, kept_headers, is_kept, entry_of, place_of}
+use Rattle.tss_elf.specs.Fields.{half_at, word_at, header_at, headers, kept_headers, is_kept, entry_of}
 use Rattle.tss_elf.specs.Checks.{file_checks, header_checks, kept_checks, each_header_checks, first_failing}
-use Rattle.tss_elf.specs.Elf.{image_of, Accepted, loaded_image, loaded_bytes, segment_of, by_address}
+use Rattle.tss_elf.specs.Elf.{image_of, Accepted, loaded_bytes, segment_of, by_address}
 use Rattle.tss_elf.proofs.Verdicts.{accepted_all}
-use Rattle.tss_elf.proofs.Failing.{passed_before, passed_after, failing_after}
+use Rattle.tss_elf.proofs.Failing.{passed_before, passed_after}
 use Rattle.tss_asm.specs.declared.fault.AsmFault.{AsmFault}
 use Rattle.tss_asm.specs.Program.{ProgramState}
 use Rattle.tss_asm.specs.Words.{words, address_of}

@@ -1,7 +1,6 @@
 -- Items one after the other: the faults of some, and the words of all.
 use Rattle.std.proofs.Common.{◌≡◌, ℕ, zero, suc, ◌+◌, ◌^◌, ◌<◌, Bool, true, false, ◌&&◌, ◌||◌, not, refl, sym, ap, ◌∙◌, subst}
 use Rattle.std.proofs.Common.{arith, Option, List, [], ◌∷◌, ◌++◌, length, get_or, take, true≢false, append_assoc}
-use Rattle.std.specs.Prelude.{flat_map}
 use Rattle.std.specs.List.{list_any}
 use Rattle.std.proofs.lemmas.Bool.{or_parts, not-false}
 use Rattle.std.proofs.lemmas.List.{take_more, length-take-le}
@@ -12,7 +11,7 @@ use Rattle.tss_isa.specs.InstrTable.{fits, is_register, is_within, is_even, is_u
 use Rattle.tss_asm.specs.declared.item.Item.{Item}
 use Rattle.tss_asm.specs.declared.item.Item.TheVariants as item
 use Rattle.tss_asm.specs.Labels.{label_place}
-use Rattle.tss_asm.specs.Words.{Content, Encoded, Stored, content, content_word, words_from, distance, upper_part}
+use Rattle.tss_asm.specs.Words.{Encoded, content, content_word, words_from, distance, upper_part}
 use Rattle.tss_asm.specs.Words.{lower_part, label_address}
 use Rattle.tss_asm.specs.Image.{word_bytes, bytes_of_words}
 use Rattle.tss_asm.specs.Faults.{any_from, is_far, is_unfit, has_fit_fields}

@@ -1,18 +1,16 @@
 -- Where the segments and the entry lie: what the checks of an image ask of them.
-use Rattle.std.proofs.Common.{◌≡◌, ℕ, ◌+◌, ◌*◌, ◌%◌, ◌^◌, ◌<◌, ◌≤◌, Bool, true, false, ◌&&◌, ◌||◌, not, cond, refl, sym, ap, ◌∙◌}
-use Rattle.std.proofs.Common.{arith, Option, Some, None, List, [], ◌∷◌, ◌++◌, length, subst, true≢false}
-use Rattle.std.specs.Prelude.{All, filter, is_some, nat_lt, nat_le, ◌==◌, sum_by}
-use Rattle.std.specs.List.{list_any}
-use Rattle.std.proofs.lemmas.Bool.{or_parts, not-false, ltb-false, ltb-true, eqb-true}
+use Rattle.std.proofs.Common.{◌≡◌, ℕ, ◌+◌, ◌*◌, ◌%◌, ◌<◌, ◌≤◌, Bool, true, false, ◌||◌, not, cond, refl, sym, ap, ◌∙◌}
+use Rattle.std.proofs.Common.{arith, Option, Some, None, List, [], ◌∷◌, length, true≢false}
+use Rattle.std.specs.Prelude.{All, filter, is_some, nat_lt, ◌==◌}
+use Rattle.std.proofs.lemmas.Bool.{or_parts, ltb-false}
 use Rattle.std.proofs.lemmas.Bool.Decides.{nat_tests}
 use Rattle.tss_base.specs.declared.addresses.TheConstants.{SEGMENTS_END}
 use Rattle.tss_base.specs.declared.bounds.TheConstants.{MAX_IMAGE_BYTES}
-use Rattle.tss_base.specs.Range.{meets, end_of}
+use Rattle.tss_base.specs.Range.{meets}
 use Rattle.tss_elf.specs.declared.header.ProgramHeader.{ProgramHeader}
-use Rattle.tss_elf.specs.declared.refusal.Refusal.{Refusal}
 use Rattle.tss_elf.specs.declared.refusal.Refusal.TheVariants as check
-use Rattle.tss_elf.specs.Fields.{is_kept, is_code, range_of}
-use Rattle.tss_elf.specs.Checks.{header_checks, kept_checks, first_failing, has_code_at, is_misplaced}
+use Rattle.tss_elf.specs.Fields.{is_kept, range_of}
+use Rattle.tss_elf.specs.Checks.{kept_checks, first_failing, is_misplaced}
 use Rattle.tss_elf.specs.Checks.{has_overlap, has_no_code, has_misplaced_entry, is_too_large}
 use Rattle.tss_elf.proofs.Acceptance.{all_passed}
 use Rattle.tss_asm.specs.Labels.{label_place}

@@ -3,20 +3,24 @@ ghost use Rattle.std.specs.Prelude.{All, IsTrue, take};
 ghost use Rattle.tss_outside.specs.MemFiles.{is_known};
 ghost use Rattle.tss_run.specs.Words.{words_of};
 
-use super::{description, expect, image, words};
+use super::{expect, words};
 use crate::answering::tss_main;
 use std::alloc::Global;
 use std::process::Abort;
 use std::rt::Files;
 use std::test::Fail;
+use tss_asm::AsmFault;
+use tss_base::Key;
 use tss_outside::{HonestFiles, HonestSink, MemFiles, MemSink, RealFiles};
-
-/// Main exits with 7.
-const EXIT_SEVEN: &str = "130570009308100073000000";
+use tss_programs::{Source, description, exit_seven};
 
 /// Main prints a page of zeros and exits.
-const PAGE: &str =
-    "3705020013050500b715000093850500b708000093884800730000003705000013050500b70800009388180073000000";
+fn page(alloc: Global) -> Result<Vec<u8>, AsmFault> {
+    let mut main = Source::open(alloc)?;
+    main.print(0x20000, 4096)?;
+    main.exit(0)?;
+    main.image()
+}
 
 /// Whether the files know each word, as the top call asks.
 fn knows_words(files: &MemFiles, words: &[String]) -> bool
@@ -34,8 +38,8 @@ fn knows_words(files: &MemFiles, words: &[String]) -> bool
 fn expect_read_fault(rt: &impl Abort, alloc: Global, number: u32, text: &[u8]) -> Result<(), Fail> {
     let mut files = MemFiles::new(alloc);
     files.put("inorder", &[])?;
-    files.put("image", image(alloc, EXIT_SEVEN)?.as_slice())?;
-    files.put("machine", description(alloc, "", "")?.as_str().as_bytes())?;
+    files.put("image", exit_seven(alloc)?.as_slice())?;
+    files.put("machine", description(alloc, &[])?.as_str().as_bytes())?;
     files.fail_read(number)?;
     let texts = words(alloc, &["inorder", "image", "machine"])?;
     let words = texts.as_slice();
@@ -57,9 +61,9 @@ fn a_read_that_fails_is_told(rt: HostRuntime) -> Result<(), Fail> {
 fn files_of_one_byte_too_many_are_long(rt: HostRuntime) -> Result<(), Fail> {
     let alloc = rt.alloc();
     let long_machine = vec![in alloc; 0u8; 65_537]?;
-    let image = image(alloc, EXIT_SEVEN)?;
+    let image = exit_seven(alloc)?;
     expect(&rt, alloc, &long_machine, &image, 7, b"long machine\n")?;
-    let machine = description(alloc, "", "")?;
+    let machine = description(alloc, &[])?;
     let long_image = vec![in alloc; 0u8; 33_554_433]?;
     expect(
         &rt,
@@ -75,15 +79,15 @@ fn files_of_one_byte_too_many_are_long(rt: HostRuntime) -> Result<(), Fail> {
 fn expect_write_fault(
     rt: &impl Abort,
     alloc: Global,
-    code: &str,
+    image: &[u8],
     number: u32,
     written: usize,
 ) -> Result<(), Fail> {
     let mut files = HonestFiles::new(alloc);
-    files.put("image", image(alloc, code)?.as_slice())?;
+    files.put("image", image)?;
     files.put(
         "machine",
-        description(alloc, "output_bytes", "4096")?
+        description(alloc, &[(Key::OutputBytes, "4096")])?
             .as_str()
             .as_bytes(),
     )?;
@@ -98,17 +102,17 @@ fn expect_write_fault(
 #[test]
 fn a_write_that_fails_is_told(rt: HostRuntime) -> Result<(), Fail> {
     let alloc = rt.alloc();
-    expect_write_fault(&rt, alloc, EXIT_SEVEN, 1, 0)?;
-    expect_write_fault(&rt, alloc, PAGE, 1, 0)?;
-    expect_write_fault(&rt, alloc, PAGE, 2, 4096)
+    expect_write_fault(&rt, alloc, &exit_seven(alloc)?, 1, 0)?;
+    expect_write_fault(&rt, alloc, &page(alloc)?, 1, 0)?;
+    expect_write_fault(&rt, alloc, &page(alloc)?, 2, 4096)
 }
 
 #[test]
 fn honest_files_and_an_honest_sink_have_no_faults(rt: HostRuntime) -> Result<(), Fail> {
     let alloc = rt.alloc();
     let mut files = HonestFiles::new(alloc);
-    files.put("image", image(alloc, EXIT_SEVEN)?.as_slice())?;
-    files.put("machine", description(alloc, "", "")?.as_str().as_bytes())?;
+    files.put("image", exit_seven(alloc)?.as_slice())?;
+    files.put("machine", description(alloc, &[])?.as_str().as_bytes())?;
     let words = words(alloc, &["inorder", "image", "machine"])?;
     let mut out = HonestSink::new();
     assert_eq!(rt; tss_main(alloc, words.as_slice(), &mut files, &mut out), 0);
@@ -139,8 +143,8 @@ fn expect_real(
 fn real_files_are_read_and_missing_ones_and_folders_are_not(rt: HostRuntime) -> Result<(), Fail> {
     let alloc = rt.alloc();
     std::fs::create_dir(&rt, "folder")?;
-    std::fs::write(&rt, "image", image(alloc, EXIT_SEVEN)?.as_slice())?;
-    std::fs::write(&rt, "machine", description(alloc, "", "")?.as_str())?;
+    std::fs::write(&rt, "image", exit_seven(alloc)?.as_slice())?;
+    std::fs::write(&rt, "machine", description(alloc, &[])?.as_str())?;
     let report = b"end exit 7\ntasks 0\noutput 0\n\n";
     expect_real(&rt, alloc, "image", "machine", 0, report)?;
     expect_real(&rt, alloc, "image", "missing", 7, b"read machine\n")?;

@@ -1,5 +1,5 @@
 // From the arguments of a process to its status.
-use super::{description, image, words as texts};
+use super::words as texts;
 use crate::process::{exit_code, words};
 use std::alloc::Global;
 use std::io;
@@ -7,6 +7,7 @@ use std::io::ErrorKind;
 use std::process::{Abort, ExitCode};
 use std::test::Fail;
 use tss_outside::{HonestFiles, MemSink};
+use tss_programs::{description, exit_seven};
 
 /// Checks the words of arguments, which are the program's name and these.
 fn expect_words(rt: &impl Abort, alloc: Global, args: &[&str]) -> Result<(), Fail> {
@@ -40,12 +41,10 @@ fn the_words_are_all_arguments_but_the_first(rt: HostRuntime) -> Result<(), Fail
 fn the_process_ends_with_the_answer(rt: HostRuntime) -> Result<(), Fail> {
     let alloc = rt.alloc();
     let mut files = HonestFiles::new(alloc);
-    files.put(
-        "image",
-        image(alloc, "130570009308100073000000")?.as_slice(),
-    )?;
-    files.put("machine", description(alloc, "", "")?.as_str().as_bytes())?;
+    files.put("image", exit_seven(alloc)?.as_slice())?;
+    files.put("machine", description(alloc, &[])?.as_str().as_bytes())?;
     let words = texts(alloc, &["inorder", "image", "machine"])?;
+    let fewer = texts(alloc, &["inorder", "image"])?;
     for (words, room, status, text) in [
         (
             Some(words.as_slice()),
@@ -55,7 +54,7 @@ fn the_process_ends_with_the_answer(rt: HostRuntime) -> Result<(), Fail> {
         ),
         (Some(words.as_slice()), 4, 8, b""),
         (
-            Some(&words.as_slice()[..2]),
+            Some(fewer.as_slice()),
             64,
             6,
             b"usage: inorder IMAGE MACHINE\n",

@@ -1,4 +1,4 @@
-use Rattle.std.proofs.Common.{◌<◌, ◌++◌, length, ap, ◌∙◌, arith}
+use Rattle.std.proofs.Common.{◌++◌, ap, ◌∙◌, arith}
 use Rattle.tss_asm.specs.Words.{content, content_word}
 use Rattle.tss_asm.specs.Faults.{is_far, has_fit_fields}
 use Rattle.tss_asm.proofs.ItemLemmas.{any_none, fields_fit, words_more}

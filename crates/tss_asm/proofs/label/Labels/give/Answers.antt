@@ -1,4 +1,4 @@
-use Rattle.std.proofs.Common.{◌≡◌, sym, ap, ◌∙◌, None}
+use Rattle.std.proofs.Common.{sym, ap, ◌∙◌, None}
 use Rattle.std.specs.FinMap.{get, insert}
 use Rattle.tss_asm.proofs.LabelLemmas.{get-labels_of, labels_updated}
 use Rattle.tss_asm.proofs.label.Labels.give.Goals as goal

@@ -1,4 +1,4 @@
-use Rattle.std.proofs.Common.{◌≡◌, sym, ap, ◌∙◌, None}
+use Rattle.std.proofs.Common.{sym, ap, ◌∙◌}
 use Rattle.std.specs.Option.{option_copied_mut}
 use Rattle.tss_asm.proofs.LabelLemmas.{placed_some, placed_none}
 use Rattle.tss_asm.proofs.label.Labels.place.Goals as goal

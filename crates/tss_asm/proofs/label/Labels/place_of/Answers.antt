@@ -1,4 +1,4 @@
-use Rattle.std.proofs.Common.{◌≡◌, sym, ap, ◌∙◌, None, Some}
+use Rattle.std.proofs.Common.{sym, ap, ◌∙◌, None, Some}
 use Rattle.std.specs.Option.{option_copied}
 use Rattle.tss_asm.specs.Labels.{place_of}
 use Rattle.tss_asm.proofs.LabelLemmas.{place_is}

@@ -1,4 +1,4 @@
-use Rattle.std.proofs.Common.{◌≡◌, sym, ◌∙◌}
+use Rattle.std.proofs.Common.{sym, ◌∙◌}
 use Rattle.tss_asm.proofs.ImageLemmas.{accepted_from}
 use Rattle.tss_asm.proofs.program.Program.finish.Goals as goal
 
