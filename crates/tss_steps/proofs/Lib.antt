@@ -1,0 +1,11 @@
+pub mod StepLemmas
+pub mod ByteLemmas
+pub mod PlaceLemmas
+pub mod GrantLemmas
+pub mod ViewLemmas
+pub mod TaskLemmas
+pub mod MainLemmas
+pub mod StretchLemmas
+pub mod PrintedLemmas
+pub mod SpawnPlaces
+pub mod CallLemmas

@@ -1,0 +1,30 @@
+-- The steps of a stretch of main are those of the definition.
+use Rattle.std.proofs.Common.{arith}
+use Rattle.tss_steps.proofs.StretchLemmas.{same_main, step_of_same, main_further, main_rests, main_stretched}
+use Rattle.tss_steps.specs.declared.mains.MainTurn.TheVariants.{Further, Rests}
+use Rattle.tss_steps.proofs.mains.stretch_main.Goals as goal
+
+pub loop-left-preserved : goal.loop-left-preserved
+loop-left-preserved c = record {
+  same = same_main c.args.view.now c.loop-left.view c.step_main.new.view c.loop-left.invariant.same c.step_main.ensures.same;
+  left =
+      main_further c.args.view.now.code.now c.args.limits.now c.args.view.now.epoch.now.objects c.loop-left.left c.args.most
+      c.loop-left.regs c.args.regs.now c.loop-left.view.space.now c.args.view.now.space.now c.loop-left.invariant.left
+      (omega (arith, c.loop-left-test.true)) c.step_main.new.regs c.step_main.new.view.space.now
+      (step_of_same c.args.limits.now c.args.view.now c.loop-left.view c.loop-left.invariant.same c.loop-left.regs
+      c.step_main.new.regs c.loop-left.view.space.now c.step_main.new.view.space.now Further c.in-Further.ensures.exact);
+}
+
+pub returns-in-Rests-clause-exact : goal.returns-in-Rests-clause-exact
+returns-in-Rests-clause-exact c =
+    main_rests c.args.view.now.code.now c.args.limits.now c.args.view.now.epoch.now.objects c.loop-left.left c.args.most
+    c.loop-left.regs c.args.regs.now c.loop-left.view.space.now c.args.view.now.space.now c.loop-left.invariant.left
+    (omega (arith, c.loop-left-test.true)) c.step_main.new.regs c.step_main.new.view.space.now c.in-Rests.ending
+    (step_of_same c.args.limits.now c.args.view.now c.loop-left.view c.loop-left.invariant.same c.loop-left.regs
+    c.step_main.new.regs c.loop-left.view.space.now c.step_main.new.view.space.now (Rests c.in-Rests.ending) c.in-Rests.ensures.exact)
+
+pub returns-clause-exact : goal.returns-clause-exact
+returns-clause-exact c =
+    main_stretched c.args.view.now.code.now c.args.limits.now c.args.view.now.epoch.now.objects c.loop-left.left c.args.most
+    c.loop-left.regs c.args.regs.now c.loop-left.view.space.now c.args.view.now.space.now c.loop-left.invariant.left
+    (omega (arith, c.loop-left-test.false))

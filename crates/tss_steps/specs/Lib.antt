@@ -1,0 +1,7 @@
+pub mod Placing
+pub mod Seen
+pub mod Tasks
+pub mod Mains
+pub mod Left
+pub mod Printing
+pub mod Limited

@@ -1,0 +1,148 @@
+// Main: its state, and its stretches and calls.
+ghost use Rattle.std.specs.Prelude.{◌≡◌, ◌-◌, ◌^◌, ◌<◌, ◌≤◌, IfOk, IfSome, None, option_map, slice_get};
+ghost use Rattle.tss_base.specs.declared.bounds.TheConstants.{MAX_OPERANDS};
+ghost use Rattle.tss_model.specs.Memory.{Memory};
+ghost use Rattle.tss_model.specs.Registers.{register_at};
+ghost use Rattle.tss_model.specs.MainStep.{call_of, main_ended, main_start, main_stretch, next_call, output_of};
+ghost use Rattle.tss_steps.specs.Limited.{flat_of};
+
+use crate::mains::{MainView, called_at, stretch_main};
+use crate::printed::Printed;
+use std::alloc::Global;
+use std::marker::Model;
+use tss_base::{Ending, Limits, NoMemory, Range};
+use tss_core::Regs;
+use tss_memory::{Code, Space};
+use tss_operands::Epoch;
+
+/// Main, with the limits that it runs under: its registers, the number of tasks that it has spawned, the objects that it
+/// has named in this epoch, what it has printed, and its ending where it has ended. Memory of the process is taken as it
+/// is opened, and not after.
+#[derive(Drop, Debug)]
+pub struct Main {
+    pub(crate) limits: Limits,
+    pub(crate) regs: Regs,
+    pub(crate) spawned: u32,
+    pub(crate) epoch: Epoch,
+    pub(crate) printed: Printed,
+    pub(crate) ending: Option<Ending>,
+    pub(crate) near: u32,
+}
+
+impl Model for Main {
+    ghost use Rattle.tss_steps.specs.Limited.{LimitedMain, IsLimited};
+
+    ghost Value = { LimitedMain };
+
+    ghost view = { λ m. record {
+      limits = m.limits;
+      main = record {
+        registers = m.regs;
+        spawned = m.spawned;
+        epoch = m.epoch.objects;
+        pieces = m.printed.pieces;
+        ending = m.ending;
+      };
+    } };
+
+    ghost invariant = { λ m. IsLimited m.limits m.epoch.limit m.printed.limit };
+}
+
+impl Main {
+    /// Main before its first instruction, which is at `entry`.
+    pub fn open(alloc: Global, entry: u32, limits: &Limits) -> Result<Main, NoMemory>
+        requires { limits.now.max_operands ≤ MAX_OPERANDS }
+        ensures { IfOk result (λ m. m ≡ record { limits = limits.now; main = main_start entry }) }
+    {
+        Ok(Main {
+            limits: *limits,
+            regs: Regs::main(entry),
+            spawned: 0,
+            epoch: Epoch::open(alloc, limits.epoch_objects)?,
+            printed: Printed::open(alloc, limits.output_bytes)?,
+            ending: None,
+            near: 0,
+        })
+    }
+
+    /// The limits that it runs under.
+    pub fn limits(&self) -> &Limits
+        ensures { result.now ≡ self.now.limits }
+    {
+        &self.limits
+    }
+
+    /// The registers.
+    pub fn regs(&self) -> &Regs
+        ensures { result.now ≡ self.now.main.registers }
+    {
+        &self.regs
+    }
+
+    /// How many tasks have been spawned.
+    pub fn spawned(&self) -> u32
+        ensures { result ≡ self.now.main.spawned }
+    {
+        self.spawned
+    }
+
+    /// The object that was named at a place in order of naming, from 0. None exactly where no more are named.
+    pub fn epoch_at(&self, i: u32) -> Option<Range>
+        ensures { result ≡ slice_get self.now.main.epoch i }
+    {
+        self.epoch.at(i)
+    }
+
+    /// The ending, where main has ended.
+    pub fn ending(&self) -> Option<Ending>
+        ensures { result ≡ self.now.main.ending }
+    {
+        self.ending
+    }
+
+    /// All that main has printed.
+    pub fn output(&self) -> &[u8]
+        ensures { result.now ≡ output_of self.now.main.pieces }
+    {
+        self.printed.bytes()
+    }
+
+    /// The number in x17 where main's next step is a call. None where it has ended or has spent its budget, or its next
+    /// step is no ECALL.
+    pub fn next_call(&self, code: &Code) -> Option<u32>
+        ensures exact { (memory : Memory) → option_map call_of result ≡ next_call code.now self.now.limits (flat_of self.now memory) }
+        ensures number { IfSome result (λ n. n ≡ register_at self.now.main.registers 17) }
+        ensures callable { IfSome result (λ n. self.now.main.registers.done < 2 ^ 64 - 1) }
+    {
+        if self.ending.is_some() || self.regs.done() >= self.limits.main_budget {
+            return None;
+        }
+        called_at(&self.regs, code)
+    }
+
+    /// A stretch of at most `most` steps over memory, fewer where main ends before or its next step is a call.
+    pub fn stretch(&mut self, code: &Code, space: &mut Space, most: u32)
+        ensures exact { flat_of self.new space.new ≡ main_stretch code.now self.old.limits most (flat_of self.old space.old) }
+        ensures limits { self.new.limits ≡ self.old.limits }
+    {
+        if self.ending.is_some() {
+            return;
+        }
+        let mut view = MainView {
+            space,
+            code,
+            epoch: &self.epoch,
+            near: self.near,
+        };
+        let ending = stretch_main(&mut self.regs, &mut view, &self.limits, most);
+        self.near = view.near;
+        self.ending = ending;
+    }
+
+    /// Main ends.
+    pub fn end(&mut self, ending: Ending)
+        ensures { self.new ≡ record self.old { main = main_ended self.old.main ending } }
+    {
+        self.ending = Some(ending);
+    }
+}

@@ -1,0 +1,129 @@
+// The scratch of a task.
+ghost use Rattle.std.specs.Prelude.{◌≡◌, ◌+◌, ◌-◌, ◌^◌, ◌<◌, ◌≤◌, IfOk, IsTrue, length, slice_index, vec_len};
+ghost use Rattle.tss_base.specs.Range.{contains};
+ghost use Rattle.tss_model.specs.Memory.{number_at, list_put, scratch_range, zeros};
+ghost use Rattle.tss_model.specs.Core.{low_bytes};
+ghost use Rattle.tss_core.specs.Views.{is_width};
+
+use std::alloc::{AllocError, Global};
+use std::marker::Model;
+use tss_base::addresses::SCRATCH;
+use tss_base::{NoMemory, Range};
+
+/// The bytes of the scratch of the task that runs. The next task finds zeros in it.
+#[derive(Drop)]
+pub struct Scratch {
+    bytes: Vec<u8>,
+}
+
+impl Model for Scratch {
+    ghost use Rattle.std.specs.Prelude.{◌≡◌, ℕ, List, vec_len};
+    ghost use Rattle.tss_model.specs.Memory.{scratch_range};
+
+    ghost Value = { List ℕ };
+
+    ghost view = { λ s. s.bytes.items };
+
+    ghost invariant = { λ s. vec_len s.bytes ≡ scratch_range.len };
+}
+
+impl Scratch {
+    /// Zeros.
+    pub fn open(alloc: Global) -> Result<Scratch, NoMemory>
+        ensures { IfOk result (λ s. s ≡ zeros scratch_range.len) }
+    {
+        Ok(Scratch {
+            bytes: zero_bytes(alloc, SCRATCH.len as usize)?,
+        })
+    }
+
+    /// Puts a zero in each place.
+    pub fn clear(&mut self)
+        ensures { self.new ≡ zeros scratch_range.len }
+    {
+        clear(self.bytes.as_mut_slice());
+    }
+
+    /// The number in the bytes of an access, the lowest first.
+    #[inline(always)]
+    pub fn number(&self, r: &Range) -> u32
+        requires inside { IsTrue (contains scratch_range r.now) }
+        requires width { IsTrue (is_width r.now.len) }
+        ensures exact { result ≡ number_at (slice_index self.now) (r.now.base - scratch_range.base) r.now.len }
+        ensures fits { result < 256 ^ r.now.len }
+    {
+        number(
+            self.bytes.as_slice(),
+            (r.base - SCRATCH.base) as usize,
+            r.len,
+        )
+    }
+
+    /// Puts the low bytes of a value in those of an access, the lowest first.
+    #[inline(always)]
+    pub fn put(&mut self, r: &Range, value: u32)
+        requires inside { IsTrue (contains scratch_range r.now) }
+        requires width { IsTrue (is_width r.now.len) }
+        ensures exact { self.new ≡ list_put self.old (r.now.base - scratch_range.base) (low_bytes r.now.len value) }
+        ensures len { length self.old ≡ scratch_range.len }
+    {
+        put(
+            self.bytes.as_mut_slice(),
+            (r.base - SCRATCH.base) as usize,
+            r.len,
+            value,
+        );
+    }
+}
+
+/// So many zeros.
+fn zero_bytes(alloc: Global, count: usize) -> Result<Vec<u8>, AllocError>
+    ensures zeros { IfOk result (λ bytes. bytes.items ≡ zeros count) }
+    ensures len { IfOk result (λ bytes. vec_len bytes ≡ count) }
+{
+    vec![in alloc; 0; count]
+}
+
+/// Puts a zero in each place.
+#[tactic(auto, unfolding(tss_model::specs::Memory::zeros))]
+fn clear(bytes: &mut [u8])
+    ensures { bytes.new ≡ zeros (length bytes.old) }
+{
+    bytes.fill(0);
+}
+
+/// The number in the `width` bytes from a place on.
+#[inline(always)]
+fn number(bytes: &[u8], at: usize, width: u32) -> u32
+    requires width { IsTrue (is_width width) }
+    requires there { at + width ≤ length bytes.now }
+    ensures exact { result ≡ number_at (slice_index bytes.now) at width }
+    ensures fits { result < 256 ^ width }
+{
+    match width {
+        1 => u32::from(bytes[at]),
+        2 => u32::from(bytes[at]) + (u32::from(bytes[at + 1]) << 8),
+        _ => {
+            let low = u32::from(bytes[at]) + (u32::from(bytes[at + 1]) << 8);
+            let high = u32::from(bytes[at + 2]) + (u32::from(bytes[at + 3]) << 8);
+            low + (high << 16)
+        }
+    }
+}
+
+/// Puts the `width` low bytes of a value from a place on.
+#[inline(always)]
+fn put(bytes: &mut [u8], at: usize, width: u32, value: u32)
+    requires width { IsTrue (is_width width) }
+    requires there { at + width ≤ length bytes.old }
+    ensures { bytes.new ≡ list_put bytes.old at (low_bytes width value) }
+{
+    if width == 4 {
+        bytes[at + 3] = (value >> 24) as u8;
+        bytes[at + 2] = ((value >> 16) & 0xFF) as u8;
+    }
+    if width >= 2 {
+        bytes[at + 1] = ((value >> 8) & 0xFF) as u8;
+    }
+    bytes[at] = (value & 0xFF) as u8;
+}
