@@ -1,12 +1,5 @@
-pub mod StepLemmas
-pub mod ByteLemmas
-pub mod PlaceLemmas
-pub mod GrantLemmas
-pub mod ViewLemmas
-pub mod TaskLemmas
-pub mod RunLemmas
-pub mod SpawnPlaces
-pub mod RangeLemmas
-pub mod FlatLemmas
-pub mod CallLemmas
 pub mod OpenLemmas
+pub mod RunLemmas
+pub mod PieceLemmas
+pub mod OrderLemmas
+pub mod DidLemmas

@@ -6,9 +6,9 @@ use Rattle.std.proofs.lemmas.Bool.{and_from, le-ltb, not_from_false}
 use Rattle.std.proofs.lemmas.List.Folds.{list_all-append, list_all-map}
 use Rattle.tss_base.specs.Range.{end_of, meets}
 use Rattle.tss_base.specs.Image.{SegmentState, ImageState, IsAccepted, segment_end}
-use Rattle.tss_model.specs.Memory.{loaded, memory_range, segment_range, scratch_range, stack_range}
-use Rattle.tss_inorder.specs.Sound.{beside_scratch}
 use Rattle.tss_base.specs.declared.addresses.TheConstants.{SEGMENTS_END}
+use Rattle.tss_model.specs.Memory.{loaded, memory_range, segment_range, scratch_range, stack_range}
+use Rattle.tss_steps.specs.Placing.{beside_scratch}
 
 -- what passes at each place passes as a whole
 all_from : {A : Type 0} (p : A → Bool) (xs : List A) → ((i : ℕ) (d : A) → i < length xs → p (get_or xs i d) ≡ true) → list_all p xs ≡ true

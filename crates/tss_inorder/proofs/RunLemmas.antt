@@ -1,51 +1,28 @@
--- A task's run through its steps, and its outputs before it.
-use Rattle.std.proofs.Common.{◌≡◌, ℕ, suc, ◌+◌, ◌-◌, ◌<◌, Bool, true, false, List, length, drop, get_or, Option, Some, refl, sym, ap, subst, ◌∙◌, drop-cons, add-one}
+-- The outputs of a task before it runs, and its run to its end.
+use Rattle.std.proofs.Common.{◌≡◌, ℕ, suc, ◌+◌, ◌<◌, Bool, true, false, List, length, drop, get_or, Option, Some, None, refl, sym, ap, ◌∙◌, drop-cons, add-one}
 use Rattle.std.specs.Prelude.{cond}
 use Rattle.std.proofs.lemmas.Option.{slice_get-get_or}
 use Rattle.tss_base.specs.declared.operand.Mode.{Mode}
 use Rattle.tss_base.specs.declared.operand.Mode.TheVariants.{Input, Output, Inout}
 use Rattle.tss_base.specs.declared.operand.Operand.{Operand}
+use Rattle.tss_base.specs.declared.operand.Task.{Task}
 use Rattle.tss_base.specs.declared.ending.Trap.{Trap}
-use Rattle.tss_model.specs.Memory.{MemoryRange, Memory, range_of, zeroed}
-use Rattle.tss_model.specs.Registers.{Registers}
-use Rattle.tss_model.specs.Access.{reads, writes}
-use Rattle.tss_model.specs.TaskRun.{TaskState, repeated, end_of_task, zeroed_output, zeroed_outputs}
-use Rattle.tss_inorder.specs.declared.views.TaskView.{TaskView}
-use Rattle.tss_inorder.specs.Sound.{is_placed, are_placed}
-use Rattle.tss_inorder.specs.Running.{IsSameTask, task_of, flat_task_step, step_of_view, GoesOn, EndsWith}
-use Rattle.tss_inorder.proofs.PlaceLemmas.{all_at, placed_in}
-use Rattle.tss_inorder.proofs.TaskLemmas.{one_further}
-
-pub same_then : {a b c : TaskView} → IsSameTask a b → IsSameTask b c → IsSameTask a c
-same_then p q = record {
-  ranges = q.ranges ∙ p.ranges;
-  code = q.code ∙ p.code;
-  operands = q.operands ∙ p.operands;
-  reference = q.reference ∙ p.reference;
-  scratch_reference = q.scratch_reference ∙ p.scratch_reference;
-}
-
--- the steps of the same task are the same
-same_step : (budget : ℕ) (a b : TaskView) → IsSameTask a b → step_of_view budget b ≡ step_of_view budget a
-same_step budget a b p = λ i. flat_task_step budget (p.code i) (p.ranges i) (p.operands i)
-
-module _ (budget : ℕ) (a v : TaskView) (o r : Registers) (same : IsSameTask a v)
-    (left : end_of_task (repeated (step_of_view budget a) (suc (budget - r.done)) (task_of v r)) ≡ end_of_task (repeated (step_of_view budget a) (suc (budget - o.done)) (task_of a o))) where
-  -- a task that goes on comes to the same end
-  pub left_further : (w : TaskView) (q : Registers) → GoesOn budget (step_of_view budget v) (task_of v r) (task_of w q)
-      → end_of_task (repeated (step_of_view budget a) (suc (budget - q.done)) (task_of w q)) ≡ end_of_task (repeated (step_of_view budget a) (suc (budget - o.done)) (task_of a o))
-  left_further w q goes =
-      ap end_of_task (one_further (step_of_view budget a) budget (task_of v r) (task_of w q)
-      (subst (λ (f : TaskState Memory → TaskState Memory). f (task_of v r) ≡ task_of w q) (same_step budget a v same) goes.next) goes.done goes.budget)
-      ∙ left
-
-  -- and one that is over has come to it
-  pub left_over : (m : Memory) (trap : Option Trap) → EndsWith (step_of_view budget v) (task_of v r) m trap
-      → end_of_task (repeated (step_of_view budget a) (suc (budget - o.done)) (task_of a o)) ≡ record { memory = m; trap = trap }
-  left_over m trap ends =
-      sym left
-      ∙ subst (λ (f : TaskState Memory → TaskState Memory). end_of_task (repeated f (suc (budget - r.done)) (task_of v r)) ≡ record { memory = m; trap = trap })
-      (same_step budget a v same) (ends (budget - r.done))
+use Rattle.tss_base.specs.declared.machine.Limits.{Limits}
+use Rattle.tss_base.specs.Image.{SegmentState}
+use Rattle.tss_model.specs.Memory.{MemoryRange, Memory, range_of, zeroed, zeros, scratch_range}
+use Rattle.tss_model.specs.Registers.{Registers, task_registers}
+use Rattle.tss_model.specs.Access.{reads, writes, operands_of}
+use Rattle.tss_model.specs.TaskRun.{TaskState, zeroed_output, zeroed_outputs}
+use Rattle.tss_program_order.proofs.FlatSteps.{repeated-add, repeated-still}
+use Rattle.tss_steps.specs.Seen.{Terms}
+use Rattle.tss_steps.specs.Tasks.{task_now, step_by, stretch_by}
+use Rattle.tss_steps.specs.Placing.{is_placed, are_placed}
+use Rattle.tss_steps.proofs.TaskLemmas.{step-over}
+use Rattle.tss_inorder.specs.Home.{home_terms}
+use Rattle.tss_inorder.specs.Ran.{end_of}
+use Rattle.tss_inorder.specs.Left.{IsSameTask}
+use Rattle.tss_inorder.specs.declared.views.HomeTask.{HomeTask}
+use Rattle.tss_steps.proofs.PlaceLemmas.{all_at, placed_in}
 
 -- ---- outputs
 
@@ -82,3 +59,52 @@ one_more_zeroed m n k operands i j d o step within e zeroed_yet unread written =
     ∙ ap (λ (x : Operand). zeroed_output (zeroed_outputs m (drop i operands)) x) e
     ∙ ap (λ (k : ℕ). zeroed_output (zeroed_outputs m (drop k operands)) (get_or operands j d)) (sym (sym (add-one j) ∙ step))
     ∙ ap (zeroed_outputs m) (sym (drop-cons operands j d within))
+
+-- ---- to its end
+
+-- a view is of its own task
+pub same_task : (v : HomeTask) → IsSameTask v v
+same_task v = record { ranges = refl; reference = refl; scratch_reference = refl }
+
+-- one step more
+one_more : (t : Terms Memory) (budget : ℕ) (s x : TaskState Memory) → x ≡ stretch_by t budget budget s → stretch_by t budget 1 x ≡ stretch_by t budget (suc budget) s
+one_more t budget s x e =
+    ap (stretch_by t budget 1) e
+    ∙ sym (repeated-add (step_by t budget) budget 1 s)
+    ∙ ap (λ (k : ℕ). stretch_by t budget k s) (add-one budget)
+
+module _ (t : Terms Memory) (budget : ℕ) (r q : Registers) (xs ys : List ℕ) (m n : Memory) where
+  -- leaves a task that has trapped as it is
+  pub run-trapped : (trap : Trap) → task_now q ys n (Some trap) ≡ stretch_by t budget budget (task_now r xs m None)
+      → task_now q ys n (Some trap) ≡ stretch_by t budget (suc budget) (task_now r xs m None)
+  run-trapped trap e =
+      sym (repeated-still (step_by t budget) 1 (task_now q ys n (Some trap)) (step-over t budget (task_now q ys n (Some trap)) refl))
+      ∙ one_more t budget (task_now r xs m None) (task_now q ys n (Some trap)) e
+
+-- and else is the last
+module _ (t u : Terms Memory) (same : u ≡ t) (budget : ℕ) (r q : Registers) (xs ys : List ℕ) (m n : Memory) where
+  pub run-last : (p : Registers) (zs : List ℕ) (k : Memory) (trap : Option Trap) → task_now q ys n None ≡ stretch_by t budget budget (task_now r xs m None)
+      → task_now p zs k trap ≡ stretch_by u budget 1 (task_now q ys n None) → task_now p zs k trap ≡ stretch_by t budget (suc budget) (task_now r xs m None)
+  run-last p zs k trap e last =
+      last
+      ∙ ap (λ (x : Terms Memory). stretch_by x budget 1 (task_now q ys n None)) same
+      ∙ one_more t budget (task_now r xs m None) (task_now q ys n None) e
+
+-- a task that was started, with zeros at its outputs and in its scratch, and ran to its end
+module _ (code : List SegmentState) (limits : Limits) (m z n : Memory) (t : Task) (r q : Registers) (scratch ys : List ℕ) (operands : List Operand) (trap : Option Trap)
+    (regs : r ≡ task_registers t) (bytes : scratch ≡ zeros scratch_range.len) (listed : operands ≡ operands_of t)
+    (zeroed : z ≡ zeroed_outputs m (operands_of t)) (ranges : z.ranges ≡ m.ranges)
+    (ran : task_now q ys n trap ≡ stretch_by (home_terms code z.ranges operands) limits.task_budget (suc limits.task_budget) (task_now r scratch z None)) where
+  pub ran_to_end : task_now q ys n trap ≡ end_of code limits m t
+  ran_to_end =
+      ran
+      ∙ (λ i. stretch_by (home_terms code (ranges i) (listed i)) limits.task_budget (suc limits.task_budget) (task_now (regs i) (bytes i) (zeroed i) None))
+
+  pub ran-memory : n ≡ (end_of code limits m t).memory
+  ran-memory = ap (λ (s : TaskState Memory). s.memory) ran_to_end
+
+  pub ran-trap : trap ≡ (end_of code limits m t).trap
+  ran-trap = ap (λ (s : TaskState Memory). s.trap) ran_to_end
+
+  pub ran-done : q.done ≡ (end_of code limits m t).registers.done
+  ran-done = ap (λ (s : TaskState Memory). s.registers.done) ran_to_end

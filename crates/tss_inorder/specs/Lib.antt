@@ -1,7 +1,7 @@
-pub mod Sound
-pub mod Seen
+pub mod Home
+pub mod Grounds
 pub mod Left
-pub mod Running
-pub mod Endings
-pub mod Flat
+pub mod Ran
+pub mod Flats
+pub mod Order
 pub mod Codes

@@ -1,130 +1,198 @@
 // The flat machine: main on one memory, where each spawned task runs at once.
-ghost use Rattle.std.specs.Prelude.{◌≡◌, ◌-◌, ◌^◌, ◌<◌, ◌≤◌, [], None, IfOk};
+ghost use Rattle.std.specs.Prelude.{◌≡◌, ◌-◌, ◌^◌, ◌≤◌, ◌<◌, IfOk, IfSome, Some, option_map};
 ghost use Rattle.tss_base.specs.declared.bounds.TheConstants.{MAX_OPERANDS};
+ghost use Rattle.tss_base.specs.Image.{ImageState};
 ghost use Rattle.tss_model.specs.Memory.{frozen};
 ghost use Rattle.tss_model.specs.Registers.{register_at};
-ghost use Rattle.tss_model.specs.MainStep.{flat_written, call_of};
-ghost use Rattle.tss_model.specs.InOrder.{flat_start, flat_step};
-ghost use Rattle.tss_core.specs.Steps.{outcome_of, registers_after, write_of};
-ghost use Rattle.std.specs.Prelude.{vec_capacity};
-ghost use Rattle.tss_inorder.specs.Sound.{IsSound};
-ghost use Rattle.tss_inorder.specs.Endings.{ending_after};
+ghost use Rattle.tss_model.specs.MainStep.{call_of, next_call, output_of};
+ghost use Rattle.tss_model.specs.TaskRun.{task_end};
+ghost use Rattle.tss_model.specs.InOrder.{flat_start, task_ran};
+ghost use Rattle.tss_steps.specs.Placing.{CanRun};
+ghost use Rattle.tss_inorder.specs.Flats.{ByDid, GoesFurther, called, did_at, did_by, did_in, did_ran, done_by, flat_of, stretched, with_flat};
+ghost use Rattle.tss_inorder.specs.Order.{EndsInOrder, Follows, StandsInOrder};
 
-use crate::running::trap_of;
-use crate::scratch::Scratch;
-use crate::views::MainView;
+use crate::running::run_task;
 use std::alloc::Global;
-use tss_base::causes::FETCH_OUTSIDE;
-use tss_base::refusals::{MAIN_BUDGET_SPENT, MAIN_TOUCH};
-use tss_base::{Ending, Image, Limits, NoMemory};
-use tss_core::{Outcome, Regs, step};
+use std::marker::Model;
+use tss_base::calls::BARRIER;
+use tss_base::{Ending, Image, Limits, NoMemory, Task};
+use tss_core::Regs;
 use tss_memory::{Code, Space};
-use tss_operands::Epoch;
+use tss_steps::{Main, Scratch};
 
-/// Main with its memory, and what a run of its tasks takes. Memory of the process is taken as it is opened, and not
-/// after.
-#[derive(Drop)]
-pub(crate) struct FlatMachine {
-    pub(crate) limits: Limits,
-    pub(crate) code: Code,
-    pub(crate) space: Space,
-    pub(crate) scratch: Scratch,
-    pub(crate) regs: Regs,
-    pub(crate) spawned: u32,
-    pub(crate) epoch: Epoch,
-    pub(crate) output: Vec<u8>,
-    pub(crate) near: u32,
-    ghost sound: { IsSound limits space.ranges epoch.limit (vec_capacity output) },
+/// What an event of main was: a stretch of steps, a spawn with all of its task and the number of instructions that this
+/// completed, a barrier, or a print. Or the run is over, by this event or before it.
+#[derive(Clone, Copy, Debug, PartialEq, Eq)]
+pub enum Did {
+    Steps,
+    Spawned(Task, u64),
+    Barrier,
+    Printed,
+    Over(Ending),
 }
 
-impl FlatMachine {
-    ghost use Rattle.tss_inorder.specs.Flat.{flat_of, core_of, KeepsRest, LeadsTo, Advances, RunsTo};
+/// Main with its memory, where each task that it spawns runs at once. Memory of the process is taken as it is opened,
+/// and not after.
+#[derive(Drop)]
+pub struct Flat {
+    code: Code,
+    space: Space,
+    scratch: Scratch,
+    main: Main,
+}
 
+impl Model for Flat {
+    ghost use Rattle.tss_inorder.specs.Flats.{FlatState};
+    ghost use Rattle.tss_inorder.specs.Codes.{flat_code};
+    ghost use Rattle.tss_inorder.specs.Grounds.{IsGrounded};
+
+    ghost Value = { FlatState };
+
+    ghost coded = { flat_code };
+
+    ghost view = { λ f. record { limits = f.main.limits; code = f.code; main = f.main.main; memory = f.space } };
+
+    ghost invariant = { λ f. IsGrounded f.space.ranges };
+}
+
+impl Flat {
     /// Main before its first instruction.
-    pub(crate) fn open(
-        alloc: Global,
-        image: &Image,
-        limits: &Limits,
-    ) -> Result<FlatMachine, NoMemory>
+    pub fn open(alloc: Global, image: &Image, limits: &Limits) -> Result<Flat, NoMemory>
         requires { limits.now.max_operands ≤ MAX_OPERANDS }
-        ensures start { IfOk result (λ m. flat_of m [] None ≡ flat_start image.now) }
-        ensures code { IfOk result (λ m. m.code ≡ frozen image.now) }
-        ensures limits { IfOk result (λ m. m.limits ≡ limits.now) }
-        ensures output { IfOk result (λ m. m.output.items ≡ []) }
+        ensures start { IfOk result (λ f. flat_of f ≡ flat_start image.now) }
+        ensures code { IfOk result (λ f. f.code ≡ frozen image.now) }
+        ensures limits { IfOk result (λ f. f.limits ≡ limits.now) }
+        ensures follows { IfOk result (Follows image.now) }
     {
         let entry = image.entry();
         let (space, code) = Space::load(alloc, image)?;
         let _first = space.range_at(0);
-        Ok(FlatMachine {
-            limits: *limits,
+        Ok(Flat {
             code,
             space,
             scratch: Scratch::open(alloc)?,
-            regs: Regs::main(entry),
-            spawned: 0,
-            epoch: Epoch::open(alloc, limits.epoch_objects)?,
-            output: Vec::with_capacity(alloc, limits.output_bytes as usize)?,
-            near: 0,
+            main: Main::open(alloc, entry, limits)?,
         })
     }
 
-    /// Runs to the ending.
-    pub(crate) fn run(&mut self) -> Ending
-        ensures { RunsTo self.old self.new result }
+    /// One event of main: its next step where that is a call, with all of the task that it spawns, or else a stretch of
+    /// at most `quantum` steps, fewer where main ends before or its next step is a call.
+    pub fn stretch(&mut self, quantum: u32) -> Did
+        requires { 0 < quantum }
+        ensures exact { self.new ≡ stretched quantum self.old }
+        ensures did { result ≡ did_in self.old self.new }
+        ensures further { ByDid result (GoesFurther self.old self.new) (λ e. Unit {0}) }
+        // Where it follows the execution in program order of an image, it goes on to do so, and comes to its end.
+        ensures follows { (i : ImageState) → Follows i self.old → Follows i self.new }
+        ensures in_order { (i : ImageState) → Follows i self.old
+            → ByDid result (StandsInOrder i self.new) (EndsInOrder i self.new) }
     {
-        loop {
-            match self.step_main() {
-                Some(ending) => return ending,
-                None => {}
-            }
-        }
+        self.event(quantum)
     }
 
-    /// One step of main, with all of the task that it spawns. The ending, where the step ends the run.
-    fn step_main(&mut self) -> Option<Ending>
-        ensures leads { LeadsTo (flat_step self.old.code self.old.limits) self.old self.new result }
-        ensures advances { Advances self.old self.new result }
+    /// Main's registers.
+    pub fn main(&self) -> &Regs
+        ensures { result.now ≡ self.now.main.registers }
     {
-        if self.regs.done() >= self.limits.main_budget {
-            return Some(Ending::Refused(MAIN_BUDGET_SPENT, self.regs.pc()));
-        }
-        match self.step_core() {
-            Outcome::Call => self.call(),
-            outcome => ending_after(&self.regs, outcome),
-        }
+        self.main.regs()
     }
 
-    /// One step of main's core.
-    #[inline(always)]
-    fn step_core(&mut self) -> Outcome
-        requires { self.old.regs.done < 2 ^ 64 - 1 }
-        ensures exact { result ≡ outcome_of (core_of self.old) }
-        ensures registers { self.new.regs ≡ registers_after self.old.regs (core_of self.old) }
-        ensures memory { self.new.space ≡ flat_written self.old.space (write_of (core_of self.old)) }
-        ensures others { KeepsRest self.old self.new }
+    /// The number in x17 where main's next step is a call. None where it has ended or has spent its budget, or its next
+    /// step is no ECALL.
+    pub fn next_call(&self) -> Option<u32>
+        ensures exact { option_map call_of result ≡ next_call self.now.code self.now.limits (flat_of self.now) }
+        ensures number { IfSome result (λ n. n ≡ register_at self.now.main.registers 17) }
+        ensures callable { IfSome result (λ n. self.now.main.registers.done < 2 ^ 64 - 1) }
     {
-        let mut view = MainView {
-            space: &mut self.space,
-            code: &self.code,
-            epoch: &self.epoch,
-            near: self.near,
-        };
-        let outcome = step(&mut self.regs, &mut view);
-        self.near = view.near;
-        outcome
+        self.main.next_call(&self.code)
+    }
+
+    /// Memory.
+    pub fn space(&self) -> &Space
+        ensures { result.now ≡ self.now.memory }
+    {
+        &self.space
+    }
+
+    /// How many tasks main has spawned.
+    pub fn tasks(&self) -> u32
+        ensures { result ≡ self.now.main.spawned }
+    {
+        self.main.spawned()
+    }
+
+    /// What main has printed.
+    pub fn output(&self) -> &[u8]
+        ensures { result.now ≡ output_of self.now.main.pieces }
+    {
+        self.main.output()
     }
 }
 
-/// The ending that a step of main's core comes to, which is no call, by the registers that it leaves. There is no word
-/// where a task ends.
-#[inline(always)]
-fn ending_after(regs: &Regs, outcome: Outcome) -> Option<Ending>
-    ensures { result ≡ ending_after regs.now outcome }
+impl Flat {
+    /// An event of main: the machine after it, and what it was.
+    fn event(&mut self, quantum: u32) -> Did
+        ensures exact { self.new ≡ stretched quantum self.old }
+        ensures did { result ≡ did_in self.old self.new }
+    {
+        let Some(number) = self.next_call() else {
+            self.main.stretch(&self.code, &mut self.space, quantum);
+            return match self.main.ending() {
+                Some(ending) => Did::Over(ending),
+                None => Did::Steps,
+            };
+        };
+        self.call(number)
+    }
+
+    /// The call of this number, which main's next step is.
+    fn call(&mut self, number: u32) -> Did
+        requires next { Some (call_of number) ≡ next_call self.old.code self.old.limits (flat_of self.old) }
+        requires number { number ≡ register_at self.old.main.registers 17 }
+        requires callable { self.old.main.registers.done < 2 ^ 64 - 1 }
+        ensures exact { self.new ≡ with_flat self.old (called self.old (call_of number)) }
+        ensures did { result ≡ did_at self.new.main.ending (did_by self.old (Some (call_of number))) }
+    {
+        match self.main.call(&self.space) {
+            Some(task) => self.run_spawned(&task),
+            None => match self.main.ending() {
+                Some(ending) => Did::Over(ending),
+                None => done_by(number),
+            },
+        }
+    }
+
+    /// The task that main has spawned, which runs at once.
+    fn run_spawned(&mut self, task: &Task) -> Did
+        requires { CanRun self.old.memory.ranges task.now }
+        ensures exact { self.new ≡ with_flat self.old (task_ran self.old.main task.now (task_end self.old.code self.old.limits self.old.memory task.now)) }
+        ensures did { result ≡ did_ran self.old task.now }
+    {
+        let ran = run_task(
+            &mut self.space,
+            &self.code,
+            &mut self.scratch,
+            task,
+            self.main.limits(),
+        );
+        match ran.trap {
+            Some(trap) => {
+                let ending = Ending::TaskTrap(task.number, trap);
+                self.main.end(ending);
+                Did::Over(ending)
+            }
+            None => Did::Spawned(*task, ran.done),
+        }
+    }
+}
+
+/// What a call of this number was that spawned nothing and didn't end main.
+fn done_by(number: u32) -> Did
+    ensures { result ≡ done_by number }
 {
-    match outcome {
-        Outcome::Next | Outcome::Call => None,
-        Outcome::Ended => Some(Ending::MainTrap(trap_of(regs, FETCH_OUTSIDE, regs.pc()))),
-        Outcome::Trapped(trap) => Some(Ending::MainTrap(trap)),
-        Outcome::Touched => Some(Ending::Refused(MAIN_TOUCH, regs.pc())),
+    if number == BARRIER {
+        Did::Barrier
+    } else {
+        Did::Printed
     }
 }

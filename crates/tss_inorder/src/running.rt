@@ -1,55 +1,67 @@
-// A task, from its first instruction to its end.
-ghost use Rattle.std.specs.Prelude.{◌≡◌, ◌-◌, ◌≤◌, IsTrue, suc};
+// A task of the flat machine, from its first instruction to its end.
+ghost use Rattle.std.specs.Prelude.{◌≡◌, ◌-◌, ◌≤◌, IsTrue};
 ghost use Rattle.tss_base.specs.declared.bounds.TheConstants.{MAX_OPERANDS};
-ghost use Rattle.tss_model.specs.Memory.{byte_at};
-ghost use Rattle.tss_model.specs.Registers.{trap_of};
 ghost use Rattle.tss_model.specs.Access.{reads, operands_of};
-ghost use Rattle.tss_model.specs.TaskRun.{zeroed_outputs, task_end};
-ghost use Rattle.tss_inorder.specs.Sound.{are_placed, IsGround};
-ghost use Rattle.tss_inorder.specs.Running.{IsSameTask, TaskTurns, TaskRuns, turn_after};
+ghost use Rattle.tss_model.specs.TaskRun.{zeroed_outputs};
+ghost use Rattle.tss_steps.specs.Placing.{are_placed, IsGround};
+ghost use Rattle.tss_inorder.specs.Ran.{RunsOver, end_of};
 
-use crate::scratch::Scratch;
-use crate::views::TaskView;
-use tss_base::addresses::END_PC;
-use tss_base::causes::{BUDGET_SPENT, CALL_IN_TASK};
+use crate::views::HomeTask;
 use tss_base::{Limits, Mode, Operand, Task, Trap};
-use tss_core::{Outcome, Regs, step};
+use tss_core::Regs;
 use tss_memory::{Code, Space};
+use tss_steps::{Scratch, stretch_task};
 
-/// What a step of a task comes to: the task goes on, or is over, with its trap where it has trapped.
-#[derive(Clone, Copy, Debug, PartialEq, Eq)]
-pub(crate) enum Turn {
-    Further,
-    Over(Option<Trap>),
+/// What a task came to: its trap where it trapped, and how many instructions it completed.
+#[derive(Clone, Copy, Debug)]
+pub(crate) struct Ran {
+    pub(crate) trap: Option<Trap>,
+    pub(crate) done: u64,
 }
 
-/// Runs a task to its end: zeros at its outputs and in its scratch first. Its trap where it traps.
+/// Runs a task to its end: zeros at its outputs and in its scratch first.
 pub(crate) fn run_task(
     space: &mut Space,
     code: &Code,
     scratch: &mut Scratch,
     task: &Task,
     limits: &Limits,
-) -> Option<Trap>
+) -> Ran
     requires ground { IsGround space.old.ranges (operands_of task.now) }
     requires listed { task.now.listed ≤ MAX_OPERANDS }
     requires count { task.now.count ≤ MAX_OPERANDS }
-    ensures memory { space.new ≡ (task_end code.now limits.now space.old task.now).memory }
-    ensures trap { result ≡ (task_end code.now limits.now space.old task.now).trap }
+    ensures memory { space.new ≡ (end_of code.now limits.now space.old task.now).memory }
+    ensures trap { result.trap ≡ (end_of code.now limits.now space.old task.now).trap }
+    ensures done { result.done ≡ (end_of code.now limits.now space.old task.now).registers.done }
     ensures ranges { space.new.ranges ≡ space.old.ranges }
 {
     let operands = &task.operands[..task.count as usize];
     zero_outputs(space, operands);
     scratch.clear();
     let mut regs = Regs::task(task);
-    let mut view = TaskView {
+    let mut view = HomeTask {
         space,
         code,
         scratch,
         operands,
         near: 0,
     };
-    run_to_end(&mut regs, &mut view, limits.task_budget)
+    let trap = run_to_end(&mut regs, &mut view, limits.task_budget);
+    Ran {
+        trap,
+        done: regs.done(),
+    }
+}
+
+/// Runs a task that hasn't trapped to its end. Its trap where it traps. After as many steps as its budget allows it is
+/// over, or its next step is the trap of a spent budget.
+fn run_to_end(regs: &mut Regs, view: &mut HomeTask, budget: u64) -> Option<Trap>
+    ensures { RunsOver budget view.old regs.old view.new regs.new result }
+{
+    match stretch_task(regs, view, budget, budget) {
+        Some(trap) => Some(trap),
+        None => stretch_task(regs, view, budget, 1),
+    }
 }
 
 /// Writes zeros at the objects of the operands that a task doesn't read.
@@ -75,59 +87,5 @@ fn reads(mode: Mode) -> bool
     match mode {
         Mode::Output => false,
         Mode::Input | Mode::Inout => true,
-    }
-}
-
-/// Runs a task from where it stands to its end. Its trap where it traps.
-fn run_to_end(regs: &mut Regs, view: &mut TaskView, budget: u64) -> Option<Trap>
-    ensures same { IsSameTask view.old view.new }
-    ensures exact { TaskRuns budget view.old regs.old view.new result }
-{
-    loop {
-        match step_task(regs, view, budget) {
-            Turn::Further => {}
-            Turn::Over(trap) => return trap,
-        }
-    }
-}
-
-/// One step of a task.
-#[inline(always)]
-fn step_task(regs: &mut Regs, view: &mut TaskView, budget: u64) -> Turn
-    ensures same { IsSameTask view.old view.new }
-    ensures exact { TaskTurns budget view.old regs.old view.new regs.new result }
-{
-    if regs.pc() == END_PC {
-        return Turn::Over(None);
-    }
-    if regs.done() >= budget {
-        return Turn::Over(Some(trap_of(regs, BUDGET_SPENT, 0)));
-    }
-    let outcome = step(regs, view);
-    turn_after(regs, outcome)
-}
-
-/// What a core's step comes to, by the registers that it leaves. No access of a task touches a named object, and a task
-/// that has ended takes no step.
-#[inline(always)]
-fn turn_after(regs: &Regs, outcome: Outcome) -> Turn
-    ensures { result ≡ turn_after regs.now outcome }
-{
-    match outcome {
-        Outcome::Next => Turn::Further,
-        Outcome::Call => Turn::Over(Some(trap_of(regs, CALL_IN_TASK, regs.get(17)))),
-        Outcome::Trapped(trap) => Turn::Over(Some(trap)),
-        Outcome::Ended | Outcome::Touched => Turn::Over(None),
-    }
-}
-
-/// A trap of the instruction at the pc.
-pub(crate) fn trap_of(regs: &Regs, cause: u32, value: u32) -> Trap
-    ensures { result ≡ trap_of regs.now cause value }
-{
-    Trap {
-        pc: regs.pc(),
-        cause,
-        value,
     }
 }

@@ -3,6 +3,7 @@
 ghost use Rattle.std.specs.Prelude.{◌≡◌, vec_len, IfOk};
 
 mod epochs;
+mod events;
 mod exits;
 mod refusals;
 mod traps;
