@@ -1,6 +1,7 @@
 -- A sink in memory: its bytes, the room that is left, the calls that are to fail, and what a call leaves.
-use Rattle.std.specs.Prelude.{ℕ, ◌-◌, Bool, ◌||◌, ◌==◌, nat_lt, List, ◌++◌, length}
+use Rattle.std.specs.Prelude.{◌≡◌, ℕ, ◌-◌, Bool, ◌||◌, ◌==◌, nat_lt, List, ◌++◌, length, Result, MatchResult, IsTrue, IsFalse}
 use Rattle.std.specs.List.{list_any}
+use Rattle.tss_outside.specs.declared.files.Failed.{Failed}
 use Rattle.tss_outside.specs.Outside.{risen}
 
 pub record MemSinkState : Type 0 where
@@ -26,3 +27,10 @@ after_fault s = record s { calls = risen s.calls; faults = risen s.faults }
 -- after a write that doesn't
 abbrev pub after_write : MemSinkState → List ℕ → MemSinkState
 after_write s bytes = record s { calls = risen s.calls; bytes = s.bytes ++ bytes; room = s.room - length bytes }
+
+-- a write fails exactly where it is to, and then nothing is put
+abbrev pub AfterWrite : MemSinkState → MemSinkState → List ℕ → Result (Unit {0}) Failed → Type 0
+AfterWrite old new bytes result =
+    MatchResult result
+    (λ _. IsFalse (fails_write old (length bytes)) × (new ≡ after_write old bytes))
+    (λ _. IsTrue (fails_write old (length bytes)) × (new ≡ after_fault old))

@@ -38,8 +38,10 @@ pub trait Files {
         ensures bytes { IfOk result (λ v. IfSome (held self.old) (λ h. h name.now ≡ Some v.items)) }
         ensures short { IfOk result (λ v. vec_len v ≤ limit) }
         ensures too_long { (n : ℕ) → IsErrOf result (FileFault.TooLong n) → limit < n }
-        ensures longer { (n : ℕ) → IsErrOf result (FileFault.TooLong n) → IfSome (held self.old) (λ h. (b : List ℕ) × (h name.now ≡ Some b) × (n ≤ length b)) }
-        ensures cause { IsErrOf result FileFault.Failed → Rose (read_faults self.old name.now) (read_faults self.new name.now) }
+        ensures longer { (n : ℕ) → IsErrOf result (FileFault.TooLong n) →
+            IfSome (held self.old) (λ h. (b : List ℕ) × (h name.now ≡ Some b) × (n ≤ length b)) }
+        ensures cause { IsErrOf result FileFault.Failed →
+            Rose (read_faults self.old name.now) (read_faults self.new name.now) }
         ensures counts { RaisesOnly (knows self.old) (read_faults self.old) (read_faults self.new) name.now }
 
         // All else stays.
@@ -59,8 +61,10 @@ pub trait Files {
         ensures read_faults { (n : List ℕ) → read_faults self.new n ≡ read_faults self.old n };
 
     /// Names that aren't known share one count of faults of reading,
-    ghost shared_read_faults: { (files : Self) (n m : List ℕ) → knows files n ≡ false → knows files m ≡ false → read_faults files n ≡ read_faults files m };
+    ghost shared_read_faults: { (files : Self) (n m : List ℕ) → knows files n ≡ false → knows files m ≡ false →
+        read_faults files n ≡ read_faults files m };
 
     /// and one of faults of appending.
-    ghost shared_append_faults: { (files : Self) (n m : List ℕ) → knows files n ≡ false → knows files m ≡ false → append_faults files n ≡ append_faults files m };
+    ghost shared_append_faults: { (files : Self) (n m : List ℕ) → knows files n ≡ false → knows files m ≡ false →
+        append_faults files n ≡ append_faults files m };
 }

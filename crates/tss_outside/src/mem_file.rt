@@ -1,7 +1,7 @@
 // One file in memory.
 ghost use Rattle.std.specs.Prelude.{◌≡◌, ◌≤◌, ◌<◌, ◌+◌, ◌-◌, ◌++◌, ◌⊎◌, [], ℕ, List, true, false, Option, Some, None, length, vec_len, unwrap_or, IfOk, OnOk, OnErr, IsErr, IsErrOf, IsTrue, IsSome, is_none, nat_lt, ◌||◌, ◌↔◌, option_map, if◌then◌else◌};
-ghost use Rattle.tss_outside.specs.Outside.{risen, is_failed};
-ghost use Rattle.tss_outside.specs.MemFiles.{has_name};
+ghost use Rattle.tss_outside.specs.Outside.{is_failed};
+ghost use Rattle.tss_outside.specs.MemFiles.{has_name, with_read_fault, with_append_fault, with_bytes};
 
 use crate::files::{Failed, FileFault};
 use std::alloc::Global;
@@ -26,7 +26,13 @@ impl Model for MemFile {
 
     ghost Value = { FileState };
 
-    ghost view = { λ f. record { name = string_bytes f.name; bytes = (if f.exists then Some f.bytes.items else None); room = f.room; read_faults = f.read_faults; append_faults = f.append_faults } };
+    ghost view = { λ f. record {
+      name = string_bytes f.name;
+      bytes = (if f.exists then Some f.bytes.items else None);
+      room = f.room;
+      read_faults = f.read_faults;
+      append_faults = f.append_faults;
+    } };
 
     ghost invariant = { λ f. (vec_len f.bytes + f.room ≤ vec_capacity f.bytes) × (f.exists ≡ false → f.bytes.items ≡ []) };
 }
@@ -39,7 +45,13 @@ impl MemFile {
         read_faults: u64,
         append_faults: u64,
     ) -> Result<MemFile, NoMemory>
-        ensures { IfOk result (λ f. f ≡ record { name = name.now; bytes = None; room = 0; read_faults = read_faults; append_faults = append_faults }) }
+        ensures { IfOk result (λ f. f ≡ record {
+          name = name.now;
+          bytes = None;
+          room = 0;
+          read_faults = read_faults;
+          append_faults = append_faults;
+        }) }
     {
         Ok(MemFile {
             name: String::from_str(alloc, name)?,
@@ -95,12 +107,13 @@ impl MemFile {
     /// Reads it, where it is held and the call isn't one that is to fail. A fault is counted.
     pub fn read(&mut self, alloc: Global, limit: u64, failing: bool) -> Result<Vec<u8>, FileFault>
         ensures ok { IfOk result (λ v. (failing ≡ false) × (self.old.bytes ≡ Some v.items) × (vec_len v ≤ limit)) }
-        ensures too_long { (n : ℕ) → IsErrOf result (FileFault.TooLong n) → (failing ≡ false) × ((b : List ℕ) × (self.old.bytes ≡ Some b) × (n ≡ length b) × (limit < n)) }
+        ensures too_long { (n : ℕ) → IsErrOf result (FileFault.TooLong n) → (failing ≡ false)
+            × ((b : List ℕ) × (self.old.bytes ≡ Some b) × (n ≡ length b) × (limit < n)) }
         ensures failed { IsErrOf result FileFault.Failed → (failing ≡ true) ⊎ (self.old.bytes ≡ None) }
         ensures exact { IsErrOf result FileFault.Failed ↔ IsTrue (failing || is_none self.old.bytes) }
         ensures memory { IsErrOf result FileFault.NoMemory → (failing ≡ false) × IsSome self.old.bytes }
         ensures never_falls { self.old.read_faults ≤ self.new.read_faults }
-        ensures counted { self.new ≡ (if is_failed result then record self.old { read_faults = risen self.old.read_faults } else self.old) }
+        ensures counted { self.new ≡ (if is_failed result then with_read_fault self.old else self.old) }
     {
         if failing || !self.exists {
             self.read_faults = self.read_faults.saturating_add(1);
@@ -119,10 +132,12 @@ impl MemFile {
     /// Puts bytes after those that are held, where there is room and the call isn't one that is to fail. A fault is
     /// counted.
     pub fn append(&mut self, bytes: &[u8], failing: bool) -> Result<(), Failed>
-        ensures ok { OnOk result ((failing ≡ false) × (length bytes.now ≤ self.old.room) × (self.new ≡ record self.old { bytes = Some (unwrap_or self.old.bytes [] ++ bytes.now); room = self.old.room - length bytes.now })) }
+        ensures ok { OnOk result ((failing ≡ false) × (length bytes.now ≤ self.old.room)
+            × (self.new ≡ with_bytes bytes.now self.old)) }
         ensures exact { IsErr result ↔ IsTrue (failing || nat_lt self.old.room (length bytes.now)) }
         ensures never_falls { self.old.append_faults ≤ self.new.append_faults }
-        ensures err { OnErr result (((failing ≡ true) ⊎ (self.old.room < length bytes.now)) × (self.new ≡ record self.old { append_faults = risen self.old.append_faults })) }
+        ensures err { OnErr result (((failing ≡ true) ⊎ (self.old.room < length bytes.now))
+            × (self.new ≡ with_append_fault self.old)) }
     {
         if failing || bytes.len() > self.room {
             self.append_faults = self.append_faults.saturating_add(1);

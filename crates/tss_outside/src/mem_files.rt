@@ -28,7 +28,15 @@ impl Model for MemFiles {
 
     ghost Value = { MemFilesState };
 
-    ghost view = { λ s. record { files = s.files.items; failing_reads = s.failing_reads.items; failing_appends = s.failing_appends.items; reads = s.reads; appends = s.appends; other_read_faults = s.other_read_faults; other_append_faults = s.other_append_faults } };
+    ghost view = { λ s. record {
+      files = s.files.items;
+      failing_reads = s.failing_reads.items;
+      failing_appends = s.failing_appends.items;
+      reads = s.reads;
+      appends = s.appends;
+      other_read_faults = s.other_read_faults;
+      other_append_faults = s.other_append_faults;
+    } };
 }
 
 // Where a name stands among the files.
@@ -57,7 +65,8 @@ impl MemFiles {
 
     /// Makes a name known and has the file hold these bytes. Its room stays as it was.
     pub fn put(&mut self, name: &str, bytes: &[u8]) -> Result<(), NoMemory>
-        ensures ok { OnOk result (ChangesFile self.old self.new name.now (record (file_or_new self.old name.now) { bytes = Some bytes.now })) }
+        ensures ok { OnOk result (ChangesFile self.old self.new name.now
+            (record (file_or_new self.old name.now) { bytes = Some bytes.now })) }
         ensures err { OnErr result (self.new ≡ self.old) }
     {
         let alloc = self.alloc;
@@ -83,7 +92,8 @@ impl MemFiles {
 
     /// Makes a name known and gives appends to it so many further bytes of room. No file is made by it.
     pub fn room(&mut self, name: &str, more: u32) -> Result<(), NoMemory>
-        ensures ok { OnOk result (ChangesFile self.old self.new name.now (record (file_or_new self.old name.now) { room = (file_or_new self.old name.now).room + more })) }
+        ensures ok { OnOk result (ChangesFile self.old self.new name.now
+            (record (file_or_new self.old name.now) { room = (file_or_new self.old name.now).room + more })) }
         ensures err { OnErr result (self.new ≡ self.old) }
     {
         let alloc = self.alloc;
@@ -162,8 +172,10 @@ impl Files for MemFiles {
         ensures bytes { IfOk result (λ v. bytes_of self.old name.now ≡ Some v.items) }
         ensures short { IfOk result (λ v. vec_len v ≤ limit) }
         ensures too_long { (n : ℕ) → IsErrOf result (FileFault.TooLong n) → limit < n }
-        ensures longer { (n : ℕ) → IsErrOf result (FileFault.TooLong n) → (b : List ℕ) × (bytes_of self.old name.now ≡ Some b) × (n ≤ length b) }
-        ensures cause { IsErrOf result FileFault.Failed → Rose (read_faults_of self.old name.now) (read_faults_of self.new name.now) }
+        ensures longer { (n : ℕ) → IsErrOf result (FileFault.TooLong n) →
+            (b : List ℕ) × (bytes_of self.old name.now ≡ Some b) × (n ≤ length b) }
+        ensures cause { IsErrOf result FileFault.Failed →
+            Rose (read_faults_of self.old name.now) (read_faults_of self.new name.now) }
         ensures counts { RaisesOnly (is_known self.old) (read_faults_of self.old) (read_faults_of self.new) name.now }
         ensures held { ◌≡◌ {A = Option Held} (Some (bytes_of self.new)) (Some (bytes_of self.old)) }
         ensures knows { (n : List ℕ) → is_known self.new n ≡ is_known self.old n }

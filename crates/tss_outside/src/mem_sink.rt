@@ -1,7 +1,7 @@
 // A sink in memory.
-ghost use Rattle.std.specs.Prelude.{◌≡◌, ◌≤◌, ◌++◌, ◌∷◌, [], ℕ, List, Option, Some, length, IfOk, OnOk, OnErr, MatchResult, IsTrue, IsFalse};
+ghost use Rattle.std.specs.Prelude.{◌≡◌, ◌≤◌, ◌++◌, ◌∷◌, [], ℕ, List, Option, Some, length, IfOk, OnOk, OnErr};
 ghost use Rattle.tss_outside.specs.Outside.{Rose, AppendsWhereTold, PutsPrefix};
-ghost use Rattle.tss_outside.specs.MemSink.{fails_write, after_fault, after_write};
+ghost use Rattle.tss_outside.specs.MemSink.{AfterWrite};
 
 use crate::files::Failed;
 use crate::sink::Sink;
@@ -71,7 +71,7 @@ impl Sink for MemSink {
         ensures prefix { OnErr result (PutsPrefix (Some self.old.bytes) (Some self.new.bytes) bytes.now) }
         ensures cause { OnErr result (Rose self.old.faults self.new.faults) }
         ensures never_falls { self.old.faults ≤ self.new.faults }
-        ensures exact { MatchResult result (λ _. IsFalse (fails_write self.old (length bytes.now)) × (self.new ≡ after_write self.old bytes.now)) (λ _. IsTrue (fails_write self.old (length bytes.now)) × (self.new ≡ after_fault self.old)) }
+        ensures exact { AfterWrite self.old self.new bytes.now result }
     {
         self.calls = self.calls.saturating_add(1);
         if self.failing.contains(&self.calls) || bytes.len() > self.room as usize {

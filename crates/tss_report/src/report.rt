@@ -116,7 +116,8 @@ fn put_told_peaks<K: Sink>(
     machine: &Machine,
 ) -> Result<(), Failed>
     requires { IsSome peaks → HasRanges machine.now }
-    ensures { Emits K.Sink to.old to.new result (told_peaks (option_map (λ p. p.now) peaks.entry) (sizes_of machine.now)) }
+    ensures { Emits K.Sink to.old to.new result
+        (told_peaks (option_map (λ p. p.now) peaks.entry) (sizes_of machine.now)) }
 {
     match peaks {
         None => Ok(()),

@@ -40,7 +40,8 @@ fn in_order<F: Files>(
 
 /// What the words come to. No file is changed.
 fn outcome<F: Files>(alloc: Global, words: &[String], files: &mut F) -> Result<Report, Refusal>
-    ensures due { IsDue (words_of words.now) (F.held files.old) (λ n. Rose (F.read_faults files.old n) (F.read_faults files.new n)) result }
+    ensures due { IsDue (words_of words.now) (F.held files.old)
+        (λ n. Rose (F.read_faults files.old n) (F.read_faults files.new n)) result }
     ensures ranges { IfOk result HasItsRanges }
     ensures held { F.held files.new ≡ F.held files.old }
 {

@@ -20,7 +20,8 @@ fn read<F: Files>(
     name: &str,
     limit: u64,
 ) -> Result<Vec<u8>, Refusal>
-    ensures read { IsRead (F.held files.old) (Rose (F.read_faults files.old name.now) (F.read_faults files.new name.now)) input name.now limit result }
+    ensures read { IsRead (F.held files.old) (Rose (F.read_faults files.old name.now) (F.read_faults files.new name.now))
+        input name.now limit result }
     ensures never_falls { (n : List ℕ) → F.read_faults files.old n ≤ F.read_faults files.new n }
     ensures held { F.held files.new ≡ F.held files.old }
 {
@@ -59,7 +60,8 @@ fn accepted_image(alloc: Global, bytes: &[u8]) -> Result<Image, Refusal>
 
 /// The machine that a file describes.
 pub fn machine_in<F: Files>(alloc: Global, files: &mut F, name: &str) -> Result<Machine, Refusal>
-    ensures exact { Reads machine_from Input.Machine (F.held files.old) (Rose (F.read_faults files.old name.now) (F.read_faults files.new name.now)) name.now result }
+    ensures exact { Reads machine_from Input.Machine (F.held files.old)
+        (Rose (F.read_faults files.old name.now) (F.read_faults files.new name.now)) name.now result }
     ensures ok { IfOk result IsAdmissible }
     ensures never_falls { (n : List ℕ) → F.read_faults files.old n ≤ F.read_faults files.new n }
     ensures held { F.held files.new ≡ F.held files.old }
@@ -70,7 +72,8 @@ pub fn machine_in<F: Files>(alloc: Global, files: &mut F, name: &str) -> Result<
 
 /// The image that a file holds.
 pub fn image_in<F: Files>(alloc: Global, files: &mut F, name: &str) -> Result<Image, Refusal>
-    ensures exact { Reads image_from Input.Image (F.held files.old) (Rose (F.read_faults files.old name.now) (F.read_faults files.new name.now)) name.now result }
+    ensures exact { Reads image_from Input.Image (F.held files.old)
+        (Rose (F.read_faults files.old name.now) (F.read_faults files.new name.now)) name.now result }
     ensures never_falls { (n : List ℕ) → F.read_faults files.old n ≤ F.read_faults files.new n }
     ensures held { F.held files.new ≡ F.held files.old }
 {

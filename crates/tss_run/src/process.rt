@@ -33,7 +33,8 @@ fn rest(alloc: Global, args: Args) -> Result<Vec<String>, NoMemory>
 /// The words after the program's name, which is the first argument. There are none where one of them isn't UTF-8.
 pub fn words(alloc: Global, args: io::Result<Args>) -> Result<Vec<String>, NoMemory>
     ensures given { IfOk args (λ all. IfOk result (λ words. words.items ≡ drop 1 (into_iter_items all))) }
-    ensures no_text { IfErr args (λ e. error_kind e ≡ ErrorKind.InvalidData → IsOk result × IfOk result (λ words. words.items ≡ [])) }
+    ensures no_text { IfErr args (λ e. error_kind e ≡ ErrorKind.InvalidData →
+        IsOk result × IfOk result (λ words. words.items ≡ [])) }
     ensures no_memory { IfErr args (λ e. error_kind e ≢ ErrorKind.InvalidData → IsErr result) }
 {
     match args {
