@@ -1,0 +1,5 @@
+pub mod ItemLists
+pub mod Chain
+pub mod Lengths
+pub mod Faultless
+pub mod Bytes

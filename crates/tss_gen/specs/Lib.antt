@@ -1,0 +1,4 @@
+pub mod Tasks
+pub mod Workload
+pub mod Accepted
+pub mod Built
