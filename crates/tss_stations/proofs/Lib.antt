@@ -1,0 +1,5 @@
+pub mod ViewLemmas
+pub mod RowLemmas
+pub mod CountLemmas
+pub mod KeptLemmas
+pub mod StateLemmas
