@@ -1,6 +1,7 @@
 /* What a program may ask of Geldrizh, for C.
  *
- * Main is a plain C program. It spawns tasks, waits for them at barriers, prints and exits. A task is a function
+ * Main is a plain C program. It spawns tasks, waits for all of them or for one object, prints and exits. A task is a
+ * function
  *
  *     void task(first *, second *, ..., uint32_t argument)
  *
@@ -19,7 +20,8 @@
 enum { TSS_INPUT = 1, TSS_OUTPUT = 2, TSS_INOUT = 3 };
 
 /* An operand: an object in memory and what the task does with it. The base is a multiple of 4, the length in bytes is
- * at least 1. Two objects that are named between two barriers are the same object, or they share no byte. */
+ * at least 1. Two objects that are named at one time are the same object, or they share no byte. An object is named from
+ * a spawn on until it is awaited or a barrier comes. */
 typedef struct {
     const void *base;
     uint32_t length;
@@ -62,10 +64,18 @@ static inline void tss_spawn(tss_task *task, const tss_operand *list, uint32_t c
     __asm__ volatile("ecall" : : "r"(a0), "r"(a1), "r"(a2), "r"(a3), "r"(a7) : "memory");
 }
 
-/* Waits for all tasks. Until then main may not touch an object that it has named in a spawn. */
+/* Waits for all tasks. Until then main may not touch an object that it has named in a spawn and hasn't awaited. */
 static inline void tss_barrier(void) {
     register uint32_t a7 __asm__("a7") = 3;
     __asm__ volatile("ecall" : : "r"(a7) : "memory");
+}
+
+/* Waits for the object at this base, which main has named in a spawn, until the tasks so far have done with it and it is
+ * in memory. Then main may touch it, and may name it or parts of it anew. Other objects stay with their tasks. */
+static inline void tss_await(const void *base) {
+    register const void *a0 __asm__("a0") = base;
+    register uint32_t a7 __asm__("a7") = 5;
+    __asm__ volatile("ecall" : : "r"(a0), "r"(a7) : "memory");
 }
 
 /* Prints bytes. */
@@ -113,6 +123,11 @@ static inline void tss_spawn(tss_task *task, const tss_operand *list, uint32_t c
 
 /* No task is left to wait for. */
 static inline void tss_barrier(void) {
+}
+
+/* Nor one that has the object. */
+static inline void tss_await(const void *base) {
+    (void)base;
 }
 
 /* Writes bytes to standard output. */

@@ -6,7 +6,7 @@ use Rattle.tss_base.specs.declared.operand.Task.{Task}
 use Rattle.tss_base.specs.declared.machine.Machine.{Machine}
 use Rattle.tss_base.specs.declared.event.Event.TheVariants as event
 use Rattle.tss_model.specs.Spawn.{spawn_of}
-use Rattle.tss_model.specs.MainStep.{MainState, Call, ExitCall, Spawn, Barrier, Print, Unknown, main_call, spawn_call, spawn_on}
+use Rattle.tss_model.specs.MainStep.{MainState, Call, ExitCall, Spawn, Barrier, Print, Await, Unknown, main_call, spawn_call, spawn_on}
 use Rattle.tss_protocol.specs.State.{State}
 use Rattle.tss_protocol.specs.Stations.{operand_at}
 use Rattle.tss_protocol.specs.MainEvent.{call_next, may_call, after_call, main_by}
@@ -53,6 +53,7 @@ module _ (m : Machine) (ts : List Task) (g : Arrivals) (S : State) (round : IsRo
       by_spawn (spawn_of (spawn_call S.main.registers) S.home S.main.epoch m.limits S.main.spawned) refl
   controlled_call (Some Barrier) may = IsControlled-bare S (IsBare-drained S may) g h.orderly
   controlled_call (Some Print) may = h
+  controlled_call (Some Await) may = h
   controlled_call (Some (Unknown n)) may = h
 
 -- ---- the state

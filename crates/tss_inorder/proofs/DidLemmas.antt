@@ -1,17 +1,17 @@
 -- What a call of main was, by what it answers.
 use Rattle.std.proofs.Common.{◌≡◌, ℕ, suc, Bool, true, false, Option, Some, None, Result, Ok, Err, refl, sym, ap, ◌∙◌}
 use Rattle.std.specs.Prelude.{◌==◌, cond, is_some}
-use Rattle.tss_base.specs.declared.calls.TheConstants.{EXIT, SPAWN, BARRIER, PRINT}
+use Rattle.tss_base.specs.declared.calls.TheConstants.{EXIT, SPAWN, BARRIER, PRINT, AWAIT}
 use Rattle.tss_base.specs.declared.operand.Task.{Task}
 use Rattle.tss_base.specs.declared.ending.Ending.{Ending}
 use Rattle.tss_base.specs.declared.ending.Trap.{Trap}
 use Rattle.tss_model.specs.Spawn.{spawn_of}
 use Rattle.tss_base.specs.declared.machine.Limits.{Limits}
 use Rattle.tss_model.specs.TaskRun.{task_stepped, task_end}
-use Rattle.tss_model.specs.MainStep.{MainState, Call, ExitCall, Spawn, Barrier, Print, Unknown, call_of, spawn_call, spawn_on, next_call, main_call}
+use Rattle.tss_model.specs.MainStep.{MainState, Call, ExitCall, Spawn, Barrier, Print, Await, Unknown, call_of, spawn_call, spawn_on, next_call, main_call, awaited_object}
 use Rattle.tss_model.specs.InOrder.{main_after_task, task_ran}
 use Rattle.tss_program_order.proofs.FlatSteps.{next_call-on}
-use Rattle.tss_inorder.specs.Flats.{FlatState, flat_of, with_flat, did_spawn, did_by, did_at, did_end, did_ran, done_by}
+use Rattle.tss_inorder.specs.Flats.{FlatState, flat_of, with_flat, did_spawn, did_await, did_by, did_at, did_end, did_ran, done_by}
 use Rattle.tss_inorder.specs.declared.flat.Did.{Did}
 use Rattle.tss_inorder.specs.declared.flat.Did.TheVariants as did
 
@@ -31,17 +31,23 @@ module _ (s : FlatState) (m : MainState) (goes : m.ending ≡ None) where
   no_spawn (Err n) e = some_none _ m.ending (ap (λ (p : MainState × Option Task). (p.0).ending) e) goes
 
   -- by which number it has
-  by_number : (exit spawn barrier print : Bool) (n : ℕ)
-      → main_call s.limits s.memory s.main (cond exit ExitCall (cond spawn Spawn (cond barrier Barrier (cond print Print (Unknown n))))) ≡ (m, None)
-      → cond barrier did.Barrier did.Printed ≡ did_by s (Some (cond exit ExitCall (cond spawn Spawn (cond barrier Barrier (cond print Print (Unknown n))))))
-  by_number true spawn barrier print n e = absurd (some_none _ m.ending (ap (λ (p : MainState × Option Task). (p.0).ending) e) goes)
-  by_number false true barrier print n e = absurd (no_spawn (spawn_of (spawn_call s.main.registers) s.memory s.main.epoch s.limits s.main.spawned) e)
-  by_number false false true print n e = refl
-  by_number false false false true n e = refl
-  by_number false false false false n e = absurd (some_none _ m.ending (ap (λ (p : MainState × Option Task). (p.0).ending) e) goes)
+  abbrev by_flags : Bool → Bool → Bool → Bool → Bool → ℕ → Call
+  by_flags exit spawn barrier print await n =
+      cond exit ExitCall (cond spawn Spawn (cond barrier Barrier (cond print Print (cond await Await (Unknown n)))))
 
-  pub did_by-number : (n : ℕ) → main_call s.limits s.memory s.main (call_of n) ≡ (m, None) → done_by n ≡ did_by s (Some (call_of n))
-  did_by-number n e = by_number (n == EXIT) (n == SPAWN) (n == BARRIER) (n == PRINT) n e
+  by_number : (exit spawn barrier print await : Bool) (n : ℕ)
+      → main_call s.limits s.memory s.main (by_flags exit spawn barrier print await n) ≡ (m, None)
+      → cond barrier did.Barrier (cond print did.Printed (did_await (awaited_object s.main))) ≡ did_by s (Some (by_flags exit spawn barrier print await n))
+  by_number true spawn barrier print await n e = absurd (some_none _ m.ending (ap (λ (p : MainState × Option Task). (p.0).ending) e) goes)
+  by_number false true barrier print await n e = absurd (no_spawn (spawn_of (spawn_call s.main.registers) s.memory s.main.epoch s.limits s.main.spawned) e)
+  by_number false false true print await n e = refl
+  by_number false false false true await n e = refl
+  by_number false false false false true n e = refl
+  by_number false false false false false n e = absurd (some_none _ m.ending (ap (λ (p : MainState × Option Task). (p.0).ending) e) goes)
+
+  pub did_by-number : (n : ℕ) → main_call s.limits s.memory s.main (call_of n) ≡ (m, None)
+      → done_by n (awaited_object s.main) ≡ did_by s (Some (call_of n))
+  did_by-number n e = by_number (n == EXIT) (n == SPAWN) (n == BARRIER) (n == PRINT) (n == AWAIT) n e
 
 -- ---- a call that spawned a task
 

@@ -3,6 +3,7 @@ use Rattle.std.proofs.Common.{◌≡◌, ℕ, zero, suc, ◌+◌, ◌<◌, Bool,
 use Rattle.std.specs.Prelude.{is_some, unwrap_or}
 use Rattle.std.proofs.lemmas.Bool.{both_ways, leb-false}
 use Rattle.tss_base.specs.declared.operand.Task.{Task}
+use Rattle.tss_base.specs.declared.range.Range.{Range}
 use Rattle.tss_base.specs.declared.ending.Ending.{Ending}
 use Rattle.tss_base.specs.declared.ending.Ending.TheVariants.{Refused}
 use Rattle.tss_base.specs.declared.refusals.TheConstants.{MAIN_BUDGET_SPENT}
@@ -10,14 +11,14 @@ use Rattle.tss_base.specs.declared.machine.Limits.{Limits}
 use Rattle.tss_base.specs.Image.{SegmentState, ImageState}
 use Rattle.tss_model.specs.Memory.{Memory, frozen, loaded}
 use Rattle.tss_model.specs.TaskRun.{repeated}
-use Rattle.tss_model.specs.MainStep.{Flat, Call, main_start, ExitCall, Spawn, Barrier, Print, Unknown, output_of, has_spent, main_step, main_stretch, main_call, next_call}
+use Rattle.tss_model.specs.MainStep.{Flat, Call, main_start, ExitCall, Spawn, Barrier, Print, Await, Unknown, output_of, has_spent, main_step, main_stretch, main_call, next_call, awaited_object}
 use Rattle.tss_model.specs.InOrder.{flat_start, flat_step, flat_stepped, main_after, in_order}
 use Rattle.tss_program_order.proofs.FlatSteps.{repeated-add, repeated-still, main_step-ended, main_step-spent, next_call-spent, flat_step-main, flat_step-call, next_call-on}
 use Rattle.tss_program_order.proofs.FlatOrder.{flat_stepped-ranges, steps_taken-on, main_stretch-reaches, main_after-there, executed_on}
 use Rattle.tss_program_order.proofs.FlatStarts.{flat_step-taken, flat_stepped-done}
 use Rattle.tss_program_order.proofs.FlatEnds.{in_order-ended}
 use Rattle.tss_steps.specs.Limited.{LimitedMain}
-use Rattle.tss_inorder.specs.Flats.{FlatState, flat_of, event_by, flat_event, stretched, did_spawn, did_by, did_at, did_in, GoesFurther, ByDid}
+use Rattle.tss_inorder.specs.Flats.{FlatState, flat_of, event_by, flat_event, stretched, did_spawn, did_await, did_by, did_at, did_in, GoesFurther, ByDid}
 use Rattle.tss_inorder.specs.Order.{with_pieces, Follows, StandsInOrder, EndsInOrder}
 use Rattle.tss_inorder.specs.declared.flat.Did.{Did}
 use Rattle.tss_inorder.proofs.PieceLemmas.{flat_event-pieces}
@@ -121,12 +122,17 @@ did_spawn-on : (s : FlatState) (o : Option Task) (on : Type 0) (over : Ending �
 did_spawn-on s None on over holds = holds
 did_spawn-on s (Some t) on over holds = holds
 
+did_await-on : (o : Option Range) (on : Type 0) (over : Ending → Type 0) → on → ByDid (did_await o) on over
+did_await-on None on over holds = holds
+did_await-on (Some object) on over holds = holds
+
 did_by-on : (s : FlatState) (c : Option Call) (on : Type 0) (over : Ending → Type 0) → on → ByDid (did_by s c) on over
 did_by-on s None on over holds = holds
 did_by-on s (Some ExitCall) on over holds = holds
 did_by-on s (Some Spawn) on over holds = did_spawn-on s (main_call s.limits s.memory s.main Spawn).1 on over holds
 did_by-on s (Some Barrier) on over holds = holds
 did_by-on s (Some Print) on over holds = holds
+did_by-on s (Some Await) on over holds = did_await-on (awaited_object s.main) on over holds
 did_by-on s (Some (Unknown n)) on over holds = holds
 
 -- what holds where main goes on, and where it has ended

@@ -14,7 +14,7 @@ use Rattle.tss_model.specs.Access.{touches}
 use Rattle.tss_model.specs.Spawn.{spawn_of}
 use Rattle.tss_model.specs.TaskRun.{repeated, task_end}
 use Rattle.tss_model.specs.Core.{Stepped, Executed, Called, Ended, Trapped, Touched}
-use Rattle.tss_model.specs.MainStep.{Piece, MainState, Flat, Call, ExitCall, Spawn, Barrier, Print, Unknown, output_of, has_spent, main_refused, main_trapped, main_on, main_core, main_step, main_stretch, next_call, call_done, spawn_call, spawn_on, print_range, print_done, print_call, main_call}
+use Rattle.tss_model.specs.MainStep.{Piece, MainState, Flat, Call, ExitCall, Spawn, Barrier, Print, Await, Unknown, output_of, has_spent, main_refused, main_trapped, main_on, main_core, main_step, main_stretch, next_call, call_done, spawn_call, spawn_on, print_range, print_done, print_call, main_call, await_on, awaited_object}
 use Rattle.tss_model.specs.InOrder.{main_after_task, call_ran}
 use Rattle.tss_program_order.proofs.FlatMain.{main_stretch-leaves}
 use Rattle.tss_inorder.specs.Flats.{event_by, flat_event}
@@ -72,6 +72,10 @@ module _ (limits : Limits) (memory : Memory) (m : MainState) (pieces : List Piec
   spawn-pieces (Ok t) = record { pieces = pieces; output = same; form = refl }
   spawn-pieces (Err n) = record { pieces = pieces; output = same; form = refl }
 
+  await-pieces : (o : Option Range) → IsCallAlike (await_on (main_with m pieces) o, None) (await_on m o, None)
+  await-pieces None = record { pieces = pieces; output = same; form = refl }
+  await-pieces (Some object) = record { pieces = pieces; output = same; form = refl }
+
   -- a print by what its checks say
   abbrev printed : Bool → Bool → Bool → Bool → MainState → Range → MainState
   printed none unplaced touched full n r =
@@ -111,6 +115,7 @@ module _ (limits : Limits) (memory : Memory) (m : MainState) (pieces : List Piec
   main_call-pieces Spawn = spawn-pieces (spawn_of (spawn_call m.registers) memory m.epoch limits m.spawned)
   main_call-pieces Barrier = record { pieces = pieces; output = same; form = refl }
   main_call-pieces Print = print-pieces (print_range m.registers)
+  main_call-pieces Await = await-pieces (awaited_object m)
   main_call-pieces (Unknown n) = record { pieces = pieces; output = same; form = refl }
 
 -- its task runs

@@ -1,7 +1,8 @@
 -- What a contract sees of the flat machine, and what an event of main makes of it: a call with all of the task that it
 -- spawns, or a stretch.
 use Rattle.std.specs.Prelude.{ℕ, suc, ◌<◌, ◌==◌, if◌then◌else◌, List, Option, Some, None}
-use Rattle.tss_base.specs.declared.calls.TheConstants.{BARRIER}
+use Rattle.tss_base.specs.declared.calls.TheConstants.{BARRIER, PRINT}
+use Rattle.tss_base.specs.declared.range.Range.{Range}
 use Rattle.tss_base.specs.declared.ending.Ending.{Ending}
 use Rattle.tss_base.specs.declared.ending.Ending.TheVariants.{TaskTrap}
 use Rattle.tss_base.specs.declared.ending.Trap.{Trap}
@@ -10,7 +11,7 @@ use Rattle.tss_base.specs.declared.machine.Limits.{Limits}
 use Rattle.tss_base.specs.Image.{SegmentState}
 use Rattle.tss_model.specs.Memory.{Memory}
 use Rattle.tss_model.specs.TaskRun.{task_stepped}
-use Rattle.tss_model.specs.MainStep.{MainState, Flat, Call, ExitCall, Spawn, Barrier, Print, Unknown, next_call, main_call, main_stretch}
+use Rattle.tss_model.specs.MainStep.{MainState, Flat, Call, ExitCall, Spawn, Barrier, Print, Await, Unknown, next_call, main_call, main_stretch, awaited_object}
 use Rattle.tss_model.specs.InOrder.{call_ran}
 use Rattle.tss_inorder.specs.declared.flat.Did.{Did}
 use Rattle.tss_inorder.specs.declared.flat.Did.TheVariants as did
@@ -66,13 +67,19 @@ did_ran s t =
     let end = task_stepped s.code s.limits s.memory t (suc s.limits.task_budget) in
     did_end t end.registers.done end.trap
 
--- where the run goes on, by the call that came: an exit and an unknown call end it
+-- an await, with the object that was named: it is refused where there is none
+abbrev pub did_await : Option Range → Did
+did_await None = did.Printed
+did_await (Some object) = did.Awaited object
+
+-- where the run goes on, by the call that came: an exit, an unknown call and a refused await end it
 abbrev pub did_by : FlatState → Option Call → Did
 did_by s None = did.Steps
 did_by s (Some ExitCall) = did.Steps
 did_by s (Some Spawn) = did_spawn s (main_call s.limits s.memory s.main Spawn).1
 did_by s (Some Barrier) = did.Barrier
 did_by s (Some Print) = did.Printed
+did_by s (Some Await) = did_await (awaited_object s.main)
 did_by s (Some (Unknown n)) = did.Steps
 
 -- by the ending of main after it
@@ -94,8 +101,9 @@ ByDid did.Steps on over = on
 ByDid (did.Spawned t n) on over = on
 ByDid did.Barrier on over = on
 ByDid did.Printed on over = on
+ByDid (did.Awaited r) on over = on
 ByDid (did.Over e) on over = over e
 
--- by the number of a call that spawned nothing and didn't end main
-abbrev pub done_by : ℕ → Did
-done_by n = if n == BARRIER then did.Barrier else did.Printed
+-- by the number of a call that spawned nothing and didn't end main, and the named object at the base in x10 before it
+abbrev pub done_by : ℕ → Option Range → Did
+done_by n object = if n == BARRIER then did.Barrier else if n == PRINT then did.Printed else did_await object

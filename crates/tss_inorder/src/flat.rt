@@ -14,20 +14,21 @@ ghost use Rattle.tss_inorder.specs.Order.{EndsInOrder, Follows, StandsInOrder};
 use crate::running::run_task;
 use std::alloc::Global;
 use std::marker::Model;
-use tss_base::calls::BARRIER;
-use tss_base::{Ending, Image, Limits, NoMemory, Task};
+use tss_base::calls::{BARRIER, PRINT};
+use tss_base::{Ending, Image, Limits, NoMemory, Range, Task};
 use tss_core::Regs;
 use tss_memory::{Code, Space};
 use tss_steps::{Main, Scratch};
 
 /// What an event of main was: a stretch of steps, a spawn with all of its task and the number of instructions that this
-/// completed, a barrier, or a print. Or the run is over, by this event or before it.
+/// completed, a barrier, a print, or an await with its object. Or the run is over, by this event or before it.
 #[derive(Clone, Copy, Debug, PartialEq, Eq)]
 pub enum Did {
     Steps,
     Spawned(Task, u64),
     Barrier,
     Printed,
+    Awaited(Range),
     Over(Ending),
 }
 
@@ -153,11 +154,12 @@ impl Flat {
         ensures exact { self.new ≡ with_flat self.old (called self.old (call_of number)) }
         ensures did { result ≡ did_at self.new.main.ending (did_by self.old (Some (call_of number))) }
     {
+        let object = self.main.awaited();
         match self.main.call(&self.space) {
             Some(task) => self.run_spawned(&task),
             None => match self.main.ending() {
                 Some(ending) => Did::Over(ending),
-                None => done_by(number),
+                None => done_by(number, object),
             },
         }
     }
@@ -186,13 +188,14 @@ impl Flat {
     }
 }
 
-/// What a call of this number was that spawned nothing and didn't end main.
-fn done_by(number: u32) -> Did
-    ensures { result ≡ done_by number }
+/// What a call of this number was that spawned nothing and didn't end main, with the named object at the base in x10
+/// before it.
+fn done_by(number: u32, object: Option<Range>) -> Did
+    ensures { result ≡ done_by number object }
 {
-    if number == BARRIER {
-        Did::Barrier
-    } else {
-        Did::Printed
+    match object {
+        _ if number == BARRIER => Did::Barrier,
+        Some(object) if number != PRINT => Did::Awaited(object),
+        _ => Did::Printed,
     }
 }

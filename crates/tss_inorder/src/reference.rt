@@ -86,7 +86,7 @@ fn run(flat: &mut Flat) -> Ending
     loop {
         match flat.stretch(QUANTUM) {
             Did::Over(ending) => return ending,
-            Did::Steps | Did::Spawned(_, _) | Did::Barrier | Did::Printed => {}
+            Did::Steps | Did::Spawned(_, _) | Did::Barrier | Did::Printed | Did::Awaited(_) => {}
         }
     }
 }

@@ -2,6 +2,7 @@
 // worked out apart.
 ghost use Rattle.std.specs.Prelude.{◌≡◌, vec_len, IfOk};
 
+mod awaits;
 mod epochs;
 mod events;
 mod exits;

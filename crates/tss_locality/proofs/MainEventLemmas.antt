@@ -5,7 +5,7 @@ use Rattle.std.proofs.lemmas.Bool.{and_parts}
 use Rattle.tss_base.specs.declared.operand.Task.{Task}
 use Rattle.tss_base.specs.declared.machine.Machine.{Machine}
 use Rattle.tss_base.specs.declared.event.Event.TheVariants as event
-use Rattle.tss_model.specs.MainStep.{MainState, Call, ExitCall, Spawn, Barrier, Print, Unknown, main_call, main_stretch}
+use Rattle.tss_model.specs.MainStep.{MainState, Call, ExitCall, Spawn, Barrier, Print, Await, Unknown, main_call, main_stretch}
 use Rattle.tss_protocol.specs.State.{State}
 use Rattle.tss_protocol.specs.MainEvent.{flat_of, call_next, may_call, after_call, main_by}
 use Rattle.tss_protocol.specs.UnitMachine.{is_enabled, IsEnabled, after_event}
@@ -35,6 +35,7 @@ module _ (c : Scope) (m : Machine) (S : State) (p : ConcernsMain c m S) where
       called (none_from_test S.inbox on) (main_call m.limits S.home S.main Spawn) (p.spawned Spawn next)
   call_only Barrier next on = main_changed (main_call m.limits S.home S.main Barrier).0
   call_only Print next on = main_changed (main_call m.limits S.home S.main Print).0
+  call_only Await next on = main_changed (main_call m.limits S.home S.main Await).0
   call_only (Unknown n) next on = main_changed (main_call m.limits S.home S.main (Unknown n)).0
 
   by_only : (call : Option Call) → call_next m S ≡ call → may_call S call ≡ true → ChangesOnly c S (main_by m S call)

@@ -4,6 +4,7 @@ use Rattle.std.specs.Prelude.{◌%◌, ◌==◌, ◌&&◌, not, nat_lt, max, min
 use Rattle.std.specs.List.{list_any}
 use Rattle.std.proofs.lemmas.Bool.{and_parts, and_from, or_parts, or_cases}
 use Rattle.std.proofs.lemmas.Bool.Decides.{nat_tests}
+use Rattle.std.proofs.lemmas.Option.{none-some, same_Some}
 use Rattle.std.proofs.Math.Seq.{append_snoc}
 use Rattle.tss_base.specs.declared.range.Range.{Range}
 use Rattle.tss_base.specs.declared.operand.Mode.{Mode}
@@ -12,7 +13,7 @@ use Rattle.tss_base.specs.declared.machine.Limits.{Limits}
 use Rattle.tss_base.specs.Range.{end_of, meets}
 use Rattle.tss_model.specs.Memory.{Memory, range_of}
 use Rattle.tss_base.specs.declared.refusals.TheConstants.{BAD_MODE, BAD_LENGTH, BAD_BASE, OBJECT_OUTSIDE, OVERLAP}
-use Rattle.tss_model.specs.Spawn.{Entry, same_range, name_object, name_objects, objects_of, is_bad_length, is_outside, overlaps, mode_of, mode_checked, entry_checked, after_first, with_rest, entries_checked}
+use Rattle.tss_model.specs.Spawn.{Entry, same_range, name_object, name_objects, named_at, unnamed, objects_of, is_bad_length, is_outside, overlaps, mode_of, mode_checked, entry_checked, after_first, with_rest, entries_checked}
 use Rattle.tss_locality.specs.Rounds.{IsIn, AreSeparate}
 
 -- ---- members
@@ -246,3 +247,51 @@ separate_fewer xs ys less separate = record {
   some = λ x h. separate.some x (less x h);
   one = λ x y h k met. separate.one x y (less x h) (less y k) met;
 }
+
+-- ---- an await
+
+-- the object at a base is one of those that are named, and has the base
+pub found_at : (named : List Range) (base : ℕ) (x : Range) → named_at named base ≡ Some x
+    → IsIn x named × (x.base ≡ base)
+found_at [] base x e = absurd (none-some x e)
+found_at (y ∷ ys) base x e = by (y.base == base) refl (found_at ys base x) e
+  where
+    by : (b : Bool) → (y.base == base) ≡ b → (named_at ys base ≡ Some x → IsIn x ys × (x.base ≡ base))
+        → cond b (Some y) (named_at ys base) ≡ Some x → IsIn x (y ∷ ys) × (x.base ≡ base)
+    by true test rest e =
+        let same = same_Some y x e in
+        let base_is : y.base ≡ base = grind (arith, nat_tests, test) in
+        (inl same, ap (λ (r : Range). r.base) (sym same) ∙ base_is)
+    by false test rest e = let r = rest e in (inr r.0, r.1)
+
+-- what is left was there
+pub left_named : (named : List Range) (base : ℕ) (y : Range) → IsIn y (unnamed named base) → IsIn y named
+left_named [] base y h = h
+left_named (x ∷ xs) base y h = by (not (x.base == base)) (left_named xs base y) h
+  where
+    by : (b : Bool) → (IsIn y (unnamed xs base) → IsIn y xs)
+        → IsIn y (cond b (x ∷ unnamed xs base) (unnamed xs base)) → IsIn y (x ∷ xs)
+    by true still (inl same) = inl same
+    by true still (inr rest) = inr (still rest)
+    by false still rest = inr (still rest)
+
+-- and what has another base is left
+pub still_left : (named : List Range) (base : ℕ) (y : Range) → y.base ≢ base → IsIn y named → IsIn y (unnamed named base)
+still_left [] base y other h = h
+still_left (x ∷ xs) base y other (inl same) =
+    let test : not (x.base == base) ≡ true = passes in
+    subst (λ b. IsIn y (cond b (x ∷ unnamed xs base) (unnamed xs base))) (sym test) (inl same)
+  where
+    passes : not (x.base == base) ≡ true
+    passes = by (x.base == base) refl
+      where
+        by : (b : Bool) → (x.base == base) ≡ b → not b ≡ true
+        by true e = let is : x.base ≡ base = grind (arith, nat_tests, e) in
+            absurd (other (ap (λ (r : Range). r.base) (sym same) ∙ is))
+        by false e = refl
+still_left (x ∷ xs) base y other (inr rest) =
+    kept (not (x.base == base)) (still_left xs base y other rest)
+  where
+    kept : (b : Bool) → IsIn y (unnamed xs base) → IsIn y (cond b (x ∷ unnamed xs base) (unnamed xs base))
+    kept true h = inr h
+    kept false h = h

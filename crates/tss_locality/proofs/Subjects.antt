@@ -14,7 +14,7 @@ use Rattle.tss_base.specs.declared.event.Event.TheVariants as event
 use Rattle.tss_base.specs.Range.{Covers}
 use Rattle.tss_maps.proofs.Keys.{nat_order, decide_key}
 use Rattle.tss_model.specs.Access.{operands_of}
-use Rattle.tss_model.specs.MainStep.{Call, ExitCall, Spawn, Barrier, Print, Unknown, spawn_call, spawn_on, main_call}
+use Rattle.tss_model.specs.MainStep.{Call, ExitCall, Spawn, Barrier, Print, Await, Unknown, spawn_call, spawn_on, main_call}
 use Rattle.tss_model.specs.Spawn.{spawn_of}
 use Rattle.tss_protocol.specs.Names.{operand_name}
 use Rattle.tss_protocol.specs.State.{Flying, Busy, State}
@@ -78,6 +78,7 @@ module _ (m : Machine) (S : State) where
       accepted (spawn_of (spawn_call S.main.registers) S.home S.main.epoch m.limits S.main.spawned) refl t e
   spawned_number Barrier t e = absurd (none-some t e)
   spawned_number Print t e = absurd (none-some t e)
+  spawned_number Await t e = absurd (none-some t e)
   spawned_number (Unknown n) t e = absurd (none-some t e)
 
   -- an address of no named object, alone

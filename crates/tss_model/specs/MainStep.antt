@@ -1,7 +1,7 @@
 -- Main: its state, a step of it that is no call, and its calls. Both machines take these, the one in program order and
 -- the unit machine: only what becomes of a spawned task differs.
 use Rattle.std.specs.Prelude.{ℕ, suc, ◌+◌, ◌==◌, Bool, ◌||◌, nat_lt, nat_le, if◌then◌else◌, List, [], ◌∷◌, ◌++◌, length, flat_map, Option, Some, None, is_none, is_some, Result, Ok, Err}
-use Rattle.tss_base.specs.declared.calls.TheConstants.{EXIT, SPAWN, BARRIER, PRINT}
+use Rattle.tss_base.specs.declared.calls.TheConstants.{EXIT, SPAWN, BARRIER, PRINT, AWAIT}
 use Rattle.tss_base.specs.declared.range.Range.{Range}
 use Rattle.tss_base.specs.declared.operand.Task.{Task}
 use Rattle.tss_base.specs.declared.ending.Trap.{Trap}
@@ -12,10 +12,10 @@ use Rattle.tss_base.specs.Image.{SegmentState}
 use Rattle.tss_model.specs.Memory.{Memory, range_of, byte_at, bytes_of, code_word}
 use Rattle.tss_model.specs.Registers.{Registers, register_at, main_registers, onward, trap_of}
 use Rattle.tss_base.specs.declared.causes.TheConstants.{FETCH_OUTSIDE, LOAD_DENIED, UNKNOWN_CALL}
-use Rattle.tss_base.specs.declared.refusals.TheConstants.{MAIN_TOUCH, MAIN_BUDGET_SPENT, OUTPUT_FULL}
+use Rattle.tss_base.specs.declared.refusals.TheConstants.{MAIN_TOUCH, MAIN_BUDGET_SPENT, OUTPUT_FULL, NOT_NAMED}
 use Rattle.tss_model.specs.Access.{MainActor, touches}
 use Rattle.tss_model.specs.Core.{Write, Stepped, Executed, Called, Ended, Trapped, Touched, core_step}
-use Rattle.tss_model.specs.Spawn.{SpawnCall, spawn_of, name_objects, objects_of}
+use Rattle.tss_model.specs.Spawn.{SpawnCall, spawn_of, name_objects, named_at, unnamed, objects_of}
 use Rattle.tss_model.specs.TaskRun.{memory_write, repeated}
 use Rattle.tss_model.specs.Access.{operands_of}
 
@@ -24,8 +24,8 @@ pub record Piece : Type 0 where
   pub before : ℕ
   pub bytes : List ℕ
 
--- main: its registers, the number of tasks that it has spawned, the objects that it has named in this epoch, in order
--- of naming, what it has printed, and its ending where it has ended
+-- main: its registers, the number of tasks that it has spawned, the objects that are named, in order of naming, what it
+-- has printed, and its ending where it has ended. A spawn names its objects; an await takes one out, and a barrier all
 pub record MainState : Type 0 where
   pub registers : Registers
   pub spawned : ℕ
@@ -104,6 +104,7 @@ pub data Call : Type 0 where
   Spawn : Call
   Barrier : Call
   Print : Call
+  Await : Call
   Unknown : ℕ → Call
 
 -- the call of a number
@@ -113,6 +114,7 @@ call_of n =
     else if n == SPAWN then Spawn
     else if n == BARRIER then Barrier
     else if n == PRINT then Print
+    else if n == AWAIT then Await
     else Unknown n
 
 -- the call that a step of main's core meets
@@ -172,10 +174,28 @@ print_some limits memory m r =
 abbrev pub print_call : Limits → Memory → MainState → Range → MainState
 print_call limits memory m r = if r.len == 0 then call_done m else print_some limits memory m r
 
+-- the base of the object that main awaits
+abbrev pub await_base : Registers → ℕ
+await_base r = register_at r 10
+
+-- the named object at that base, if there is one
+abbrev pub awaited_object : MainState → Option Range
+awaited_object m = named_at m.epoch (await_base m.registers)
+
+-- an accepted await: the object is no longer named
+abbrev pub await_done : MainState → Range → MainState
+await_done m object = record (call_done m) { epoch = unnamed m.epoch object.base }
+
+-- an await is refused where no named object has the base
+abbrev pub await_on : MainState → Option Range → MainState
+await_on m None = main_refused m NOT_NAMED
+await_on m (Some object) = await_done m object
+
 -- a call of main, with the task that it spawns
 abbrev pub main_call : Limits → Memory → MainState → Call → MainState × Option Task
 main_call limits memory m ExitCall = (main_ended (call_done m) (Exit (register_at m.registers 10)), None)
 main_call limits memory m Spawn = spawn_on m (spawn_of (spawn_call m.registers) memory m.epoch limits m.spawned)
 main_call limits memory m Barrier = (record (call_done m) { epoch = [] }, None)
 main_call limits memory m Print = (print_call limits memory m (print_range m.registers), None)
+main_call limits memory m Await = (await_on m (awaited_object m), None)
 main_call limits memory m (Unknown n) = (main_trapped m (trap_of m.registers UNKNOWN_CALL n), None)

@@ -1,7 +1,7 @@
 -- Main's spawn: the objects that are named, the operand list with its checks in their order, the merging of equal
 -- operands, and the task.
 use Rattle.std.specs.Prelude.{ℕ, zero, suc, ◌+◌, ◌-◌, ◌*◌, ◌%◌, ◌==◌, Bool, true, ◌&&◌, ◌||◌, not, nat_lt, nat_le, if◌then◌else◌, List, [], ◌∷◌, ◌++◌, map, length, filter, replicate, Option, Some, None, is_none, Result, Ok, Err}
-use Rattle.std.specs.List.{list_any, list_all}
+use Rattle.std.specs.List.{find, list_any, list_all}
 use Rattle.tss_base.specs.declared.bounds.TheConstants.{MAX_OPERANDS}
 use Rattle.tss_base.specs.declared.range.Range.{Range}
 use Rattle.tss_base.specs.declared.operand.Mode.{Mode}
@@ -28,6 +28,14 @@ name_object named object = if list_any (same_range object) named then named else
 abbrev pub name_objects : List Range → List Range → List Range
 name_objects named [] = named
 name_objects named (object ∷ objects) = name_objects (name_object named object) objects
+
+-- the named object at a base. There is one at most, since no two named objects share an address
+abbrev pub named_at : List Range → ℕ → Option Range
+named_at named base = find (λ r. r.base == base) named
+
+-- the objects without the one at a base, the others in their order
+abbrev pub unnamed : List Range → ℕ → List Range
+unnamed named base = filter (λ r. not (r.base == base)) named
 
 -- operands' objects
 abbrev pub objects_of : List Operand → List Range

@@ -19,7 +19,7 @@ use Rattle.tss_base.specs.declared.refusals.TheConstants.{EPOCH_FULL, LIST_PLACE
 use Rattle.tss_model.specs.Core.{Stepped, Executed, Called, Ended, Trapped, Touched}
 use Rattle.tss_model.specs.TaskRun.{repeated}
 use Rattle.tss_model.specs.Spawn.{SpawnCall, Entry, after_first, entries_at, entries_checked, entry_checked, is_misplaced, list_range, merged_on, merged_operands, name_object, name_objects, no_operand, objects_of, same_range, spawn_of, task_checked, task_of, with_rest}
-use Rattle.tss_model.specs.MainStep.{MainState, Flat, Call, ExitCall, Spawn, Barrier, Print, Unknown, has_spent, main_core, main_on, main_refused, main_step, main_trapped, output_of, print_done, print_range, print_some, print_call, call_done, spawn_call, spawn_on}
+use Rattle.tss_model.specs.MainStep.{MainState, Flat, Call, ExitCall, Spawn, Barrier, Print, Await, Unknown, has_spent, main_core, main_on, main_refused, main_step, main_trapped, output_of, print_done, print_range, print_some, print_call, call_done, spawn_call, spawn_on, awaited_object, await_on}
 use Rattle.tss_protocol.specs.State.{State}
 use Rattle.tss_protocol.specs.MainEvent.{flat_of, call_next, may_call, main_by, after_call}
 use Rattle.tss_protocol.specs.UnitMachine.{IsEnabled, is_enabled, after_event}
@@ -160,6 +160,10 @@ module _ (m : Machine) (ts : List Task) (S : State) where
     back = refl;
   })
 
+  spawned-await : (x : Option Range) → (await_on S.main x).spawned ≡ S.main.spawned
+  spawned-await None = refl
+  spawned-await (Some object) = refl
+
   spawns_by : (c : Option Call) → may_call S c ≡ true
       → SpawnsAtMostOne m ts (spawned_by_main m S ts c) S (main_by m S c)
   spawns_by None may = inl (record {
@@ -179,6 +183,11 @@ module _ (m : Machine) (ts : List Task) (S : State) where
     front = λ i. record (front_of S) {
       spawned = spawned-print m.limits S.home S.main (print_range S.main.registers) i;
     };
+    back = refl;
+  })
+  spawns_by (Some Await) may = inl (record {
+    list = refl;
+    front = λ i. record (front_of S) { spawned = spawned-await (awaited_object S.main) i };
     back = refl;
   })
   spawns_by (Some (Unknown n)) may = inl (record { list = refl; front = refl; back = refl })

@@ -1,5 +1,6 @@
 mod PlacedLemmas
 mod NamingLemmas
+mod UnnamingLemmas
 mod ListingLemmas
 mod MergingLemmas
 mod ReadingLemmas

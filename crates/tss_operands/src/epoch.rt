@@ -1,8 +1,8 @@
 // Epochs: the objects that main has named.
 ghost use Rattle.tss_base.specs.declared.bounds.TheConstants.{MAX_OPERANDS};
-ghost use Rattle.std.specs.Prelude.{◌≡◌, ◌≤◌, ◌↔◌, [], IfOk, IsTrue, length, slice_get, option_copied};
+ghost use Rattle.std.specs.Prelude.{◌≡◌, ◌≤◌, ◌↔◌, [], IfOk, IsTrue, IsFalse, length, slice_get, is_some, option_copied};
 ghost use Rattle.tss_model.specs.Access.{operands_of, touches};
-ghost use Rattle.tss_model.specs.Spawn.{name_object, name_objects, objects_of, overlaps};
+ghost use Rattle.tss_model.specs.Spawn.{name_object, name_objects, named_at, objects_of, overlaps, unnamed};
 ghost use Rattle.tss_operands.specs.Naming.{CanName, CanNameAll, is_named};
 ghost use Rattle.tss_operands.specs.Placed.{IsNeighbour};
 
@@ -60,6 +60,23 @@ impl Epoch {
         self.named.push_reserved(object);
     }
 
+    /// Ends the naming of the object with this base, and answers whether there is one. The others stay named, in their
+    /// order.
+    pub fn unname(&mut self, base: u32) -> bool
+        ensures named { result ≡ is_some (named_at self.old.objects base) }
+        ensures left { self.new ≡ record self.old { objects = unnamed self.old.objects base } }
+        ensures unchanged { IsFalse result → self.new ≡ self.old }
+    {
+        let place = ended_by(self.by_base.as_slice(), base);
+        match self.by_base.get(place) {
+            Some(object) if object.base == base => {}
+            _ => return false,
+        }
+        self.by_base.remove(place);
+        self.named.retain(|object| object.base != base);
+        true
+    }
+
     /// Names the objects of a task, in the order of its operands.
     pub fn name_all(&mut self, task: &Task)
         requires few { task.now.count ≤ MAX_OPERANDS }
@@ -75,7 +92,7 @@ impl Epoch {
     pub fn has(&self, object: &Range) -> bool
         ensures { result ≡ is_named self.now.objects object.now }
     {
-        match self.neighbour(object) {
+        match self.neighbour(object.base) {
             Some(named) => *object == *named,
             None => false,
         }
@@ -85,7 +102,7 @@ impl Epoch {
     pub fn touches(&self, r: &Range) -> bool
         ensures { result ≡ touches self.now.objects r.now }
     {
-        match self.neighbour(r) {
+        match self.neighbour(r.base) {
             Some(named) => named.meets(r),
             None => false,
         }
@@ -95,9 +112,19 @@ impl Epoch {
     pub fn overlaps(&self, object: &Range) -> bool
         ensures { result ≡ overlaps self.now.objects object.now }
     {
-        match self.neighbour(object) {
+        match self.neighbour(object.base) {
             Some(named) => named.meets(object) && *named != *object,
             None => false,
+        }
+    }
+
+    /// The named object with this base. None exactly where no named object has it.
+    pub fn find(&self, base: u32) -> Option<Range>
+        ensures { result ≡ named_at self.now.objects base }
+    {
+        match self.neighbour(base) {
+            Some(named) if named.base == base => Some(*named),
+            _ => None,
         }
     }
 
@@ -132,12 +159,12 @@ impl Epoch {
         self.named.get(i as usize).copied()
     }
 
-    /// The first object in address order that ends after the range's base. A named object meets the range only where
-    /// this one does.
-    fn neighbour(&self, r: &Range) -> Option<&Range>
-        ensures { IsNeighbour self.now.objects r.now.base (option_copied result) }
+    /// The first object in address order that ends after an address. A named object meets a range that begins there only
+    /// where this one does.
+    fn neighbour(&self, at: u32) -> Option<&Range>
+        ensures { IsNeighbour self.now.objects at (option_copied result) }
     {
-        let place = ended_by(self.by_base.as_slice(), r.base);
+        let place = ended_by(self.by_base.as_slice(), at);
         self.by_base.get(place)
     }
 }

@@ -321,3 +321,42 @@ fn the_most_objects_are_named_in_any_order(rt: HostRuntime) -> Result<(), Fail> 
     );
     Ok(())
 }
+
+#[test]
+fn the_object_with_a_base_is_found_and_unnamed(rt: HostRuntime) -> Result<(), Fail> {
+    let first = Range {
+        base: 0x200,
+        len: 8,
+    };
+    let awaited = Range {
+        base: 0x100,
+        len: 16,
+    };
+    let highest = Range {
+        base: 0xFFFFFFFC,
+        len: 4,
+    };
+    let mut epoch = Epoch::open(rt.alloc(), 3)?;
+    for object in [first, awaited, highest] {
+        name(&rt, &mut epoch, object);
+        assert_eq!(rt; epoch.find(object.base), Some(object));
+    }
+    for base in [0, 0xFF, 0x101, 0x110, 0x1FF, 0x208, 0xFFFFFFFB, 0xFFFFFFFF] {
+        assert_eq!(rt; epoch.find(base), None, "{base}");
+        assert!(rt; !epoch.unname(base), "{base}");
+    }
+    assert!(rt; epoch.is_full());
+    assert!(rt; epoch.unname(awaited.base));
+    assert!(rt; !epoch.unname(awaited.base));
+    assert_eq!(rt; epoch.find(awaited.base), None);
+    assert!(rt; !epoch.touches(&awaited));
+    assert_eq!(rt; epoch.at(0), Some(first));
+    assert_eq!(rt; epoch.at(1), Some(highest));
+    assert_eq!(rt; epoch.at(2), None);
+    name(&rt, &mut epoch, awaited);
+    assert_eq!(rt; epoch.at(2), Some(awaited));
+    assert!(rt; epoch.unname(highest.base) && epoch.unname(first.base));
+    assert_eq!(rt; epoch.at(0), Some(awaited));
+    assert_eq!(rt; epoch.count(), 1);
+    Ok(())
+}

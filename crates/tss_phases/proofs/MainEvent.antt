@@ -18,7 +18,7 @@ use Rattle.tss_model.specs.Access.{touches}
 use Rattle.tss_model.specs.Core.{Stepped, Executed, Called, Ended, Trapped, Touched}
 use Rattle.tss_model.specs.Spawn.{SpawnCall, spawn_of, task_checked, task_of, merged_operands, name_objects, objects_of, entries_checked, entries_at, is_misplaced, list_range}
 use Rattle.tss_model.specs.TaskRun.{repeated}
-use Rattle.tss_model.specs.MainStep.{MainState, Flat, Call, ExitCall, Spawn, Barrier, Print, Unknown, main_on, main_core, main_step, main_stretch, main_refused, main_trapped, has_spent, output_of, spawn_call, spawn_on, print_some, print_done, print_call, print_range, call_done}
+use Rattle.tss_model.specs.MainStep.{MainState, Flat, Call, ExitCall, Spawn, Barrier, Print, Await, Unknown, main_on, main_core, main_step, main_stretch, main_refused, main_trapped, has_spent, output_of, spawn_call, spawn_on, print_some, print_done, print_call, awaited_object, await_on, print_range, call_done}
 use Rattle.tss_protocol.specs.State.{State}
 use Rattle.tss_protocol.specs.MainEvent.{flat_of, call_next, may_call, after_call, main_by}
 use Rattle.tss_protocol.specs.UnitMachine.{is_enabled, IsEnabled, after_event}
@@ -72,6 +72,11 @@ printed_some limits memory m r =
     by false true c = refl
     by false false true = refl
     by false false false = refl
+
+-- an await
+spawned-await : (x : MainState) (object : Option Range) → (await_on x object).spawned ≡ x.spawned
+spawned-await x None = refl
+spawned-await x (Some object) = refl
 
 -- a print
 pub spawned-print : (limits : Limits) (memory : Memory) (m : MainState) (r : Range)
@@ -162,6 +167,9 @@ module _ (m : Machine) (S : State) (q : OpName) where
     ahead =
         nat_lt (spawned-print m.limits S.home S.main (print_range S.main.registers) i) q.task
         || inbox_has S.inbox q.task;
+  }
+  by_call (Some Await) may = λ i. record (look_ups S q) {
+    ahead = nat_lt (spawned-await S.main (awaited_object S.main) i) q.task || inbox_has S.inbox q.task;
   }
   by_call (Some (Unknown n)) may = refl
 

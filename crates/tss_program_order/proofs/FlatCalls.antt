@@ -13,7 +13,7 @@ use Rattle.tss_model.specs.Registers.{trap_of}
 use Rattle.tss_base.specs.declared.causes.TheConstants.{LOAD_DENIED}
 use Rattle.tss_base.specs.declared.refusals.TheConstants.{MAIN_TOUCH, OUTPUT_FULL, TOO_MANY_OPERANDS, LIST_PLACE}
 use Rattle.tss_model.specs.Spawn.{SpawnCall, Entry, entries_at, list_range, mode_of, mode_checked, with_rest, entries_checked, task_checked, is_misplaced, spawn_of}
-use Rattle.tss_model.specs.MainStep.{MainState, Call, ExitCall, Spawn, Barrier, Print, Unknown, main_trapped, main_refused, spawn_call, spawn_on, print_range, print_call, print_done, call_done, output_of, main_call}
+use Rattle.tss_model.specs.MainStep.{MainState, Call, ExitCall, Spawn, Barrier, Print, Await, Unknown, main_trapped, main_refused, spawn_call, spawn_on, print_range, print_call, print_done, call_done, output_of, main_call}
 use Rattle.tss_program_order.specs.MainInOrder.{MayLoad}
 use Rattle.tss_program_order.proofs.FlatLoads.{may_load_readable, same_number, same_bytes}
 
@@ -138,4 +138,5 @@ module _ (limits : Limits) (h m : Memory) (ranges : h.ranges ≡ m.ranges) (s : 
       ap (spawn_on s) (spawn_of-same limits h m ranges s.epoch same (spawn_call s.registers) s.spawned)
   main_call-same Barrier = refl
   main_call-same Print = λ i. (print_call-same (print_range s.registers) i, None)
+  main_call-same Await = refl
   main_call-same (Unknown n) = refl

@@ -12,17 +12,17 @@ use Rattle.tss_base.specs.declared.causes.TheConstants.{LOAD_DENIED}
 use Rattle.tss_base.specs.declared.refusals.TheConstants.{BAD_LENGTH, BAD_BASE, OBJECT_OUTSIDE, OVERLAP, TOO_MANY_OPERANDS, LIST_PLACE, MAIN_TOUCH, EPOCH_FULL, TOO_MANY_TASKS, OUTPUT_FULL}
 use Rattle.tss_model.specs.Memory.{Memory, range_of, bytes_of, frozen}
 use Rattle.tss_model.specs.Access.{touches, operands_of}
-use Rattle.tss_model.specs.Spawn.{SpawnCall, Entry, same_range, name_objects, objects_of, is_bad_length, is_outside, overlaps, mode_of, operand_checked, mode_checked, after_first, with_rest, entries_at, entries_checked, merged_on, merged_operands, no_operand, task_of, task_checked, is_misplaced, list_range, spawn_of}
+use Rattle.tss_model.specs.Spawn.{SpawnCall, Entry, same_range, name_objects, unnamed, objects_of, is_bad_length, is_outside, overlaps, mode_of, operand_checked, mode_checked, after_first, with_rest, entries_at, entries_checked, merged_on, merged_operands, no_operand, task_of, task_checked, is_misplaced, list_range, spawn_of}
 use Rattle.tss_base.specs.declared.ending.Trap.{Trap}
 use Rattle.tss_base.specs.Image.{SegmentState, ImageState}
 use Rattle.tss_model.specs.Registers.{trap_of}
 use Rattle.tss_model.specs.TaskRun.{task_end}
-use Rattle.tss_model.specs.MainStep.{MainState, Flat, Call, ExitCall, Spawn, Barrier, Print, Unknown, main_trapped, main_refused, next_call, call_done, spawn_call, spawn_on, print_range, print_call, print_done, output_of, main_call}
+use Rattle.tss_model.specs.MainStep.{MainState, Flat, Call, ExitCall, Spawn, Barrier, Print, Await, Unknown, main_trapped, main_refused, next_call, call_done, spawn_call, spawn_on, print_range, print_call, print_done, output_of, main_call, await_on, awaited_object}
 use Rattle.tss_model.specs.InOrder.{flat_start, main_after_task, call_ran, flat_step, flat_stepped}
 use Rattle.tss_program_order.proofs.FlatSteps.{repeated-keeps, flat_step-main, flat_step-call}
 use Rattle.tss_program_order.proofs.FlatMain.{main_step-leaves}
 use Rattle.tss_program_order.proofs.FlatSpawn.{same_Ok}
-use Rattle.tss_program_order.proofs.FlatNames.{Has, AreApart, AreApart-part, AreApart-more, Has-left, Has-right, name_objects-has}
+use Rattle.tss_program_order.proofs.FlatNames.{Has, unnamed-has, AreApart, AreApart-part, AreApart-more, Has-left, Has-right, name_objects-has}
 
 -- ---- what a check that passed says
 
@@ -194,6 +194,11 @@ module _ (limits : Limits) (m : Memory) (s : MainState) where
       by false false false true = refl
       by false false false false = refl
 
+  await_on-apart : (x : Option Range) → AreApart s.epoch → AreApart (await_on s x).epoch
+  await_on-apart None apart = apart
+  await_on-apart (Some object) apart =
+      AreApart-part (unnamed s.epoch object.base) s.epoch (λ x has. unnamed-has s.epoch object.base x has) apart
+
   -- a call keeps the objects of an epoch apart
   pub main_call-apart : (c : Call) → AreApart s.epoch → AreApart (main_call limits m s c).0.epoch
   main_call-apart ExitCall apart = apart
@@ -201,6 +206,7 @@ module _ (limits : Limits) (m : Memory) (s : MainState) where
       spawn_on-apart (spawn_of (spawn_call s.registers) m s.epoch limits s.spawned) refl apart
   main_call-apart Barrier apart = λ x y has also meet. absurd (cc)
   main_call-apart Print apart = subst AreApart (sym (print_call-epoch (print_range s.registers))) apart
+  main_call-apart Await apart = await_on-apart (awaited_object s) apart
   main_call-apart (Unknown n) apart = apart
 
 module _ (code : List SegmentState) (limits : Limits) where

@@ -10,7 +10,7 @@ use Rattle.tss_base.specs.declared.operand.Operand.{Operand}
 use Rattle.tss_base.specs.Range.{end_of, meets}
 use Rattle.tss_model.specs.Memory.{covers}
 use Rattle.tss_model.specs.Access.{touches}
-use Rattle.tss_model.specs.Spawn.{same_range, name_object, name_objects, objects_of, overlaps}
+use Rattle.tss_model.specs.Spawn.{same_range, name_object, name_objects, unnamed, objects_of, overlaps}
 use Rattle.tss_program_order.proofs.FlatLoads.{byte_range}
 
 -- ---- equal ranges
@@ -48,6 +48,19 @@ Has-left xs ys x has =
 pub Has-right : (xs ys : List Range) (x : Range) → Has ys x → Has (xs ++ ys) x
 Has-right xs ys x has =
     list_any-append (same_range x) xs ys ∙ or_right (list_any (same_range x) xs) (list_any (same_range x) ys) has
+
+-- what is left of the named objects without the one at a base
+pub unnamed-has : (named : List Range) (base : ℕ) (x : Range) → Has (unnamed named base) x → Has named x
+unnamed-has [] base x has = has
+unnamed-has (y ∷ ys) base x has = by (not (y.base == base)) (unnamed-has ys base x) has
+  where
+    by : (b : Bool) → (Has (unnamed ys base) x → Has ys x) → Has (cond b (y ∷ unnamed ys base) (unnamed ys base)) x
+        → Has (y ∷ ys) x
+    by true still has = elim (or_cases (same_range x y) (list_any (same_range x) (unnamed ys base)) has) [
+      | inl here ↦ or_left (same_range x y) (list_any (same_range x) ys) here
+      | inr there ↦ or_right (same_range x y) (list_any (same_range x) ys) (still there)
+    ]
+    by false still has = or_right (same_range x y) (list_any (same_range x) ys) (still has)
 
 -- what stands at a place
 pub Has-at : (xs : List Range) (k : ℕ) (x : Range) → slice_get xs k ≡ Some x → Has xs x

@@ -15,7 +15,7 @@ use Rattle.tss_model.specs.Memory.{MemoryRange, Memory, range_of, bytes_of, cove
 use Rattle.tss_model.specs.Registers.{trap_of}
 use Rattle.tss_model.specs.Access.{Loads, touches}
 use Rattle.tss_model.specs.Spawn.{SpawnCall, name_objects, objects_of, entries_at, entries_checked, task_of, merged_operands, task_checked, is_misplaced, list_range, spawn_of}
-use Rattle.tss_model.specs.MainStep.{MainState, Call, ExitCall, Spawn, Barrier, Print, Unknown, main_trapped, main_refused, call_done, spawn_call, spawn_done, spawn_on, print_range, print_some, print_call, print_done, output_of, main_call}
+use Rattle.tss_model.specs.MainStep.{MainState, Call, ExitCall, Spawn, Barrier, Print, Await, Unknown, main_trapped, main_refused, call_done, spawn_call, spawn_done, spawn_on, print_range, print_some, print_call, print_done, output_of, main_call, await_done, await_on, awaited_object}
 use Rattle.tss_program_order.specs.MainInOrder.{MayLoad, steps_taken}
 use Rattle.tss_program_order.proofs.FlatLoads.{byte_range, main_granted}
 use Rattle.tss_program_order.proofs.FlatNames.{any_has, any_object, name_objects-names, covers-touch}
@@ -53,12 +53,17 @@ module _ (limits : Limits) (m : Memory) (s : MainState) (on : is_some s.ending �
   spawn_on-step (Ok t) = done_step (spawn_done s t) refl refl
   spawn_on-step (Err n) = refl
 
+  await_on-step : (x : Option Range) → steps_taken (await_on s x) ≡ suc s.registers.done
+  await_on-step None = refl
+  await_on-step (Some object) = done_step (await_done s object) refl refl
+
   -- a call is one step
   pub main_call-step : (c : Call) → steps_taken (main_call limits m s c).0 ≡ suc s.registers.done
   main_call-step ExitCall = add-one s.registers.done
   main_call-step Spawn = spawn_on-step (spawn_of (spawn_call s.registers) m s.epoch limits s.spawned)
   main_call-step Barrier = done_step (record (call_done s) { epoch = [] }) refl refl
   main_call-step Print = print_call-step (print_range s.registers)
+  main_call-step Await = await_on-step (awaited_object s)
   main_call-step (Unknown n) = refl
 
 -- ---- what it counts and prints
@@ -104,12 +109,17 @@ module _ (limits : Limits) (m : Memory) (s : MainState) where
   spawn_on-rises (Ok t) = record { done = omega arith; spawned = omega arith; pieces = inl refl }
   spawn_on-rises (Err n) = rises_still _ refl refl refl
 
+  await_on-rises : (x : Option Range) → Rises s (await_on s x)
+  await_on-rises None = rises_still _ refl refl refl
+  await_on-rises (Some object) = rises_done _ refl refl (inl refl)
+
   -- a call does so
   pub main_call-rises : (c : Call) → Rises s (main_call limits m s c).0
   main_call-rises ExitCall = rises_done _ refl refl (inl refl)
   main_call-rises Spawn = spawn_on-rises (spawn_of (spawn_call s.registers) m s.epoch limits s.spawned)
   main_call-rises Barrier = rises_done _ refl refl (inl refl)
   main_call-rises Print = print_call-rises (print_range s.registers)
+  main_call-rises Await = await_on-rises (awaited_object s)
   main_call-rises (Unknown n) = rises_still _ refl refl refl
 
 -- ---- the task of a spawn
@@ -178,6 +188,7 @@ main_call-spawn limits m s Spawn main t e =
         }
 main_call-spawn limits m s Barrier main t e = absurd (none-some t (ap (λ (p : MainState × Option Task). p.1) e))
 main_call-spawn limits m s Print main t e = absurd (none-some t (ap (λ (p : MainState × Option Task). p.1) e))
+main_call-spawn limits m s Await main t e = absurd (none-some t (ap (λ (p : MainState × Option Task). p.1) e))
 main_call-spawn limits m s (Unknown n) main t e = absurd (none-some t (ap (λ (p : MainState × Option Task). p.1) e))
 
 print_call-spawned : (limits : Limits) (m : Memory) (s : MainState) (r : Range)
@@ -195,6 +206,10 @@ print_call-spawned limits m s r =
     by false false false true = refl
     by false false false false = refl
 
+await_on-spawned : (s : MainState) (x : Option Range) → (await_on s x).spawned ≡ s.spawned
+await_on-spawned s None = refl
+await_on-spawned s (Some object) = refl
+
 -- a call that spawns none leaves the number of tasks
 pub main_call-unspawned : (limits : Limits) (m : Memory) (s : MainState) (c : Call) (main : MainState)
     → main_call limits m s c ≡ (main, None) → main.spawned ≡ s.spawned
@@ -211,6 +226,7 @@ main_call-unspawned limits m s c main e =
     by Spawn e = refused (spawn_of (spawn_call s.registers) m s.epoch limits s.spawned) e
     by Barrier e = refl
     by Print e = print_call-spawned limits m s (print_range s.registers)
+    by Await e = await_on-spawned s (awaited_object s)
     by (Unknown n) e = refl
 
 -- whose checks have passed
@@ -227,6 +243,7 @@ main_call-accepted limits m s Spawn main t e =
     by (Ok u) d e = d ∙ ap Ok (same_Some u t (ap (λ (p : MainState × Option Task). p.1) e))
 main_call-accepted limits m s Barrier main t e = absurd (none-some t (ap (λ (p : MainState × Option Task). p.1) e))
 main_call-accepted limits m s Print main t e = absurd (none-some t (ap (λ (p : MainState × Option Task). p.1) e))
+main_call-accepted limits m s Await main t e = absurd (none-some t (ap (λ (p : MainState × Option Task). p.1) e))
 main_call-accepted limits m s (Unknown n) main t e =
     absurd (none-some t (ap (λ (p : MainState × Option Task). p.1) e))
 

@@ -14,7 +14,7 @@ use Rattle.tss_model.specs.Access.{MainActor, touches}
 use Rattle.tss_model.specs.Core.{Stepped, Executed, Called, Ended, Trapped, Touched}
 use Rattle.tss_model.specs.Spawn.{spawn_of}
 use Rattle.tss_model.specs.TaskRun.{task_end}
-use Rattle.tss_model.specs.MainStep.{MainState, Flat, Call, ExitCall, Spawn, Barrier, Print, Unknown, main_on, main_core, main_step, main_call, next_call, has_spent, output_of, spawn_on, spawn_call, spawn_done, call_done, main_trapped, main_refused, print_done, print_call, print_range}
+use Rattle.tss_model.specs.MainStep.{MainState, Flat, Call, ExitCall, Spawn, Barrier, Print, Await, Unknown, main_on, main_core, main_step, main_call, next_call, has_spent, output_of, spawn_on, spawn_call, spawn_done, call_done, main_trapped, main_refused, print_done, print_call, print_range, await_on, awaited_object}
 use Rattle.tss_model.specs.InOrder.{flat_step, call_ran, main_after_task}
 use Rattle.tss_program_order.proofs.FlatCore.{IsStep}
 use Rattle.tss_program_order.proofs.FlatMain.{main_core-step}
@@ -75,12 +75,18 @@ module _ (code : List SegmentState) (limits : Limits) where
       by None e = one_more x.registers.done e
       by (Some trap) e = one_more x.registers.done e
 
+  await_still : (m : Memory) (x : MainState) (object : Option Range) → HasSameCount x (await_on x object)
+      → IsStill (record { main = x; memory = m }) (record { main = await_on x object; memory = m })
+  await_still m x None e = (record { registers = refl; spawned = refl; epoch = refl; pieces = refl }, refl)
+  await_still m x (Some object) e = absurd (one_more x.registers.done e)
+
   call_still : (m : Memory) (x : MainState) (c : Call) → HasSameCount x (Ran m (main_call limits m x c)).main
       → IsStill (record { main = x; memory = m }) (Ran m (main_call limits m x c))
   call_still m x ExitCall e = absurd (one_more x.registers.done e)
   call_still m x Spawn e = spawn_still m x (spawn_of (spawn_call x.registers) m x.epoch limits x.spawned) e
   call_still m x Barrier e = absurd (one_more x.registers.done e)
   call_still m x Print e = (print_still limits m x (print_range x.registers) e, refl)
+  call_still m x Await e = await_still m x (awaited_object x) e
   call_still m x (Unknown n) e = (record { registers = refl; spawned = refl; epoch = refl; pieces = refl }, refl)
 
   -- ---- a step

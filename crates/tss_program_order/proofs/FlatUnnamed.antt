@@ -7,11 +7,11 @@ use Rattle.tss_base.specs.declared.machine.Limits.{Limits}
 use Rattle.tss_base.specs.Image.{SegmentState, ImageState}
 use Rattle.tss_model.specs.Memory.{Memory, frozen}
 use Rattle.tss_model.specs.Spawn.{spawn_of}
-use Rattle.tss_model.specs.MainStep.{MainState, Flat, Call, ExitCall, Spawn, Barrier, Print, Unknown, next_call, spawn_call, spawn_on, print_range, main_call}
+use Rattle.tss_model.specs.MainStep.{MainState, Flat, Call, ExitCall, Spawn, Barrier, Print, Await, Unknown, next_call, spawn_call, spawn_on, print_range, main_call, await_on, awaited_object}
 use Rattle.tss_model.specs.InOrder.{flat_step, flat_stepped, task_called}
 use Rattle.tss_program_order.proofs.FlatSteps.{flat_step-main, flat_step-call}
 use Rattle.tss_program_order.proofs.FlatMain.{main_step-leaves}
-use Rattle.tss_program_order.proofs.FlatNames.{Has}
+use Rattle.tss_program_order.proofs.FlatNames.{Has, unnamed-has}
 use Rattle.tss_program_order.proofs.FlatEpoch.{print_call-epoch, call_ran-epoch}
 use Rattle.tss_program_order.proofs.FlatOrder.{flat_stepped-next}
 use Rattle.tss_program_order.proofs.FlatStarts.{task_started}
@@ -24,6 +24,10 @@ module _ (limits : Limits) (m : Memory) (s : MainState) (x : Range) where
   refused_unnamed (Ok t) none has = absurd (none-some t (sym none))
   refused_unnamed (Err n) none has = has
 
+  await_unnamed : (o : Option Range) → Has (await_on s o).epoch x → Has s.epoch x
+  await_unnamed None has = has
+  await_unnamed (Some object) has = unnamed-has s.epoch object.base x has
+
   call_unnamed : (c : Call) → (main_call limits m s c).1 ≡ None → Has (main_call limits m s c).0.epoch x
       → Has s.epoch x
   call_unnamed ExitCall none has = has
@@ -32,6 +36,7 @@ module _ (limits : Limits) (m : Memory) (s : MainState) (x : Range) where
   call_unnamed Barrier none has = absurd (cc)
   call_unnamed Print none has =
       subst (λ named. Has named x) (print_call-epoch limits m s (print_range s.registers)) has
+  call_unnamed Await none has = await_unnamed (awaited_object s) has
   call_unnamed (Unknown n) none has = has
 
 -- it names nothing

@@ -1,11 +1,18 @@
 -- The event of main: one call alone, or a stretch of steps up to the next call.
-use Rattle.std.specs.Prelude.{◌==◌, Bool, true, ◌&&◌, length, Option, Some, None, is_none}
-use Rattle.std.specs.FinMap.{len}
+use Rattle.std.specs.Prelude.{◌==◌, Bool, true, false, ◌&&◌, not, length, Option, Some, None, is_none}
+use Rattle.std.specs.List.{list_any}
+use Rattle.std.specs.FinMap.{get, len}
+use Rattle.tss_base.specs.declared.range.Range.{Range}
+use Rattle.tss_base.specs.declared.operand.Operand.{Operand}
 use Rattle.tss_base.specs.declared.operand.Task.{Task}
 use Rattle.tss_base.specs.declared.machine.Machine.{Machine}
-use Rattle.tss_model.specs.MainStep.{MainState, Flat, Call, ExitCall, Spawn, Barrier, Print, Unknown, next_call, main_call, main_stretch}
+use Rattle.tss_base.specs.Names.{Named}
+use Rattle.tss_maps.specs.Sums.{count_of}
+use Rattle.tss_model.specs.Access.{operands_of}
+use Rattle.tss_model.specs.Spawn.{same_range}
+use Rattle.tss_model.specs.MainStep.{MainState, Flat, Call, ExitCall, Spawn, Barrier, Print, Await, Unknown, next_call, main_call, main_stretch, awaited_object}
 use Rattle.tss_protocol.specs.Mail.{is_silent}
-use Rattle.tss_protocol.specs.State.{State}
+use Rattle.tss_protocol.specs.State.{Entry, State}
 use Rattle.tss_protocol.specs.Gateway.{is_idle}
 
 -- no task is anywhere in the machine
@@ -22,6 +29,41 @@ has_no_object S =
 abbrev pub is_drained : State → Bool
 is_drained S = has_no_task S && has_no_object S && is_silent S.mail
 
+-- ---- main waits for an object to be at home
+
+-- an entry of this very object
+abbrev pub is_entry_of : Range → Option Entry → Bool
+is_entry_of object None = false
+is_entry_of object (Some e) = same_range e.object object
+
+-- an operand with it
+abbrev pub is_operand_on : Range → Operand → Bool
+is_operand_on object operand = same_range operand.object object
+
+-- the inbox's task has one
+abbrev pub is_arriving : Range → Option Task → Bool
+is_arriving object None = false
+is_arriving object (Some t) = list_any (is_operand_on object) (operands_of t)
+
+-- none is to be decoded
+abbrev pub has_no_decode : Range → Named Operand → Bool
+has_no_decode object decodes = count_of (λ o p. is_operand_on object p) decodes == 0
+
+-- the object is at home: it has no entry, no operand of the inbox's task is on it, and none that is to be decoded. Then
+-- each task that was spawned with it has finished, and its bytes have come home
+abbrev pub is_at_home : State → Range → Bool
+is_at_home S object =
+    not (is_entry_of object (get S.entries object.base))
+    && not (is_arriving object S.inbox)
+    && has_no_decode object S.mail.decodes
+
+-- an await of no named object is refused at once
+abbrev pub may_await : State → Option Range → Bool
+may_await S None = true
+may_await S (Some object) = is_at_home S object
+
+-- ---- the event
+
 -- main with home as its memory
 abbrev pub flat_of : State → Flat
 flat_of S = record { main = S.main; memory = S.home }
@@ -34,13 +76,15 @@ with_flat S f = record S { main = f.main; home = f.memory }
 abbrev pub call_next : Machine → State → Option Call
 call_next m S = next_call S.code m.limits (flat_of S)
 
--- a spawn waits for an empty inbox, also where it will be refused, and a barrier for a drained state
+-- a spawn waits for an empty inbox, also where it will be refused, a barrier for a drained state, and an await for its
+-- object
 abbrev pub may_call : State → Option Call → Bool
 may_call S None = true
 may_call S (Some ExitCall) = true
 may_call S (Some Spawn) = is_none S.inbox
 may_call S (Some Barrier) = is_drained S
 may_call S (Some Print) = true
+may_call S (Some Await) = may_await S (awaited_object S.main)
 may_call S (Some (Unknown n)) = true
 
 -- main's event may happen

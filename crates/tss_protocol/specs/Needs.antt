@@ -13,7 +13,7 @@ use Rattle.tss_base.specs.declared.marks.Stage.{Stage}
 use Rattle.tss_base.specs.declared.marks.Stage.TheVariants as stage
 use Rattle.tss_model.specs.Access.{operands_of, writes}
 use Rattle.tss_model.specs.Spawn.{same_range}
-use Rattle.tss_model.specs.MainStep.{MainState, Call, ExitCall, Spawn, Barrier, Print, Unknown, main_call}
+use Rattle.tss_model.specs.MainStep.{MainState, Call, ExitCall, Spawn, Barrier, Print, Await, Unknown, main_call}
 use Rattle.tss_protocol.specs.Mail.{is_silent}
 use Rattle.tss_protocol.specs.State.{State, Flying}
 use Rattle.tss_protocol.specs.Stations.{has_finished}
@@ -28,6 +28,7 @@ round_after_call round Barrier d = []
 round_after_call round Spawn d = round ++ option_to_list d.1
 round_after_call round ExitCall d = round
 round_after_call round Print d = round
+round_after_call round Await d = round
 round_after_call round (Unknown n) d = round
 
 -- the tasks after main's event, by its call

@@ -1,5 +1,6 @@
 pub mod StepLemmas
 pub mod ByteLemmas
+pub mod ZeroLemmas
 pub mod PlaceLemmas
 pub mod GrantLemmas
 pub mod ViewLemmas
@@ -9,3 +10,4 @@ pub mod StretchLemmas
 pub mod PrintedLemmas
 pub mod SpawnPlaces
 pub mod CallLemmas
+pub mod AwaitLemmas

@@ -1,4 +1,5 @@
 pub mod Placing
+pub mod Scratches
 pub mod Seen
 pub mod Tasks
 pub mod Mains

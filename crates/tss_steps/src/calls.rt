@@ -1,15 +1,15 @@
 // Main's calls.
 ghost use Rattle.std.specs.Prelude.{◌≡◌, ◌-◌, ◌^◌, ◌<◌, IfSome, None, Some};
 ghost use Rattle.tss_model.specs.Registers.{register_at};
-ghost use Rattle.tss_model.specs.MainStep.{call_of, main_call, ExitCall, Spawn, Barrier, Print, Unknown};
+ghost use Rattle.tss_model.specs.MainStep.{call_of, main_call, ExitCall, Spawn, Barrier, Print, Await, Unknown};
 ghost use Rattle.tss_steps.specs.Placing.{CanRun};
 ghost use Rattle.tss_steps.specs.Limited.{Calls};
 
 use crate::main_state::Main;
 use crate::tasks::trap_of;
-use tss_base::calls::{BARRIER, EXIT, PRINT, SPAWN};
+use tss_base::calls::{AWAIT, BARRIER, EXIT, PRINT, SPAWN};
 use tss_base::causes::{LOAD_DENIED, UNKNOWN_CALL};
-use tss_base::refusals::{MAIN_TOUCH, OUTPUT_FULL};
+use tss_base::refusals::{MAIN_TOUCH, NOT_NAMED, OUTPUT_FULL};
 use tss_base::{Ending, Range, Task};
 use tss_memory::Space;
 use tss_operands::{SpawnWords, read_spawn};
@@ -29,6 +29,7 @@ impl Main {
             SPAWN => return self.spawn(space),
             BARRIER => self.barrier(space),
             PRINT => self.print(space),
+            AWAIT => self.unname(space),
             number => self.unknown(space, number),
         }
         None
@@ -51,6 +52,18 @@ impl Main {
     {
         self.epoch.clear();
         self.regs.called();
+    }
+
+    /// An await of the named object with the base in x10: it is main's own again.
+    fn unname(&mut self, space: &Space)
+        requires { self.old.main.registers.done < 2 ^ 64 - 1 }
+        ensures { Calls Await space.now self.old self.new None }
+    {
+        if self.epoch.unname(self.regs.get(10)) {
+            self.regs.called();
+        } else {
+            self.ending = Some(Ending::Refused(NOT_NAMED, self.regs.pc()));
+        }
     }
 
     /// A call of no number.

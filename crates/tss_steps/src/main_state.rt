@@ -3,7 +3,7 @@ ghost use Rattle.std.specs.Prelude.{◌≡◌, ◌-◌, ◌^◌, ◌<◌, ◌≤
 ghost use Rattle.tss_base.specs.declared.bounds.TheConstants.{MAX_OPERANDS};
 ghost use Rattle.tss_model.specs.Memory.{Memory};
 ghost use Rattle.tss_model.specs.Registers.{register_at};
-ghost use Rattle.tss_model.specs.MainStep.{call_of, main_ended, main_start, main_stretch, next_call, output_of};
+ghost use Rattle.tss_model.specs.MainStep.{awaited_object, call_of, main_ended, main_start, main_stretch, next_call, output_of};
 ghost use Rattle.tss_steps.specs.Limited.{flat_of};
 
 use crate::mains::{MainView, called_at, stretch_main};
@@ -91,6 +91,14 @@ impl Main {
         ensures { result ≡ slice_get self.now.main.epoch i }
     {
         self.epoch.at(i)
+    }
+
+    /// The named object with the base in x10, which an await takes out of what is named. None exactly where no named
+    /// object has that base.
+    pub fn awaited(&self) -> Option<Range>
+        ensures { result ≡ awaited_object self.now.main }
+    {
+        self.epoch.find(self.regs.get(10))
     }
 
     /// The ending, where main has ended.

@@ -4,27 +4,30 @@ ghost use Rattle.tss_base.specs.Range.{contains};
 ghost use Rattle.tss_model.specs.Memory.{number_at, list_put, scratch_range, zeros};
 ghost use Rattle.tss_model.specs.Core.{low_bytes};
 ghost use Rattle.tss_core.specs.Views.{is_width};
+ghost use Rattle.tss_steps.specs.Scratches.{AreZero};
 
 use std::alloc::{AllocError, Global};
 use std::marker::Model;
 use tss_base::addresses::SCRATCH;
 use tss_base::{NoMemory, Range};
 
-/// The bytes of the scratch of the task that runs. The next task finds zeros in it.
+/// The bytes of the scratch of the task that runs. The next task finds zeros in it. A stack grows downwards from its end,
+/// so what was written since it was cleared is kept as the part from `low` on, and that alone is cleared again.
 #[derive(Drop)]
 pub struct Scratch {
     bytes: Vec<u8>,
+    low: usize,
 }
 
 impl Model for Scratch {
-    ghost use Rattle.std.specs.Prelude.{◌≡◌, ℕ, List, vec_len};
-    ghost use Rattle.tss_model.specs.Memory.{scratch_range};
+    ghost use Rattle.std.specs.Prelude.{ℕ, List};
+    ghost use Rattle.tss_steps.specs.Scratches.{IsScratch};
 
     ghost Value = { List ℕ };
 
     ghost view = { λ s. s.bytes.items };
 
-    ghost invariant = { λ s. vec_len s.bytes ≡ scratch_range.len };
+    ghost invariant = { λ s. IsScratch s.bytes.items s.low };
 }
 
 impl Scratch {
@@ -34,6 +37,7 @@ impl Scratch {
     {
         Ok(Scratch {
             bytes: zero_bytes(alloc, SCRATCH.len as usize)?,
+            low: SCRATCH.len as usize,
         })
     }
 
@@ -41,7 +45,8 @@ impl Scratch {
     pub fn clear(&mut self)
         ensures { self.new ≡ zeros scratch_range.len }
     {
-        clear(self.bytes.as_mut_slice());
+        clear_from(self.bytes.as_mut_slice(), self.low);
+        self.low = SCRATCH.len as usize;
     }
 
     /// The number in the bytes of an access, the lowest first.
@@ -67,12 +72,9 @@ impl Scratch {
         ensures exact { self.new ≡ list_put self.old (r.now.base - scratch_range.base) (low_bytes r.now.len value) }
         ensures len { length self.old ≡ scratch_range.len }
     {
-        put(
-            self.bytes.as_mut_slice(),
-            (r.base - SCRATCH.base) as usize,
-            r.len,
-            value,
-        );
+        let at = (r.base - SCRATCH.base) as usize;
+        put(self.bytes.as_mut_slice(), at, r.len, value);
+        self.low = self.low.min(at);
     }
 }
 
@@ -82,6 +84,15 @@ fn zero_bytes(alloc: Global, count: usize) -> Result<Vec<u8>, AllocError>
     ensures len { IfOk result (λ bytes. vec_len bytes ≡ count) }
 {
     vec![in alloc; 0; count]
+}
+
+/// Puts a zero in each place from one on, where zeros stand before it.
+fn clear_from(bytes: &mut [u8], low: usize)
+    requires within { low ≤ length bytes.old }
+    requires zeros { AreZero bytes.old low }
+    ensures { bytes.new ≡ zeros (length bytes.old) }
+{
+    clear(&mut bytes[low..]);
 }
 
 /// Puts a zero in each place.

@@ -18,7 +18,7 @@ use Rattle.tss_model.specs.Core.{Stepped, Executed, Called, Ended, Trapped, Touc
 use Rattle.tss_model.specs.TaskRun.{repeated}
 use Rattle.tss_base.specs.declared.causes.TheConstants.{LOAD_DENIED}
 use Rattle.tss_base.specs.declared.refusals.TheConstants.{MAIN_BUDGET_SPENT, MAIN_TOUCH, OUTPUT_FULL}
-use Rattle.tss_model.specs.MainStep.{MainState, Flat, Call, ExitCall, Spawn, Barrier, Print, Unknown, main_refused, main_trapped, call_done, output_of, print_done, print_some, has_spent, main_on, main_core, main_step, main_stretch, spawn_call, spawn_on, print_call, print_range}
+use Rattle.tss_model.specs.MainStep.{MainState, Flat, Call, ExitCall, Spawn, Barrier, Print, Await, Unknown, main_refused, main_trapped, call_done, output_of, print_done, print_some, has_spent, main_on, main_core, main_step, main_stretch, spawn_call, spawn_on, print_call, print_range, awaited_object, await_on}
 use Rattle.tss_model.specs.Spawn.{spawn_of}
 use Rattle.tss_protocol.specs.State.{State, initial_state}
 use Rattle.tss_protocol.specs.MainEvent.{flat_of, call_next, after_call, main_by}
@@ -87,6 +87,10 @@ module _ (m : Machine) (S : State) (h : EndsItself S.main) where
   own_spawn (Err n) = refl
   own_spawn (Ok t) = h
 
+  own_await : (x : Option Range) → EndsItself (await_on S.main x)
+  own_await None = refl
+  own_await (Some object) = h
+
   own_call : (c : Option Call) → EndsItself (main_by m S c).main
   own_call None = own_stretch S.code m.limits m.sizes.quantum (flat_of S) h
   own_call (Some ExitCall) = refl
@@ -94,6 +98,7 @@ module _ (m : Machine) (S : State) (h : EndsItself S.main) where
       own_spawn (spawn_of (spawn_call S.main.registers) S.home S.main.epoch m.limits S.main.spawned)
   own_call (Some Barrier) = h
   own_call (Some Print) = own_print m.limits S.home S.main (print_range S.main.registers) h
+  own_call (Some Await) = own_await (awaited_object S.main)
   own_call (Some (Unknown n)) = refl
 
   -- main's event keeps it so

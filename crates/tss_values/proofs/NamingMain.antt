@@ -13,7 +13,7 @@ use Rattle.tss_base.specs.declared.event.Event.TheVariants as event
 use Rattle.tss_base.specs.Image.{ImageState}
 use Rattle.tss_model.specs.Memory.{frozen}
 use Rattle.tss_model.specs.Spawn.{spawn_of}
-use Rattle.tss_model.specs.MainStep.{MainState, Flat, Call, ExitCall, Spawn, Barrier, Print, Unknown, spawn_call, spawn_on}
+use Rattle.tss_model.specs.MainStep.{MainState, Flat, Call, ExitCall, Spawn, Barrier, Print, Await, Unknown, spawn_call, spawn_on}
 use Rattle.tss_model.specs.InOrder.{Started, flat_stepped, started_at, started_in, end_of_started}
 use Rattle.tss_protocol.specs.State.{State}
 use Rattle.tss_protocol.specs.MainEvent.{call_next}
@@ -116,6 +116,7 @@ module _ (m : Machine) (i : ImageState) (S : State) (basis : Basis m S)
   round_by_call (Some Barrier) =
       (λ n t o p at among. absurd (none-some p among), λ o p among. absurd (none-some p among))
   round_by_call (Some Print) = still
+  round_by_call (Some Await) = still
   round_by_call (Some (Unknown n)) = still
 
   -- ---- where program order is cut off

@@ -12,7 +12,7 @@ use Rattle.tss_base.specs.Range.{end_of}
 use Rattle.tss_base.specs.Image.{ImageState}
 use Rattle.tss_model.specs.Memory.{covers}
 use Rattle.tss_model.specs.Spawn.{spawn_of}
-use Rattle.tss_model.specs.MainStep.{MainState, Flat, Call, ExitCall, Spawn, Barrier, Print, Unknown, spawn_call, spawn_on}
+use Rattle.tss_model.specs.MainStep.{MainState, Flat, Call, ExitCall, Spawn, Barrier, Print, Await, Unknown, spawn_call, spawn_on}
 use Rattle.tss_model.specs.InOrder.{flat_stepped}
 use Rattle.tss_protocol.specs.Mail.{is_silent}
 use Rattle.tss_protocol.specs.State.{State}
@@ -98,6 +98,7 @@ module _ (m : Machine) (ts : List Task) (S : State) where
       (no_inbox S.inbox may)
   goes_on_call (Some Barrier) may = inr (inr (record { list = refl; drained = may; inbox = refl }))
   goes_on_call (Some Print) may = inl (record { list = refl; inbox = refl })
+  goes_on_call (Some Await) may = inl (record { list = refl; inbox = refl })
   goes_on_call (Some (Unknown n)) may = inl (record { list = refl; inbox = refl })
 
   -- after main's event

@@ -10,7 +10,7 @@ use Rattle.tss_base.specs.declared.event.Event.{Event}
 use Rattle.tss_base.specs.declared.event.Event.TheVariants as event
 use Rattle.tss_model.specs.Access.{operands_of}
 use Rattle.tss_model.specs.Spawn.{spawn_of}
-use Rattle.tss_model.specs.MainStep.{Call, ExitCall, Spawn, Barrier, Print, Unknown, spawn_call, spawn_on}
+use Rattle.tss_model.specs.MainStep.{Call, ExitCall, Spawn, Barrier, Print, Await, Unknown, spawn_call, spawn_on}
 use Rattle.tss_protocol.specs.State.{State}
 use Rattle.tss_protocol.specs.MainEvent.{call_next}
 use Rattle.tss_names.specs.Tasks.{task_at, with_spawned, spawned_by_main, spawned_after_event}
@@ -58,6 +58,7 @@ module _ (m : Machine) (all : List Task) (S : State) (fit : HaveFitObjects m.lim
       fit_by_spawn (spawn_of (spawn_call S.main.registers) S.home S.main.epoch m.limits S.main.spawned) refl
   fit_by_call (Some Barrier) = fit
   fit_by_call (Some Print) = fit
+  fit_by_call (Some Await) = fit
   fit_by_call (Some (Unknown n)) = fit
 
   -- after every event they are

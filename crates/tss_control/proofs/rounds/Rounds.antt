@@ -10,7 +10,7 @@ use Rattle.tss_base.specs.declared.event.Event.{Event}
 use Rattle.tss_base.specs.declared.event.Event.TheVariants as event
 use Rattle.tss_model.specs.Access.{operands_of}
 use Rattle.tss_model.specs.Spawn.{spawn_of}
-use Rattle.tss_model.specs.MainStep.{Call, ExitCall, Spawn, Barrier, Print, Unknown, spawn_call, spawn_on}
+use Rattle.tss_model.specs.MainStep.{Call, ExitCall, Spawn, Barrier, Print, Await, Unknown, spawn_call, spawn_on}
 use Rattle.tss_protocol.specs.State.{State}
 use Rattle.tss_protocol.specs.MainEvent.{call_next}
 use Rattle.tss_protocol.specs.Needs.{round_after_main, round_after_event}
@@ -132,6 +132,7 @@ module _ (m : Machine) (all ts : List Task) (S : State) (h : HasTaskNumbers m al
       round_by_spawn (spawn_of (spawn_call S.main.registers) S.home S.main.epoch m.limits S.main.spawned) refl
   round_by_call (Some Barrier) = no_round all
   round_by_call (Some Print) = r
+  round_by_call (Some Await) = r
   round_by_call (Some (Unknown n)) = r
 
   -- after every event they are

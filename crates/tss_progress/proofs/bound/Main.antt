@@ -21,7 +21,7 @@ use Rattle.tss_model.specs.Access.{MainActor, touches}
 use Rattle.tss_model.specs.Core.{Stepped, Executed, Called, Ended, Trapped, Touched}
 use Rattle.tss_model.specs.Spawn.{spawn_of}
 use Rattle.tss_model.specs.TaskRun.{repeated}
-use Rattle.tss_model.specs.MainStep.{MainState, Flat, Call, ExitCall, Spawn, Barrier, Print, Unknown, has_spent, called_by, main_core, main_on, main_refused, main_step, main_stretch, main_trapped, next_call, output_of, print_done, print_range, print_some, print_call, call_done, spawn_call, spawn_on}
+use Rattle.tss_model.specs.MainStep.{MainState, Flat, Call, ExitCall, Spawn, Barrier, Print, Await, Unknown, has_spent, called_by, main_core, main_on, main_refused, main_step, main_stretch, main_trapped, next_call, output_of, print_done, print_range, print_some, print_call, call_done, spawn_call, spawn_on, awaited_object, await_on}
 use Rattle.tss_protocol.specs.State.{State}
 use Rattle.tss_protocol.specs.Counts.{task_events}
 use Rattle.tss_protocol.specs.MainEvent.{flat_of, call_next, may_call, main_by, after_call}
@@ -162,6 +162,10 @@ module _ (m : Machine) (S : State) (on : is_some S.main.ending ≡ false)
       by true = omega (arith, left)
       by false = print_some_less r
 
+  await_less : (x : Option Range) → Leaves (await_on S.main x) S.inbox
+  await_less None = omega (arith, one)
+  await_less (Some object) = omega (arith, left)
+
   call_less : (c : Call) → may_call S (Some c) ≡ true → IsLowered m S (main_by m S (Some c))
   call_less ExitCall may = omega (arith, one, left)
   call_less Spawn may =
@@ -169,6 +173,7 @@ module _ (m : Machine) (S : State) (on : is_some S.main.ending ≡ false)
       (none_from_test S.inbox may)
   call_less Barrier may = omega (arith, left)
   call_less Print may = let p = print_less (print_range S.main.registers) in omega (arith, p)
+  call_less Await may = let p = await_less (awaited_object S.main) in omega (arith, p)
   call_less (Unknown n) may = omega (arith, one)
 
 -- ---- the event

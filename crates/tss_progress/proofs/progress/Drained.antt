@@ -18,14 +18,14 @@ use Rattle.tss_base.specs.Machine.{IsAdmissible}
 use Rattle.tss_maps.proofs.Keys.{IsKeyOrder, nat_order, name_order}
 use Rattle.tss_maps.proofs.Entries.{some_entry}
 use Rattle.tss_maps.proofs.Sums.{count_none}
-use Rattle.tss_model.specs.MainStep.{Call, ExitCall, Spawn, Barrier, Print, Unknown}
+use Rattle.tss_model.specs.MainStep.{Call, ExitCall, Spawn, Barrier, Print, Await, Unknown, awaited_object}
 use Rattle.tss_protocol.specs.Names.{station_of}
 use Rattle.tss_protocol.specs.Mail.{Buffer, OpenContents, GoneContents, message_count}
 use Rattle.tss_protocol.specs.State.{State, Entry, Version, CopyState}
 use Rattle.tss_protocol.specs.Stations.{operand_at, tasks_in, has_slot}
 use Rattle.tss_protocol.specs.Gateway.{has_window, is_idle}
 use Rattle.tss_protocol.proofs.WindowLemmas.{window_when_idle}
-use Rattle.tss_protocol.specs.MainEvent.{has_no_task, has_no_object, is_drained, call_next, may_call}
+use Rattle.tss_protocol.specs.MainEvent.{has_no_task, has_no_object, is_drained, call_next, may_call, is_entry_of, is_operand_on, is_arriving, has_no_decode, is_at_home, may_await}
 use Rattle.tss_protocol.specs.Result.{is_finished}
 use Rattle.tss_protocol.specs.UnitMachine.{is_enabled, can_take}
 use Rattle.tss_locality.proofs.Flights.{record_in}
@@ -239,12 +239,34 @@ module _ (m : Machine) (S : State) (facts : Facts m S) (quiet : IsQuiet S) where
 
     -- ---- main
 
+    no_entry_of : (object : Range) (e : Option Entry) → get S.entries object.base ≡ e
+        → not (is_entry_of object e) ≡ true
+    no_entry_of object None at = refl
+    no_entry_of object (Some e) at = absurd (no_entry object.base e at)
+
+    -- each object is at home
+    at_home : IsAdmissible m → IsStuck m S → (object : Range) → is_at_home S object ≡ true
+    at_home fit stuck object =
+        let a = not (is_entry_of object (get S.entries object.base)) in
+        let b = not (is_arriving object S.inbox) in
+        let decodes = count_none name_order (λ o p. is_operand_on object p) S.mail.decodes
+        (λ o p e. absurd (no_decode o p e)) in
+        and_from (a && b) (has_no_decode object S.mail.decodes)
+        (and_from a b (no_entry_of object (get S.entries object.base) refl)
+        (ap (λ i. not (is_arriving object i)) (no_inbox fit stuck)))
+        (ap (λ n. n == 0) decodes)
+
+    may_await_any : IsAdmissible m → IsStuck m S → (x : Option Range) → may_await S x ≡ true
+    may_await_any fit stuck None = refl
+    may_await_any fit stuck (Some object) = at_home fit stuck object
+
     call_may : IsAdmissible m → IsStuck m S → is_drained S ≡ true → (c : Option Call) → may_call S c ≡ true
     call_may fit stuck drained None = refl
     call_may fit stuck drained (Some ExitCall) = refl
     call_may fit stuck drained (Some Spawn) = ap is_none (no_inbox fit stuck)
     call_may fit stuck drained (Some Barrier) = drained
     call_may fit stuck drained (Some Print) = refl
+    call_may fit stuck drained (Some Await) = may_await_any fit stuck (awaited_object S.main)
     call_may fit stuck drained (Some (Unknown n)) = refl
 
     over_when_stuck : IsAdmissible m → IsStuck m S → is_drained S ≡ true

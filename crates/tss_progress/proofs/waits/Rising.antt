@@ -8,7 +8,7 @@ use Rattle.tss_base.specs.declared.event.Event.{Event}
 use Rattle.tss_base.specs.declared.event.Event.TheVariants as event
 use Rattle.tss_base.specs.Image.{ImageState}
 use Rattle.tss_model.specs.Spawn.{spawn_of}
-use Rattle.tss_model.specs.MainStep.{Call, ExitCall, Spawn, Barrier, Print, Unknown, spawn_call, spawn_on}
+use Rattle.tss_model.specs.MainStep.{Call, ExitCall, Spawn, Barrier, Print, Await, Unknown, spawn_call, spawn_on}
 use Rattle.tss_protocol.specs.State.{State, initial_state}
 use Rattle.tss_protocol.specs.MainEvent.{call_next}
 use Rattle.tss_protocol.specs.Needs.{round_after_main, round_after_event, round_of}
@@ -48,6 +48,7 @@ module _ (m : Machine) (ts : List Task) (S : State) (round : IsRounded S ts) (ri
       rising_by_spawn (spawn_of (spawn_call S.main.registers) S.home S.main.epoch m.limits S.main.spawned) refl
   rising_by_call (Some Barrier) = tt
   rising_by_call (Some Print) = rise
+  rising_by_call (Some Await) = rise
   rising_by_call (Some (Unknown n)) = rise
 
   -- every event keeps the order

@@ -13,7 +13,7 @@ use Rattle.tss_base.specs.declared.event.Event.TheVariants as event
 use Rattle.tss_base.specs.Names.{name_cmp}
 use Rattle.tss_base.specs.Image.{ImageState}
 use Rattle.tss_maps.proofs.Entries.{absent_empty}
-use Rattle.tss_model.specs.MainStep.{MainState, Call, ExitCall, Spawn, Barrier, Print, Unknown, main_call, spawn_call, spawn_on}
+use Rattle.tss_model.specs.MainStep.{MainState, Call, ExitCall, Spawn, Barrier, Print, Await, Unknown, main_call, spawn_call, spawn_on}
 use Rattle.tss_model.specs.Spawn.{spawn_of}
 use Rattle.tss_protocol.specs.State.{State, initial_state}
 use Rattle.tss_protocol.specs.MainEvent.{has_no_task, has_no_object, is_drained, call_next, may_call, main_by, after_call}
@@ -92,6 +92,7 @@ module _ (m : Machine) (ts : List Task) (S : State) (round : IsRounded S ts) (h 
       by_spawn (spawn_of (spawn_call S.main.registers) S.home S.main.epoch m.limits S.main.spawned) refl
   by_call (Some Barrier) may = buffers_empty ts [] S (no_buffers S may) h
   by_call (Some Print) may = h
+  by_call (Some Await) may = h
   by_call (Some (Unknown n)) may = h
 
   same_main : (us : List Task) (d : MainState × Option Task) → HasBuffers us S → HasBuffers us (after_call S d)

@@ -16,7 +16,7 @@ use Rattle.tss_model.specs.Access.{operands_of}
 use Rattle.tss_model.specs.Memory.{Memory, range_of, memory_ranges, loaded}
 use Rattle.tss_model.specs.Spawn.{spawn_of}
 use Rattle.tss_model.specs.InOrder.{flat_stepped}
-use Rattle.tss_model.specs.MainStep.{Call, ExitCall, Spawn, Barrier, Print, Unknown, spawn_call, spawn_on}
+use Rattle.tss_model.specs.MainStep.{Call, ExitCall, Spawn, Barrier, Print, Await, Unknown, spawn_call, spawn_on}
 use Rattle.tss_protocol.specs.State.{State, initial_state}
 use Rattle.tss_protocol.specs.MainEvent.{call_next}
 use Rattle.tss_protocol.specs.UnitMachine.{after_event}
@@ -92,6 +92,7 @@ module _ (m : Machine) (i : ImageState) (all : List Task) (S : State) (code : Ha
       placed_by_spawn (spawn_of (spawn_call S.main.registers) S.home S.main.epoch m.limits S.main.spawned) refl
   placed_by_call (Some Barrier) = placed
   placed_by_call (Some Print) = placed
+  placed_by_call (Some Await) = placed
   placed_by_call (Some (Unknown n)) = placed
 
   -- after every event they do

@@ -12,7 +12,7 @@ use Rattle.tss_base.specs.declared.machine.Machine.{Machine}
 use Rattle.tss_base.specs.declared.event.Event.TheVariants as event
 use Rattle.tss_base.specs.Image.{ImageState}
 use Rattle.tss_model.specs.InOrder.{Started}
-use Rattle.tss_model.specs.MainStep.{MainState, Call, ExitCall, Spawn, Barrier, Print, Unknown}
+use Rattle.tss_model.specs.MainStep.{MainState, Call, ExitCall, Spawn, Barrier, Print, Await, Unknown}
 use Rattle.tss_model.specs.Spawn.{same_range}
 use Rattle.tss_protocol.specs.State.{State}
 use Rattle.tss_protocol.specs.Buffers.{buffer_bytes}
@@ -71,6 +71,7 @@ known_by_call ts v p q before Spawn (main, Some t) e =
     before ∙ sym (operand_among-more ts t v q before) ∙ e
 known_by_call ts v p q before Barrier d e = absurd (none-some p e)
 known_by_call ts v p q before Print d e = e
+known_by_call ts v p q before Await d e = e
 known_by_call ts v p q before (Unknown n) d e = e
 
 module _ (m : Machine) (i : ImageState) (S : State) (facts : Facts m S) where

@@ -22,7 +22,7 @@ use Rattle.tss_base.specs.Image.{ImageState}
 use Rattle.tss_maps.proofs.Keys.{nat_order, decide_key}
 use Rattle.tss_maps.proofs.Changes.{from_inserted, from_removed, beside_inserted}
 use Rattle.tss_model.specs.Access.{operands_of, reads}
-use Rattle.tss_model.specs.MainStep.{Call, ExitCall, Spawn, Barrier, Print, Unknown, main_call}
+use Rattle.tss_model.specs.MainStep.{Call, ExitCall, Spawn, Barrier, Print, Await, Unknown, main_call}
 use Rattle.tss_protocol.specs.Mail.{StorageName, Home, Buffer, OpenContents, ReleaseContents, GoneContents}
 use Rattle.tss_protocol.specs.State.{State, Flying, Busy, Version, CopyState, initial_state}
 use Rattle.tss_protocol.specs.Stations.{storages_of}
@@ -128,6 +128,7 @@ module _ (m : Machine) (S : State) (facts : Facts m S) (room : HasRoom m facts.t
       by (Some t) new = old ∙ sym (operand_among-more ts t v p old) ∙ new
   main_operand (Some Barrier) v p q old new = absurd (none-some q new)
   main_operand (Some Print) v p q old new = new
+  main_operand (Some Await) v p q old new = new
   main_operand (Some (Unknown n)) v p q old new = new
 
   room-main : HasRoom m (round_after_event m S ts event.Main) (after_event m S event.Main)

@@ -15,7 +15,7 @@ use Rattle.tss_base.specs.Image.{ImageState, IsAccepted}
 use Rattle.tss_model.specs.Access.{operands_of, writes}
 use Rattle.tss_model.specs.Memory.{MemoryRange, Memory, covers, byte_at, memory_ranges, loaded}
 use Rattle.tss_model.specs.Spawn.{spawn_of}
-use Rattle.tss_model.specs.MainStep.{MainState, Call, ExitCall, Spawn, Barrier, Print, Unknown, main_call, spawn_call, spawn_on}
+use Rattle.tss_model.specs.MainStep.{MainState, Call, ExitCall, Spawn, Barrier, Print, Await, Unknown, main_call, spawn_call, spawn_on}
 use Rattle.tss_protocol.specs.Mail.{StorageName, Home, Buffer}
 use Rattle.tss_protocol.specs.State.{State, Flying, Busy, CopyState, initial_state}
 use Rattle.tss_protocol.specs.Stations.{storages_of}
@@ -84,6 +84,7 @@ module _ (m : Machine) (i : ImageState) (all : List Task) (S : State) (image : H
       fit_by_spawn (spawn_of (spawn_call S.main.registers) S.home S.main.epoch m.limits S.main.spawned) refl
   fit_by_call (Some Barrier) = fit
   fit_by_call (Some Print) = fit
+  fit_by_call (Some Await) = fit
   fit_by_call (Some (Unknown n)) = fit
 
   -- after every event they are

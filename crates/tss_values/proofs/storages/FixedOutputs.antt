@@ -17,7 +17,7 @@ use Rattle.tss_base.specs.Names.{Named, name_cmp}
 use Rattle.tss_maps.proofs.Keys.{name_order}
 use Rattle.tss_maps.proofs.Changes.{from_inserted, from_removed}
 use Rattle.tss_maps.proofs.Entries.{absent_empty}
-use Rattle.tss_model.specs.MainStep.{Call, ExitCall, Spawn, Barrier, Print, Unknown, main_call}
+use Rattle.tss_model.specs.MainStep.{Call, ExitCall, Spawn, Barrier, Print, Await, Unknown, main_call}
 use Rattle.tss_protocol.specs.Names.{bank_of}
 use Rattle.tss_protocol.specs.Mail.{GoneContents}
 use Rattle.tss_protocol.specs.State.{State, Entry, initial_state}
@@ -123,6 +123,7 @@ module _ (m : Machine) (S : State) (basis : Basis m S) (orderly : AreOrderly S)
   main_by_call (Some Spawn) may = spawned (main_call m.limits S.home S.main Spawn).1
   main_by_call (Some Barrier) may = λ b k at. absurd (none-some k (sym (no_buffer may b) ∙ at))
   main_by_call (Some Print) may = outputs
+  main_by_call (Some Await) may = outputs
   main_by_call (Some (Unknown n)) may = outputs
 
   outputs-main : IsEnabled m S event.Main

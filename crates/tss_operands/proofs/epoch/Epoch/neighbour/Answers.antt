@@ -10,7 +10,7 @@ pub returns : goal.returns
 returns c =
     let objects = c.self.inside.by_base.items in
     let named = c.self.inside.named.items in
-    let at = c.args.r.now.base in
+    let at = c.args.at in
     let place = c.ended_by-place.result in
     let read : option_copied c.get.result ≡ slice_get objects place =
     copied_at c.deref.result.now place c.get.result c.get.ensures.lookup
