@@ -75,6 +75,7 @@ did_by-spawned s m t c e = by c e
     by Spawn h = spawned (spawn_of (spawn_call s.main.registers) s.memory s.main.epoch s.limits s.main.spawned) h
     by Barrier h = absurd (none_task (task_is _ h))
     by Print h = absurd (none_task (task_is _ h))
+    by Await h = absurd (none_task (task_is _ h))
     by (Unknown n) h = absurd (none_task (task_is _ h))
 
 -- after its task main goes on, or has ended with the task's trap
