@@ -9,9 +9,9 @@ use tss_base::Key;
 use tss_isa::{Instr, StoreKind};
 use tss_outside::{HonestFiles, MemSink};
 use tss_programs::{
-    Source, description, exit_seven, full_tables, hi, idle_race, late_trap, main_touch,
-    main_touch_after_barrier, many_readers, merged_operands, no_instruction, no_operands,
-    output_alone, partial_overlap, renamed_output, spinning_reader,
+    Source, await_first, await_second, await_third, description, exit_seven, full_tables, hi,
+    idle_race, late_trap, main_touch, main_touch_after_barrier, many_readers, merged_operands,
+    no_instruction, no_operands, output_alone, partial_overlap, renamed_output, spinning_reader,
 };
 
 /// Checks the report of a program by its run in program order, on the small machine with some changes.
@@ -209,6 +209,43 @@ fn main_touches_what_it_named(rt: HostRuntime) -> Result<(), Fail> {
         &[],
         0,
         after,
+    )
+}
+
+#[test]
+fn main_awaits_an_object(rt: HostRuntime) -> Result<(), Fail> {
+    let alloc = rt.alloc();
+    let first = b"end exit 0\ntasks 1\noutput 0\n\nrow 00020000 61000000000000000000000000000000\n";
+    expect(
+        &rt,
+        alloc,
+        "its task's object",
+        await_first(alloc)?,
+        &[],
+        0,
+        first,
+    )?;
+    let second =
+        b"end refused 13 0001003c\ntasks 1\noutput 0\n\nrow 00020000 61000000000000000000000000000000\n";
+    expect(
+        &rt,
+        alloc,
+        "an object that isn't named",
+        await_second(alloc)?,
+        &[],
+        2,
+        second,
+    )?;
+    let third =
+        b"end exit 0\ntasks 2\noutput 0\n\nrow 00020000 61000000000000000000000000000000\nrow 00020040 62000000000000000000000000000000\n";
+    expect(
+        &rt,
+        alloc,
+        "the first of two objects",
+        await_third(alloc)?,
+        &[],
+        0,
+        third,
     )
 }
 
