@@ -3,10 +3,10 @@ use Rattle.std.proofs.Common.{◌≡◌, ℕ, Bool, false, Option, Some, None, a
 use Rattle.std.specs.Prelude.{◌==◌, if◌then◌else◌}
 use Rattle.tss_base.specs.declared.addresses.TheConstants.{END_PC}
 use Rattle.tss_isa.specs.declared.instr.Instr.{Instr}
-use Rattle.tss_isa.specs.InstrTable.{instr_of, instr_at}
+use Rattle.tss_isa.specs.InstrTable.{instr_at}
 use Rattle.tss_model.specs.Access.{Actor}
 use Rattle.tss_model.specs.Registers.{Registers}
-use Rattle.tss_model.specs.Core.{Stepped, Ended, execute, execute_word, execute_fetched, core_step}
+use Rattle.tss_model.specs.Core.{Ended, execute, execute_word, execute_fetched, core_step}
 
 module _ (actor : Actor) (byte : ℕ → ℕ) (word : ℕ → Option ℕ) (r : Registers) (i : Instr) where
   by_word : (o : Option ℕ) → instr_at o ≡ Some i → execute_fetched actor byte r o ≡ execute actor byte r i

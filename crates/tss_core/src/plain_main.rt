@@ -2,9 +2,10 @@
 ghost use Rattle.std.specs.Prelude.{◌^◌, ◌<◌, vec_len};
 
 use crate::access::{Deny, Purpose, main_access};
-use crate::blocks::{number, put, touches, within, word_at};
+use crate::blocks::{touches, within, word_at};
 use crate::view::View;
 use tss_base::Range;
+use tss_numbers::{number, put};
 
 /// What main sees of a small memory: its one range, the bytes from address 0 on, which can be written or not; the
 /// objects that it has named; and code, whose words stand from `text` on.

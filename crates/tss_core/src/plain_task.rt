@@ -8,10 +8,11 @@ ghost use Rattle.tss_core.specs.Views.{is_width, write_at};
 ghost use Rattle.tss_core.specs.Plain.{are_inside, lies_in, task_byte, task_bytes_after, scratch_after};
 
 use crate::access::{Deny, Purpose, task_access};
-use crate::blocks::{number, put, within, word_at};
+use crate::blocks::{within, word_at};
 use crate::view::View;
 use tss_base::addresses::SCRATCH;
 use tss_base::{Operand, Range};
+use tss_numbers::{number, put};
 
 /// What a task sees of a small memory: its one range, the bytes from address 0 on, which main can write or not; its
 /// scratch; its operands, whose objects lie in that range; and code, whose words stand from `text` on.

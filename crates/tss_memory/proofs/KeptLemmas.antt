@@ -1,5 +1,5 @@
 -- What is kept of the code's words, with one more.
-use Rattle.std.proofs.Common.{true, ℤ, Option, IfSome, ◌≡◌, ℕ, zero, suc, ◌+◌, ◌*◌, List, [], ◌∷◌, ◌++◌, length, Some, None, ap, sym, refl, subst, ◌∙◌, inl, inr, ◌⊎◌}
+use Rattle.std.proofs.Common.{true, Option, IfSome, ◌≡◌, ℕ, zero, suc, ◌+◌, ◌*◌, List, [], ◌∷◌, ◌++◌, length, Some, ap, sym, refl, subst, inl, inr, ◌⊎◌}
 use Rattle.std.specs.Prelude.{slice_get}
 use Rattle.tss_base.specs.Image.{SegmentState}
 use Rattle.tss_isa.specs.declared.instr.Instr.{Instr}

@@ -8,12 +8,12 @@ ghost use Rattle.tss_isa.specs.InstrTable.{fits, instr_at};
 ghost use Rattle.tss_model.specs.Memory.{code_word, frozen, segment_range, segment_word};
 ghost use Rattle.tss_memory.specs.Segments.{AreApart, AreKept, IsKept, segment_with, unless_break};
 
-use crate::numbers::number_of;
 use std::alloc::{AllocError, Global};
 use std::marker::Model;
 use tss_base::addresses::END_PC;
 use tss_base::{Image, Segment};
 use tss_isa::{Instr, decode};
+use tss_numbers::number;
 
 /// The most words that are kept decoded, those of a megabyte.
 const KEPT_WORDS: u32 = 0x4_0000;
@@ -195,7 +195,7 @@ fn word_in(segment: &Segment, at: u32) -> u32
     ensures { result ≡ segment_word at segment.now }
 {
     let first = (at - segment.base()) as usize;
-    number_of(&segment.bytes()[first..first + 4])
+    number(segment.bytes(), first, 4)
 }
 
 /// The address after a segment's last.

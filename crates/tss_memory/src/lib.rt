@@ -8,7 +8,6 @@ mod block;
 mod code;
 mod found;
 mod loading;
-mod numbers;
 mod placing;
 mod space;
 #[cfg(test)]

@@ -8,13 +8,13 @@ ghost use Rattle.tss_memory.specs.Ranges.{AreRanges, CanRead, CanWrite, IsFound,
 use crate::block::{Block, blocks_of};
 use crate::code::Code;
 use crate::found::Found;
-use crate::numbers::number_of;
 use crate::placing::{
     known_place, place_in, place_near, put_in, put_number_in, range_from, zero_in,
 };
 use std::alloc::Global;
 use std::marker::Model;
 use tss_base::{Image, NoMemory, Range};
+use tss_numbers::number;
 
 /// Main's memory: its ranges, and a byte at each of their addresses.
 #[derive(Drop, Debug)]
@@ -153,7 +153,7 @@ impl Space {
         ensures exact { result ≡ number_at (byte_at self.now) r.now.base r.now.len }
         ensures fits { result < 256 ^ r.now.len }
     {
-        number_of(self.blocks[found.index as usize].bytes(r))
+        number(self.blocks[found.index as usize].bytes(r), 0, r.len)
     }
 
     /// Writes the low bytes of a number, the lowest first, in a range of at most four bytes, where the range of memory
