@@ -5,3 +5,4 @@ pub mod Ran
 pub mod Flats
 pub mod Order
 pub mod Codes
+pub mod Restarts

@@ -1,5 +1,5 @@
 // The flat machine: main on one memory, where each spawned task runs at once.
-ghost use Rattle.std.specs.Prelude.{◌≡◌, ◌-◌, ◌^◌, ◌≤◌, ◌<◌, IfOk, IfSome, Some, option_map};
+ghost use Rattle.std.specs.Prelude.{◌≡◌, ◌-◌, ◌^◌, ◌≤◌, ◌<◌, IfOk, IfSome, Some, length, option_map};
 ghost use Rattle.tss_base.specs.declared.bounds.TheConstants.{MAX_OPERANDS};
 ghost use Rattle.tss_base.specs.Image.{ImageState};
 ghost use Rattle.tss_model.specs.Memory.{frozen};
@@ -10,7 +10,9 @@ ghost use Rattle.tss_model.specs.InOrder.{flat_start, task_ran};
 ghost use Rattle.tss_steps.specs.Placing.{CanRun};
 ghost use Rattle.tss_inorder.specs.Flats.{ByDid, GoesFurther, called, did_at, did_by, did_in, did_ran, done_by, flat_of, stretched, with_flat};
 ghost use Rattle.tss_inorder.specs.Order.{EndsInOrder, Follows, StandsInOrder};
+ghost use Rattle.tss_inorder.specs.Restarts.{IsAtBarrier, StandsAtBarrier, restarted};
 
+use crate::copying::copy_writable;
 use crate::running::run_task;
 use std::alloc::Global;
 use std::marker::Model;
@@ -91,6 +93,22 @@ impl Flat {
         self.event(quantum)
     }
 
+    /// Goes on where main of another machine stands at a barrier, with these registers, so many tasks spawned, this
+    /// output, and memory: the barrier call is done, and nothing is named. What can be written of memory has the bytes
+    /// of that machine's, and the other ranges keep their own, which no call changes. No memory of the process is taken.
+    pub fn restart(&mut self, regs: &Regs, spawned: u32, output: &[u8], space: &Space)
+        requires barrier { IsAtBarrier self.old.code self.old.limits regs.now space.now }
+        requires ranges { space.now.ranges ≡ self.old.memory.ranges }
+        requires room { length output.now ≤ self.old.limits.output_bytes }
+        ensures exact { self.new ≡ restarted self.old regs.now spawned output.now space.now }
+        // Where program order stands there too, it follows program order from there on.
+        ensures follows { (i : ImageState) → StandsAtBarrier i self.old regs.now spawned output.now space.now
+            → Follows i self.new }
+    {
+        self.main.restart(regs, spawned, output);
+        copy_writable(&mut self.space, space);
+    }
+
     /// Main's registers.
     pub fn main(&self) -> &Regs
         ensures { result.now ≡ self.now.main.registers }
@@ -124,7 +142,8 @@ impl Flat {
 
     /// What main has printed.
     pub fn output(&self) -> &[u8]
-        ensures { result.now ≡ output_of self.now.main.pieces }
+        ensures exact { result.now ≡ output_of self.now.main.pieces }
+        ensures few { length result.now ≤ self.now.limits.output_bytes }
     {
         self.main.output()
     }

@@ -5,6 +5,7 @@
 //! number of its tasks, its output and its memory.
 #![tactic(auto)]
 
+mod copying;
 mod flat;
 mod reference;
 mod running;

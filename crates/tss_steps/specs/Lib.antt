@@ -6,3 +6,4 @@ pub mod Mains
 pub mod Left
 pub mod Printing
 pub mod Limited
+pub mod Restarts

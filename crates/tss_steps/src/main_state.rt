@@ -1,10 +1,11 @@
 // Main: its state, and its stretches and calls.
-ghost use Rattle.std.specs.Prelude.{◌≡◌, ◌-◌, ◌^◌, ◌<◌, ◌≤◌, IfOk, IfSome, None, option_map, slice_get};
+ghost use Rattle.std.specs.Prelude.{◌≡◌, ◌-◌, ◌^◌, ◌<◌, ◌≤◌, IfOk, IfSome, None, length, option_map, slice_get};
 ghost use Rattle.tss_base.specs.declared.bounds.TheConstants.{MAX_OPERANDS};
 ghost use Rattle.tss_model.specs.Memory.{Memory};
 ghost use Rattle.tss_model.specs.Registers.{register_at};
 ghost use Rattle.tss_model.specs.MainStep.{awaited_object, call_of, main_ended, main_start, main_stretch, next_call, output_of};
 ghost use Rattle.tss_steps.specs.Limited.{flat_of};
+ghost use Rattle.tss_steps.specs.Restarts.{main_restarted};
 
 use crate::mains::{MainView, called_at, stretch_main};
 use crate::printed::Printed;
@@ -110,7 +111,8 @@ impl Main {
 
     /// All that main has printed.
     pub fn output(&self) -> &[u8]
-        ensures { result.now ≡ output_of self.now.main.pieces }
+        ensures exact { result.now ≡ output_of self.now.main.pieces }
+        ensures few { length result.now ≤ self.now.limits.output_bytes }
     {
         self.printed.bytes()
     }
@@ -145,6 +147,24 @@ impl Main {
         let ending = stretch_main(&mut self.regs, &mut view, &self.limits, most);
         self.near = view.near;
         self.ending = ending;
+    }
+
+    /// Main as it stands after a barrier at which it had these registers, so many tasks spawned, and this output. No
+    /// memory of the process is taken.
+    pub fn restart(&mut self, regs: &Regs, spawned: u32, output: &[u8])
+        requires left { regs.now.done < self.old.limits.main_budget }
+        requires room { length output.now ≤ self.old.limits.output_bytes }
+        ensures { self.new ≡ record self.old { main = main_restarted regs.now spawned output.now } }
+    {
+        self.regs = *regs;
+        self.regs.called();
+        self.spawned = spawned;
+        self.epoch.clear();
+        self.printed.clear();
+        if !output.is_empty() {
+            self.printed.push(spawned, output);
+        }
+        self.ending = None;
     }
 
     /// Main ends.

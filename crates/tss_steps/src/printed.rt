@@ -60,6 +60,14 @@ impl Printed {
         });
     }
 
+    /// Forgets all pieces.
+    pub fn clear(&mut self)
+        ensures { self.new ≡ record self.old { pieces = [] } }
+    {
+        self.bytes.clear();
+        self.marks.clear();
+    }
+
     /// All bytes.
     pub fn bytes(&self) -> &[u8]
         ensures bytes { result.now ≡ output_of self.now.pieces }

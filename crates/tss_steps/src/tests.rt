@@ -6,6 +6,7 @@ use std::process::Abort;
 use std::test::Fail;
 use tss_base::addresses::{SCRATCH, STACK_END};
 use tss_base::{Limits, Range};
+use tss_core::Regs;
 
 const LIMITS: Limits = Limits {
     main_budget: 1000,
@@ -26,6 +27,22 @@ fn main_before_its_first_instruction(rt: HostRuntime) -> Result<(), Fail> {
     assert_eq!(rt; main.spawned(), 0);
     assert_eq!(rt; main.epoch_at(0), None);
     assert_eq!(rt; main.ending(), None);
+    assert!(rt; main.output().is_empty());
+    Ok(())
+}
+
+/// Main goes on after a barrier with what it is told of before.
+#[test]
+fn main_is_restarted_after_a_barrier(rt: HostRuntime) -> Result<(), Fail> {
+    let mut main = Main::open(rt.alloc(), 0x10000, &LIMITS)?;
+    let regs = Regs::main(0x20000);
+    main.restart(&regs, 3, b"ab");
+    assert_eq!(rt; main.regs().pc(), 0x20004);
+    assert_eq!(rt; main.regs().done(), 1);
+    assert_eq!(rt; main.spawned(), 3);
+    assert_eq!(rt; main.output(), b"ab".as_slice());
+    main.restart(&regs, 0, b"");
+    assert_eq!(rt; main.spawned(), 0);
     assert!(rt; main.output().is_empty());
     Ok(())
 }
