@@ -1,1 +1,4 @@
 pub mod JoinedLemmas
+pub mod JoinedSums
+pub mod JoinedMapped
+pub mod CollectedLemmas
