@@ -6,7 +6,7 @@ use Rattle.std.specs.Ordering.{eq_by_cmp}
 use Rattle.std.specs.FinMap.{FinMap, empty, get, insert, remove, entries, get-entries, get-from_entries, get-empty}
 use Rattle.std.specs.FinMap.Entries.{find}
 use Rattle.std.proofs.lemmas.Option.{none-some, slice_get_within, get_or_from_slice_get}
-use Rattle.std.proofs.lemmas.List.{get_or-set_same, get_or-set_other, get_or_past, length-set}
+use Rattle.std.proofs.lemmas.List.{get_or-set_same, get_or-set_other, get_or_past, set-get_or}
 use Rattle.std.proofs.lemmas.Bool.{cases_lt}
 use Rattle.tss_maps.proofs.Keys.{IsKeyOrder, nat_order, decide_key}
 use Rattle.tss_maps.proofs.Changes.{decide_get, same_by_get, same_at_key, at_inserted, beside_inserted, at_removed, beside_removed, from_inserted, from_removed}
@@ -251,6 +251,27 @@ module _ {K X : Type 0} {R : K → K → Ordering} (order : IsKeyOrder R) where
         (λ q apart.
         beside_joined_set (remove (bank ms b) k) q (beside_removed order (bank ms b) k q apart)
         ∙ sym (beside_removed order (joined ms) k q apart))
+
+    -- a bank's map in its own place
+    pub joined_unchanged : joined (set ms b (bank ms b)) ≡ joined ms
+    joined_unchanged = ap joined (set-get_or ms b empty)
+
+    -- the list of banks is as it was
+    pub same_list : set ms b (bank ms b) ≡ ms
+    same_list = set-get_or ms b empty
+
+    -- what holds of each entry by its bank holds after a write of one bank, where it holds of the new map's
+    pub each_set : (Q : ℕ → K → X → Type 0) (n : FinMap R X)
+        → ((i : ℕ) (k : K) (x : X) → get (bank ms i) k ≡ Some x → Q i k x)
+        → ((k : K) (x : X) → get n k ≡ Some x → Q b k x)
+        → (i : ℕ) (k : K) (x : X) → get (bank (set ms b n) i) k ≡ Some x → Q i k x
+    each_set Q n before new i k x e = elim (decide_key nat_order i b) [
+      | inl is ↦
+          subst (λ i. Q i k x) (sym is)
+          (new k x
+          (ap (λ m. get m k) (sym (bank_set ms b n within)) ∙ ap (λ i. get (bank (set ms b n) i) k) (sym is) ∙ e))
+      | inr other ↦ before i k x (ap (λ m. get m k) (sym (bank_set_beside ms b n i other)) ∙ e)
+    ]
 
     module _ (apart : AreApart ms) where
       -- a change that agrees with the old map at each key of another bank is one of the joined map. Each key is in

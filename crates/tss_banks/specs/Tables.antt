@@ -5,7 +5,7 @@ use Rattle.tss_base.specs.declared.bounds.TheConstants.{BANK_BYTES}
 use Rattle.tss_base.specs.declared.machine.Sizes.{Sizes}
 use Rattle.tss_base.specs.Names.{Named, Numbered}
 use Rattle.tss_protocol.specs.Names.{bank_of}
-use Rattle.tss_protocol.specs.State.{Entry}
+use Rattle.tss_protocol.specs.State.{Entry, Outcome}
 use Rattle.tss_protocol.specs.Renaming.{Fill, Tables}
 use Rattle.tss_banks.specs.Joined.{bank, joined, AreApart, AreNumbered}
 
@@ -64,3 +64,17 @@ own_fill t b = record {
   places = len (bank t.places b);
   buffers = len (bank t.buffers b);
 }
+
+-- ---- rows
+
+-- what a row leaves of all banks' tables is what it leaves of its bank's, with the same messages
+pub record IsRowOfTables (sizes : Sizes) (t : BankTables) (b : ℕ) (all own : Outcome Tables) : Type 0 where
+  pub part : all.part ≡ joined_tables (with_tables t b own.part)
+  pub sent : all.sent ≡ own.sent
+  pub banks : AreBankTables sizes (with_tables t b own.part)
+
+-- the same of entries alone
+pub record IsRowOfEntries (sizes : Sizes) (es : List (Numbered Entry)) (b : ℕ) (all own : Outcome (Numbered Entry)) : Type 0 where
+  pub part : all.part ≡ joined (slice_set es b own.part)
+  pub sent : all.sent ≡ own.sent
+  pub banks : EntriesInBanks sizes (slice_set es b own.part)
