@@ -4,3 +4,7 @@ pub mod JoinedMapped
 pub mod CollectedLemmas
 pub mod BankCounts
 pub mod RenamingRows
+pub mod VersionsLeft
+pub mod AlikeChanges
+pub mod AlikeRows
+pub mod VersionRows
