@@ -12,7 +12,7 @@ use Rattle.tss_base.specs.declared.marks.How.{How}
 use Rattle.tss_base.specs.declared.marks.How.TheVariants.{Beside, Over}
 use Rattle.tss_base.specs.declared.marks.Follow.{Follow}
 use Rattle.tss_base.specs.Names.{Named}
-use Rattle.tss_protocol.specs.Mail.{StorageName, OpenContents, ReleaseContents, Message, Bye}
+use Rattle.tss_protocol.specs.Mail.{OpenContents, ReleaseContents, Message, Bye}
 use Rattle.tss_protocol.specs.State.{Version}
 use Rattle.tss_protocol.specs.Versions.{Versioned, sending, put_version, ready_with, buffer_of, died, may_die, may_ask, unlinked, settle_how, settle_asking, unchanged, settle_by, settle_at, settle, settled, new_version, first_version, followed, opened_how, opened_by, after_open, enlisted, used_alone, used_behind, used_at, after_use, head_ready, produced_now, is_last, released_once, released_by, released_at, after_release, refused_once, nacked_at, after_nack, after_retire}
 use Rattle.tss_banks.specs.Versions.{IsOfKind, AreAlike, AreRowsAlike}
@@ -143,7 +143,7 @@ module _ (P : OpName → Type 0) (A : Range → Type 0) (all own : Named Version
       alike_followed : (f : Follow) → P f.version → Alike (followed ws o opening f) (followed vs o opening f)
       alike_followed f before =
           let x : Version =
-              record (new_version opening.operand.object opening.storage) { predecessor = Some f.version } in
+          record (new_version opening.operand.object opening.storage) { predecessor = Some f.version } in
           alike_change P A all own (put_version ws o x) (put_version vs o x)
           (alike_put P A all own ws vs c o new x (record {
             object = of_kind;

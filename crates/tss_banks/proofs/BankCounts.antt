@@ -1,6 +1,6 @@
 -- What a bank has in use, and what a decode waits for, by the bank's own tables.
-use Rattle.std.proofs.Common.{◌≡◌, ◌≢◌, ℕ, ◌==◌, ◌/◌, ◌%◌, Bool, true, false, List, Option, Some, None, is_none, refl, sym, ap, ◌∙◌, arith, inl, inr}
-use Rattle.std.specs.FinMap.{get, len}
+use Rattle.std.proofs.Common.{◌≡◌, ◌≢◌, ◌<◌, mod-lt, ℕ, ◌==◌, ◌/◌, true, false, List, Some, is_none, sym, ap, ◌∙◌, arith, inl, inr}
+use Rattle.std.specs.FinMap.{empty, get, len}
 use Rattle.std.proofs.lemmas.Bool.Decides.{nat_tests}
 use Rattle.tss_base.specs.declared.bounds.TheConstants.{BANK_BYTES}
 use Rattle.tss_base.specs.declared.operand.OpName.{OpName}
@@ -13,10 +13,12 @@ use Rattle.tss_maps.proofs.Sums.{count_all}
 use Rattle.tss_protocol.specs.Names.{bank_of}
 use Rattle.tss_protocol.specs.State.{Entry}
 use Rattle.tss_protocol.specs.Renaming.{entries_in, places_in, buffers_in, fill_of, line_of, bank_wait, operand_wait, can_decode}
-use Rattle.tss_banks.specs.Joined.{bank, joined, AreApart, IsInNoOther}
+use Rattle.tss_protocol.specs.Counts.{greatest}
+use Rattle.tss_banks.specs.Joined.{bank, joined, AreApart, IsInNoOther, numbered}
 use Rattle.tss_banks.specs.Tables.{bank_of_base, BankTables, joined_tables, tables_of, EntriesInBanks, NamesInBanks, AreBankTables, own_fill}
-use Rattle.tss_banks.proofs.JoinedLemmas.{get-joined}
+use Rattle.tss_banks.proofs.JoinedLemmas.{in_no_empty, alone_there, joined_somewhere, get-joined, apart_empties}
 use Rattle.tss_banks.proofs.JoinedSums.{count_in_bank}
+use Rattle.tss_banks.proofs.JoinedMapped.{apart_numbered, are_numbered}
 
 -- ---- numbers
 
@@ -59,7 +61,43 @@ module _ (sizes : Sizes) (es : List (Numbered Entry)) (s : EntriesInBanks sizes 
       count_all nat_order (λ base e. bank_of sizes e.object == b) (bank es b)
       (λ k e there. same_number (bank_of sizes e.object) b (s.own b k e there))
 
+-- the bank of a base is one of them
+pub bank_of_base_below : (sizes : Sizes) (k : ℕ) → 0 < sizes.banks → bank_of_base sizes k < sizes.banks
+bank_of_base_below sizes k some = mod-lt (k / BANK_BYTES) some
+
+-- banks without an entry
+pub entries_at_first : (sizes : Sizes) (es : List (Numbered Entry)) → ((i : ℕ) → bank es i ≡ empty)
+    → EntriesInBanks sizes es
+entries_at_first sizes es none = record {
+  base = λ b k e there. absurd (in_no_empty es none b k e there);
+  own = λ b k e there. absurd (in_no_empty es none b k e there);
+}
+
+-- banks without a name
+pub names_at_first : (ms : List (Named ℕ)) → ((i : ℕ) → bank ms i ≡ empty) → NamesInBanks ms
+names_at_first ms none = record {
+  apart = apart_empties name_order ms none;
+  own = λ b k n there. absurd (in_no_empty ms none b k n there);
+}
+
+-- names of banks that are apart, with the banks' numbers
+pub names_numbered : {X : Type 0} (ms : List (Named X)) → AreApart ms → NamesInBanks (numbered 0 ms)
+names_numbered ms apart = record {
+  apart = apart_numbered name_order ms apart;
+  own = are_numbered name_order ms;
+}
+
 module _ (ms : List (Named ℕ)) (s : NamesInBanks ms) where
+  -- a name that is held is in the bank of its number
+  pub name_in_bank : (v : OpName) (b : ℕ) → get (joined ms) v ≡ Some b → get (bank ms b) v ≡ Some b
+  name_in_bank v b there =
+      let t = joined_somewhere name_order ms v b there in
+      ap (λ i. get (bank ms i) v) (s.own t.0 v b t.1) ∙ t.1
+
+  -- and in no other
+  pub name_alone : (v : OpName) (b : ℕ) → get (joined ms) v ≡ Some b → IsInNoOther ms b v
+  name_alone v b there = alone_there ms s.apart b v b (name_in_bank v b there)
+
   -- the places held of a bank are those of its map
   pub places_in_bank : (b : ℕ) → places_in b (joined ms) ≡ len (bank ms b)
   places_in_bank b =
@@ -75,6 +113,19 @@ module _ (ms : List (Named ℕ)) (s : NamesInBanks ms) where
   pub places_of_own : (b : ℕ) → places_in b (bank ms b) ≡ len (bank ms b)
   places_of_own b =
       count_all name_order (λ v n. n == b) (bank ms b) (λ k n there. same_number n b (s.own b k n there))
+
+-- the most entries of one bank of so many, and the most places or buffers
+pub most_entries : (sizes : Sizes) (es : List (Numbered Entry)) → EntriesInBanks sizes es → (n : ℕ)
+    → greatest (λ b. entries_in sizes b (joined es)) n ≡ greatest (λ b. len (bank es b)) n
+most_entries sizes es s n = λ i. greatest (λ b. entries_in_bank sizes es s b i) n
+
+pub most_places : (ms : List (Named ℕ)) → NamesInBanks ms → (n : ℕ)
+    → greatest (λ b. places_in b (joined ms)) n ≡ greatest (λ b. len (bank ms b)) n
+most_places ms s n = λ i. greatest (λ b. places_in_bank ms s b i) n
+
+pub most_buffers : (ms : List (Named ℕ)) → NamesInBanks ms → (n : ℕ)
+    → greatest (λ b. buffers_in b (joined ms)) n ≡ greatest (λ b. len (bank ms b)) n
+most_buffers ms s n = λ i. greatest (λ b. buffers_in_bank ms s b i) n
 
 module _ (sizes : Sizes) (t : BankTables) (s : AreBankTables sizes t) where
   -- what a bank has in use of all tables is what its own tables have

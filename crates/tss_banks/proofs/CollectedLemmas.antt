@@ -1,96 +1,58 @@
 -- What stands at a key of a collected map, and what changes of the map or of the test make of it.
-use Rattle.std.proofs.Common.{◌≡◌, ◌≢◌, ◌⊎◌, ℕ, zero, suc, Bool, true, false, cond, List, [], ◌∷◌, map, Option, Some, None, option_and_then, refl, sym, ap, ◌∙◌, inl, inr}
-use Rattle.std.specs.Prelude.{T, ◌&&◌}
+use Rattle.std.proofs.Common.{◌≡◌, ◌≢◌, ℕ, zero, suc, cond, List, [], ◌∷◌, map, Option, Some, None, option_and_then, refl, sym, ap, ◌∙◌, inl, inr}
 use Rattle.std.specs.declared.cmp.Ordering.{Ordering}
-use Rattle.std.specs.declared.cmp.Ordering.TheVariants.{Less, Equal, Greater}
-use Rattle.std.specs.Ordering.{eq_by_cmp, is_eq, is_lt}
-use Rattle.std.specs.FinMap.{FinMap, empty, get, insert, remove, entries, entries_sorted, get-entries, get-from_entries, get-empty}
-use Rattle.std.specs.FinMap.Entries.{find, below_all, is_sorted}
-use Rattle.tss_maps.proofs.Keys.{IsKeyOrder, decide_key}
-use Rattle.tss_maps.proofs.Changes.{decide_get, same_by_get, same_at_key, at_inserted, beside_inserted, at_removed, beside_removed, absent_removed, apart_absent}
+use Rattle.std.specs.Ordering.{eq_by_cmp}
+use Rattle.std.specs.FinMap.{FinMap, empty, get, insert, remove, entries, get-entries, get-empty}
+use Rattle.std.specs.FinMap.Entries.{find}
+use Rattle.tss_maps.proofs.Keys.{IsKeyOrder, decide_key, same_key, other_key}
+use Rattle.tss_maps.proofs.Changes.{same_by_get, same_at_key, at_inserted, beside_inserted, at_removed, beside_removed, absent_removed}
 use Rattle.tss_banks.specs.Joined.{bank, joined, AreApart}
-use Rattle.tss_banks.specs.Collected.{answered, answers_in, collected, with_at}
-use Rattle.tss_banks.proofs.JoinedLemmas.{option_first, get-joined_nil, get-joined_cons, joined_later, absent_in_joined, apart_rest, apart_first}
+use Rattle.tss_banks.specs.Collected.{answers_in, collected, with_at}
+use Rattle.tss_banks.proofs.JoinedLemmas.{option_first, get-joined_nil, get-joined_cons, absent_in_joined, apart_rest, apart_first}
 
-first : (a b : Bool) → T (a && b) → T a
-first true b p = tt
-first false b p = absurd p
+module _ {K Y : Type 0} {R : K → K → Ordering} (order : IsKeyOrder R) (m : FinMap R Y) (k : K) (o : Option Y) where
+  at_by : (o : Option Y) → get (with_at m k o) k ≡ o
+  at_by None = at_removed order m k
+  at_by (Some y) = at_inserted order m k y
 
-second : (a b : Bool) → T (a && b) → T b
-second true b p = p
-second false b p = absurd p
+  -- at the key stands this
+  pub at_with : get (with_at m k o) k ≡ o
+  at_with = at_by o
 
-less : (r : Ordering) → T (is_lt r) → is_eq r ≡ false
-less Less p = refl
-less Equal p = absurd p
-less Greater p = absurd p
+  beside_by : (o : Option Y) (q : K) → q ≢ k → get (with_at m k o) q ≡ get m q
+  beside_by None q apart = beside_removed order m k q apart
+  beside_by (Some y) q apart = beside_inserted order m k y q apart
 
-tied : (r : Ordering) → is_eq r ≡ true → r ≡ Equal
-tied Less e = absurd (cc)
-tied Equal e = refl
-tied Greater e = absurd (cc)
-
-module _ {K Y : Type 0} (R : K → K → Ordering) where
-  -- an entry at a key that ties, where nothing stands behind it
-  find_tied : (k q : K) (o : Option Y) (es : List (K × Y)) → eq_by_cmp R k q ≡ true → find R k es ≡ None
-      → find R k (answered q o es) ≡ o
-  find_tied k q None es t none = none
-  find_tied k q (Some y) es t none = ap (λ b. cond b (Some y) (find R k es)) t
-
-  -- one at a key that doesn't tie
-  find_beside : (k q : K) (o : Option Y) (es : List (K × Y)) → eq_by_cmp R k q ≡ false
-      → find R k (answered q o es) ≡ find R k es
-  find_beside k q None es t = refl
-  find_beside k q (Some y) es t = ap (λ b. cond b (Some y) (find R k es)) t
+  -- at another key what stood there
+  pub beside_with : (q : K) → q ≢ k → get (with_at m k o) q ≡ get m q
+  beside_with q apart = beside_by o q apart
 
 module _ {K X Y : Type 0} {R : K → K → Ordering} (order : IsKeyOrder R) (f : K → X → Option Y) where
-  -- a key below all others isn't among them
-  none_below : (k : K) (es : List (K × X)) → T (below_all R k es) → find R k (answers_in f es) ≡ None
-  none_below k [] h = refl
-  none_below k (e ∷ es) h =
-      find_beside R k e.0 (f e.0 e.1) (answers_in f es)
-      (less (R k e.0) (first (is_lt (R k e.0)) (below_all R k es) h))
-      ∙ none_below k es (second (is_lt (R k e.0)) (below_all R k es) h)
-
-  find-answers_in : (k : K) (es : List (K × X)) → T (is_sorted R es)
-      → find R k (answers_in f es) ≡ option_and_then (f k) (find R k es)
-  find-answers_in k [] h = refl
-  find-answers_in k (e ∷ es) h =
-      let below = first (below_all R e.0 es) (is_sorted R es) h in
-      let rest = find-answers_in k es (second (below_all R e.0 es) (is_sorted R es) h) in
-      elim (eq_by_cmp R k e.0) as (λ t. eq_by_cmp R k e.0 ≡ t
-      → find R k (answered e.0 (f e.0 e.1) (answers_in f es))
-      ≡ option_and_then (f k) (cond t (Some e.1) (find R k es))) [
-        | true ↦ λ t.
-            let same = order.exact k e.0 (tied (R k e.0) t) in
-            find_tied R k e.0 (f e.0 e.1) (answers_in f es) t
-            (ap (λ q. find R q (answers_in f es)) same ∙ none_below e.0 es below)
-            ∙ ap (λ q. f q e.1) (sym same)
-        | false ↦ λ t. find_beside R k e.0 (f e.0 e.1) (answers_in f es) t ∙ rest
-      ] refl
+  get-answers_in : (es : List (K × X)) (k : K) → get (answers_in {R = R} f es) k ≡ option_and_then (f k) (find R k es)
+  get-answers_in [] k = get-empty R k
+  get-answers_in (e ∷ es) k = elim (decide_key order k e.0) [
+    | inl same ↦
+        ap (get (answers_in f (e ∷ es))) same
+        ∙ at_with order (answers_in f es) e.0 (f e.0 e.1)
+        ∙ ap (λ q. f q e.1) (sym same)
+        ∙ ap (λ b. option_and_then (f k) (cond b (Some e.1) (find R k es)))
+        (sym (ap (eq_by_cmp R k) (sym same) ∙ same_key order k))
+    | inr apart ↦
+        beside_with order (answers_in f es) e.0 (f e.0 e.1) k apart
+        ∙ get-answers_in es k
+        ∙ ap (λ b. option_and_then (f k) (cond b (Some e.1) (find R k es))) (sym (other_key order k e.0 apart))
+  ]
 
   -- at a key stands the answer for what stands there in the map
   pub get-collected : (m : FinMap R X) (k : K) → get (collected f m) k ≡ option_and_then (f k) (get m k)
   unfolding collected
-  get-collected m k =
-      get-from_entries order.total (answers_in f (entries m)) k
-      ∙ find-answers_in k (entries m) (entries_sorted m)
-      ∙ ap (option_and_then (f k)) (sym (get-entries m k))
+  get-collected m k = get-answers_in (entries m) k ∙ ap (option_and_then (f k)) (sym (get-entries m k))
 
   -- of an empty map nothing is collected
   pub collected-empty : collected f (empty {R = R}) ≡ empty
   collected-empty =
       same_by_get order _ _ (λ k.
       get-collected empty k ∙ ap (option_and_then (f k)) (get-empty R k) ∙ sym (get-empty R k))
-
-  -- what is collected at one key, and as before beside it
-  at_with : (m : FinMap R Y) (k : K) (o : Option Y) → get (with_at m k o) k ≡ o
-  at_with m k None = at_removed order m k
-  at_with m k (Some y) = at_inserted order m k y
-
-  beside_with : (m : FinMap R Y) (k : K) (o : Option Y) (q : K) → q ≢ k → get (with_at m k o) q ≡ get m q
-  beside_with m k None q apart = beside_removed order m k q apart
-  beside_with m k (Some y) q apart = beside_inserted order m k y q apart
 
   module _ (m : FinMap R X) (k : K) where
     -- after an insertion the answer for its value is there
@@ -99,12 +61,12 @@ module _ {K X Y : Type 0} {R : K → K → Ordering} (order : IsKeyOrder R) (f :
         same_at_key order _ _ k
         (get-collected (insert m k v) k
         ∙ ap (option_and_then (f k)) (at_inserted order m k v)
-        ∙ sym (at_with (collected f m) k (f k v)))
+        ∙ sym (at_with order (collected f m) k (f k v)))
         (λ q apart.
         get-collected (insert m k v) q
         ∙ ap (option_and_then (f q)) (beside_inserted order m k v q apart)
         ∙ sym (get-collected m q)
-        ∙ sym (beside_with (collected f m) k (f k v) q apart))
+        ∙ sym (beside_with order (collected f m) k (f k v) q apart))
 
     -- where it has one
     pub collected-insert_some : (v : X) (y : Y) → f k v ≡ Some y
@@ -153,12 +115,12 @@ module _ {K X Y : Type 0} {R : K → K → Ordering} (order : IsKeyOrder R) (f g
       same_at_key order _ _ k
       (get-collected order g m k
       ∙ ap (option_and_then (g k)) there
-      ∙ sym (at_with order g (collected f m) k (g k x)))
+      ∙ sym (at_with order (collected f m) k (g k x)))
       (λ q apart.
       get-collected order g m q
       ∙ sym (same_answers q (get m q) (λ y. same q y apart))
       ∙ sym (get-collected order f m q)
-      ∙ sym (beside_with order g (collected f m) k (g k x) q apart))
+      ∙ sym (beside_with order (collected f m) k (g k x) q apart))
 
 -- ---- of joined maps
 
@@ -173,7 +135,8 @@ module _ {K X Y : Type 0} {R : K → K → Ordering} (order : IsKeyOrder R) (f :
   and_then_first : (k : K) (a b : Option X) → ((x : X) → a ≡ Some x → b ≡ None)
       → option_and_then (f k) (option_first a b) ≡ option_first (option_and_then (f k) a) (option_and_then (f k) b)
   and_then_first k None b apart = refl
-  and_then_first k (Some x) b apart = first_alone (f k x) ∙ ap (λ b. option_first (f k x) (option_and_then (f k) b)) (sym (apart x refl))
+  and_then_first k (Some x) b apart =
+      first_alone (f k x) ∙ ap (λ b. option_first (f k x) (option_and_then (f k) b)) (sym (apart x refl))
     where
       first_alone : (o : Option Y) → o ≡ option_first o None
       first_alone None = refl

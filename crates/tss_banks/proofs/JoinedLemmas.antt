@@ -1,5 +1,5 @@
 -- What stands at a key of joined maps, and what a change of one bank's map makes of them.
-use Rattle.std.proofs.Common.{◌≡◌, ◌≢◌, ◌⊎◌, ◌<◌, ℕ, zero, suc, Bool, true, false, cond, List, [], ◌∷◌, ◌++◌, length, get_or, set, slice_get, Option, Some, None, refl, sym, ap, ◌∙◌, subst, inl, inr, arith}
+use Rattle.std.proofs.Common.{◌≡◌, ◌≢◌, ◌⊎◌, ◌↔◌, ◌<◌, ℕ, zero, suc, true, false, cond, List, [], ◌∷◌, ◌++◌, length, set, replicate, slice_get, Option, Some, None, refl, sym, ap, ◌∙◌, subst, inl, inr, arith}
 use Rattle.std.specs.List.{flat_map}
 use Rattle.std.specs.declared.cmp.Ordering.{Ordering}
 use Rattle.std.specs.Ordering.{eq_by_cmp}
@@ -42,6 +42,12 @@ module _ {K X : Type 0} (R : K → K → Ordering) where
   pub get-no_bank : (b : ℕ) (k : K) → get (bank {X = X} {R = R} [] b) k ≡ None
   get-no_bank b k = get-empty R k
 
+  -- so many empty banks are all empty
+  pub bank-replicate : (n i : ℕ) → bank (replicate n (empty {X = X} {R = R})) i ≡ empty
+  bank-replicate zero i = refl
+  bank-replicate (suc n) zero = refl
+  bank-replicate (suc n) (suc i) = bank-replicate n i
+
 module _ {K X : Type 0} {R : K → K → Ordering} where
   -- a key of a bank shows that there is such a bank
   pub bank_within : (ms : List (FinMap R X)) (b : ℕ) (k : K) (x : X) → get (bank ms b) k ≡ Some x → b < length ms
@@ -49,6 +55,11 @@ module _ {K X : Type 0} {R : K → K → Ordering} where
     | inl within ↦ within
     | inr past ↦ absurd (none-some x (sym (get-empty R k) ∙ ap (λ m. get m k) (sym (get_or_past ms b empty past)) ∙ e))
   ]
+
+  -- banks that are all empty have no key
+  pub in_no_empty : (ms : List (FinMap R X)) → ((i : ℕ) → bank ms i ≡ empty) → (i : ℕ) (k : K) (x : X)
+      → get (bank ms i) k ≡ Some x → ⊥
+  in_no_empty ms none i k x e = none-some x (sym (get-empty R k) ∙ ap (λ m. get m k) (sym (none i)) ∙ e)
 
   -- a bank by its place in the list
   pub bank_at : (ms : List (FinMap R X)) (b : ℕ) (m : FinMap R X) → slice_get ms b ≡ Some m
@@ -173,6 +184,10 @@ module _ {K X : Type 0} {R : K → K → Ordering} (order : IsKeyOrder R) where
     pub joined_there : (b : ℕ) (k : K) (x : X) → get (bank ms b) k ≡ Some x → get (joined ms) k ≡ Some x
     joined_there b k x e = get-joined ms b k (alone_there ms apart b k x e) ∙ e
 
+    -- a value stands in the joined map exactly where it stands in some bank
+    pub joined_exactly : (k : K) (x : X) → (get (joined ms) k ≡ Some x) ↔ ((i : ℕ) × (get (bank ms i) k ≡ Some x))
+    joined_exactly k x = (joined_somewhere ms k x, λ t. joined_there t.0 k x t.1)
+
     alone_by : (b : ℕ) (k : K) (x : X) → (i : ℕ) × (get (bank ms i) k ≡ Some x)
         → IsInNoOther ms b k ⊎ (IsInNoOther ms b k → ⊥)
     alone_by b k x t = elim (decide_key nat_order t.0 b) [
@@ -207,6 +222,10 @@ module _ {K X : Type 0} {R : K → K → Ordering} (order : IsKeyOrder R) where
   joined_empties ms none =
       same_by_get order _ _ (λ k.
       absent_in_joined ms k (λ i. ap (λ m. get m k) (none i) ∙ get-empty R k) ∙ sym (get-empty R k))
+
+  -- and are apart
+  pub apart_empties : (ms : List (FinMap R X)) → ((i : ℕ) → bank ms i ≡ empty) → AreApart ms
+  apart_empties ms none i j k x y e f = absurd (in_no_empty ms none i k x e)
 
   -- ---- a bank's map is written
 
@@ -289,9 +308,6 @@ module _ {K X : Type 0} {R : K → K → Ordering} (order : IsKeyOrder R) where
           → AreApart (set ms b n)
       apart_set n only i j k x y e f = by (decide_key nat_order i b) (decide_key nat_order j b)
         where
-          ns : List (FinMap R X)
-          ns = set ms b n
-
           -- what the bank has
           own : (i : ℕ) → i ≡ b → (x : X) → get (bank (set ms b n) i) k ≡ Some x → get n k ≡ Some x
           own i is x e =

@@ -1,7 +1,7 @@
 -- Joined maps whose values are replaced: by a function, or by the numbers of the banks.
-use Rattle.std.proofs.Common.{◌≡◌, ℕ, zero, suc, ◌+◌, ◌<◌, List, [], ◌∷◌, map, length, set, Option, Some, None, option_map, refl, sym, ap, ◌∙◌, arith}
+use Rattle.std.proofs.Common.{◌≡◌, ℕ, zero, suc, ◌+◌, List, [], ◌∷◌, map, length, set, Option, Some, None, option_map, refl, sym, ap, ◌∙◌, arith}
 use Rattle.std.specs.declared.cmp.Ordering.{Ordering}
-use Rattle.std.specs.FinMap.{FinMap, empty, get, len}
+use Rattle.std.specs.FinMap.{FinMap, get, len}
 use Rattle.std.proofs.lemmas.Option.{none-some, same_Some}
 use Rattle.tss_maps.specs.Mapped.{mapped}
 use Rattle.tss_maps.proofs.Keys.{IsKeyOrder}
@@ -44,10 +44,19 @@ module _ {K X Y : Type 0} {R : K → K → Ordering} (order : IsKeyOrder R) (f :
   pub apart_mapped : (ms : List (FinMap R X)) → AreApart ms → AreApart (map (mapped f) ms)
   apart_mapped ms apart i j k x y e g =
       let a = from_option_map f (get (bank ms i) k) x
-          (sym (get-mapped f (bank ms i) k) ∙ ap (λ m. get m k) (sym (bank-mapped ms i)) ∙ e) in
+      (sym (get-mapped f (bank ms i) k) ∙ ap (λ m. get m k) (sym (bank-mapped ms i)) ∙ e) in
       let b = from_option_map f (get (bank ms j) k) y
-          (sym (get-mapped f (bank ms j) k) ∙ ap (λ m. get m k) (sym (bank-mapped ms j)) ∙ g) in
+      (sym (get-mapped f (bank ms j) k) ∙ ap (λ m. get m k) (sym (bank-mapped ms j)) ∙ g) in
       apart i j k a.0 b.0 a.1 b.1
+
+plus_zero : (n : ℕ) → n ≡ n + zero
+plus_zero n = omega arith
+
+plus_suc : (n b : ℕ) → suc n + b ≡ n + suc b
+plus_suc n b = omega arith
+
+zero_plus : (b : ℕ) → 0 + b ≡ b
+zero_plus b = omega arith
 
 module _ {K X : Type 0} {R : K → K → Ordering} (order : IsKeyOrder R) where
   -- a bank of the numbered maps
@@ -55,22 +64,13 @@ module _ {K X : Type 0} {R : K → K → Ordering} (order : IsKeyOrder R) where
       → bank (numbered n ms) b ≡ mapped (λ (x : X). n + b) (bank ms b)
   bank-numbered n [] b = sym (mapped-empty order (λ x. n + b))
   bank-numbered n (m ∷ ms) zero = ap (λ (c : ℕ). mapped (λ (x : X). c) m) (plus_zero n)
-    where
-      plus_zero : (n : ℕ) → n ≡ n + zero
-      plus_zero n = omega arith
   bank-numbered n (m ∷ ms) (suc b) =
       bank-numbered (suc n) ms b ∙ ap (λ (c : ℕ). mapped (λ (x : X). c) (bank ms b)) (plus_suc n b)
-    where
-      plus_suc : (n b : ℕ) → suc n + b ≡ n + suc b
-      plus_suc n b = omega arith
 
   -- where the first bank has the number zero, each has its own
   pub bank-numbered_zero : (ms : List (FinMap R X)) (b : ℕ)
       → bank (numbered 0 ms) b ≡ mapped (λ (x : X). b) (bank ms b)
   bank-numbered_zero ms b = bank-numbered 0 ms b ∙ ap (λ (c : ℕ). mapped (λ (x : X). c) (bank ms b)) (zero_plus b)
-    where
-      zero_plus : (b : ℕ) → 0 + b ≡ b
-      zero_plus b = omega arith
 
   -- there are as many banks
   pub length-numbered : (n : ℕ) (ms : List (FinMap R X)) → length (numbered n ms) ≡ length ms
@@ -83,25 +83,16 @@ module _ {K X : Type 0} {R : K → K → Ordering} (order : IsKeyOrder R) where
   numbered-set n [] b m = refl
   numbered-set n (l ∷ ms) zero m =
       ap (λ (c : ℕ). mapped (λ (x : X). c) m ∷ numbered (suc n) ms) (plus_zero n)
-    where
-      plus_zero : (n : ℕ) → n ≡ n + zero
-      plus_zero n = omega arith
   numbered-set n (l ∷ ms) (suc b) m =
       ap (λ ns. mapped (λ x. n) l ∷ ns)
       (numbered-set (suc n) ms b m
       ∙ ap (λ (c : ℕ). set (numbered (suc n) ms) b (mapped (λ (x : X). c) m)) (plus_suc n b))
-    where
-      plus_suc : (n b : ℕ) → suc n + b ≡ n + suc b
-      plus_suc n b = omega arith
 
   -- the same from zero
   pub numbered_zero-set : (ms : List (FinMap R X)) (b : ℕ) (m : FinMap R X)
       → numbered 0 (set ms b m) ≡ set (numbered 0 ms) b (mapped (λ (x : X). b) m)
   numbered_zero-set ms b m =
       numbered-set 0 ms b m ∙ ap (λ (c : ℕ). set (numbered 0 ms) b (mapped (λ (x : X). c) m)) (zero_plus b)
-    where
-      zero_plus : (b : ℕ) → 0 + b ≡ b
-      zero_plus b = omega arith
 
   module _ (ms : List (FinMap R X)) where
     -- what stands at a key of a numbered bank

@@ -1,7 +1,7 @@
 -- Sums, lengths and counts over joined maps.
-use Rattle.std.proofs.Common.{◌≡◌, ◌≢◌, ℕ, zero, suc, ◌+◌, Bool, true, false, List, [], ◌∷◌, map, sum, Some, None, refl, sym, ap, ◌∙◌, arith, inl, inr}
+use Rattle.std.proofs.Common.{◌≡◌, ◌≢◌, ℕ, zero, suc, ◌+◌, Bool, true, false, List, [], ◌∷◌, map, sum, Some, None, refl, sym, ap, ◌∙◌, arith}
 use Rattle.std.specs.declared.cmp.Ordering.{Ordering}
-use Rattle.std.specs.FinMap.{FinMap, empty, get, insert, len, get-empty, len-empty}
+use Rattle.std.specs.FinMap.{FinMap, empty, get, insert, len, get-empty}
 use Rattle.std.proofs.lemmas.List.Sums.{sum_by-cons}
 use Rattle.tss_maps.specs.Sums.{sum_of, one_if, count_of}
 use Rattle.tss_maps.proofs.Keys.{IsKeyOrder}

@@ -1,6 +1,6 @@
 -- The rows of versioning on all banks' versions are the rows in their own banks.
-use Rattle.std.proofs.Common.{◌≡◌, ◌≢◌, ◌⊎◌, ℕ, ◌<◌, List, length, set, Option, Some, None, is_some, refl, sym, ap, ◌∙◌, subst, inl, inr}
-use Rattle.std.specs.FinMap.{get, contains_key}
+use Rattle.std.proofs.Common.{◌≡◌, ℕ, ◌<◌, List, length, Option, Some, None, is_some, refl, sym, ap, ◌∙◌, inl, inr}
+use Rattle.std.specs.FinMap.{empty, get}
 use Rattle.tss_base.specs.declared.range.Range.{Range}
 use Rattle.tss_base.specs.declared.operand.OpName.{OpName}
 use Rattle.tss_base.specs.declared.marks.Follow.{Follow}
@@ -13,10 +13,18 @@ use Rattle.tss_protocol.specs.Mail.{OpenContents, ReleaseContents}
 use Rattle.tss_protocol.specs.State.{Version}
 use Rattle.tss_protocol.specs.Versions.{Versioned, unchanged, after_open, is_followable, can_open, can_use, after_use, after_release, after_nack, after_retire}
 use Rattle.tss_banks.specs.Joined.{bank, joined, IsInNoOther}
-use Rattle.tss_banks.specs.Versions.{AreAlike, AreRowsAlike, VersionsInBanks, IsLinkedIn, LinksIn, LinksWithinObjects, IsRowOf}
-use Rattle.tss_banks.proofs.JoinedLemmas.{bank_set, alone_set, alone_there, joined_somewhere, get-joined, joined_there, decide_alone, joined_set_is, each_set, apart_set}
+use Rattle.tss_banks.specs.Versions.{AreAlike, AreRowsAlike, VersionsInBanks, LinksIn, LinksWithinObjects, IsRowOf}
+use Rattle.tss_banks.proofs.JoinedLemmas.{in_no_empty, apart_empties, bank_set, alone_set, alone_there, joined_somewhere, get-joined, joined_there, decide_alone, joined_set_is, each_set, apart_set}
 use Rattle.tss_banks.proofs.AlikeChanges.{alike_at_first}
 use Rattle.tss_banks.proofs.AlikeRows.{alike_open, alike_use, alike_release, alike_nack, alike_retire}
+
+-- banks without a version
+pub versions_at_first : (sizes : Sizes) (ms : List (Named Version)) → ((i : ℕ) → bank ms i ≡ empty)
+    → VersionsInBanks sizes ms
+versions_at_first sizes ms none = record {
+  apart = apart_empties name_order ms none;
+  own = λ b v x there. absurd (in_no_empty ms none b v x there);
+}
 
 module _ (sizes : Sizes) (ms : List (Named Version)) (s : VersionsInBanks sizes ms) where
   -- a registered version is in the bank of its object

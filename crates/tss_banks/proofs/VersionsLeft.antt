@@ -1,6 +1,6 @@
 -- How many versions are left by changes: a version that gives way is one less.
-use Rattle.std.proofs.Common.{◌≡◌, ℕ, ◌+◌, Option, Some, None, refl, sym, ap, ◌∙◌, arith}
-use Rattle.std.specs.FinMap.{get, len, remove}
+use Rattle.std.proofs.Common.{◌≡◌, ◌+◌, Option, Some, None, refl, ap, ◌∙◌}
+use Rattle.std.specs.FinMap.{get, len}
 use Rattle.tss_base.specs.declared.operand.OpName.{OpName}
 use Rattle.tss_base.specs.Names.{Named}
 use Rattle.tss_maps.proofs.Keys.{name_order}
@@ -28,6 +28,6 @@ pub len_unlinked : (vs : Named Version) (v : OpName) (x y : Version) (s : OpName
 len_unlinked vs v x y s there =
     let bridge : Version → Version = λ q. record q { successor = followed_by s q.successor } in
     let moved = len_changed (change_named (drop_version vs v) x.predecessor bridge)
-        (λ y. record y { predecessor = x.predecessor }) s in
+    (λ y. record y { predecessor = x.predecessor }) s in
     let bridged = len_changed_named (drop_version vs v) bridge x.predecessor in
     ap (λ n. n + 1) (moved ∙ bridged) ∙ len_removed name_order vs v y there

@@ -74,7 +74,8 @@ pub record IsRowOfTables (sizes : Sizes) (t : BankTables) (b : ℕ) (all own : O
   pub banks : AreBankTables sizes (with_tables t b own.part)
 
 -- the same of entries alone
-pub record IsRowOfEntries (sizes : Sizes) (es : List (Numbered Entry)) (b : ℕ) (all own : Outcome (Numbered Entry)) : Type 0 where
+pub record IsRowOfEntries (sizes : Sizes) (es : List (Numbered Entry)) (b : ℕ) (all own : Outcome (Numbered Entry))
+    : Type 0 where
   pub part : all.part ≡ joined (slice_set es b own.part)
   pub sent : all.sent ≡ own.sent
   pub banks : EntriesInBanks sizes (slice_set es b own.part)

@@ -27,7 +27,8 @@ pub record AreAlike (P : OpName → Type 0) (A : Range → Type 0) (all own ws v
   pub of_kind : (q : OpName) (x : Version) → P q → get vs q ≡ Some x → IsOfKind P A x
 
 -- such maps, with the same messages
-pub record AreRowsAlike (P : OpName → Type 0) (A : Range → Type 0) (all own : Named Version) (d e : Versioned) : Type 0 where
+pub record AreRowsAlike (P : OpName → Type 0) (A : Range → Type 0) (all own : Named Version) (d e : Versioned)
+    : Type 0 where
   pub part : AreAlike P A all own d.part e.part
   pub sent : d.sent ≡ e.sent
 
