@@ -13,6 +13,7 @@ use Rattle.tss_protocol.specs.Versions.{put_version, drop_version, version_chang
 use Rattle.tss_banks.specs.Versions.{IsOfKind, AreAlike}
 
 module _ (P : OpName → Type 0) (A : Range → Type 0) (all own : Named Version) where
+  -- a change that leaves the object, and links to the names alone
   abbrev pub Keeps : (Version → Version) → Type 0
   Keeps f = (x : Version) → IsOfKind P A x → IsOfKind P A (f x)
 
@@ -97,6 +98,7 @@ module _ (P : OpName → Type 0) (A : Range → Type 0) (all own : Named Version
   followed_in s p (Some g) f e =
       subst P (ap (λ (f : Follow). f.version) (same_Some (record g { version = s }) f e)) p
 
+  -- so both lose it
   pub alike_unlinked : (ws vs : Named Version) → AreAlike P A all own ws vs → (v : OpName) → P v → (x : Version)
       → IsOfKind P A x → (s : OpName) → P s → AreAlike P A all own (unlinked ws v x s) (unlinked vs v x s)
   alike_unlinked ws vs c v p x kind s next =

@@ -26,10 +26,12 @@ none_below : (a : ℕ) → a < zero → ⊥
 none_below a h = omega (arith, h)
 
 module _ (P : OpName → Type 0) (A : Range → Type 0) (all own : Named Version) where
-  abbrev Alike : Named Version → Named Version → Type 0
+  -- maps that are changed alike
+  abbrev pub Alike : Named Version → Named Version → Type 0
   Alike ws vs = AreAlike P A all own ws vs
 
-  abbrev RowsAlike : Versioned → Versioned → Type 0
+  -- and with the same messages
+  abbrev pub RowsAlike : Versioned → Versioned → Type 0
   RowsAlike d e = AreRowsAlike P A all own d e
 
   -- the same messages before both
@@ -47,8 +49,8 @@ module _ (P : OpName → Type 0) (A : Range → Type 0) (all own : Named Version
 
   -- ---- settle
 
-  -- settles of so far
-  abbrev SettleAlike : ℕ → ℕ → Type 0
+  -- settles with so much fuel for the two, which is more than there are versions
+  abbrev pub SettleAlike : ℕ → ℕ → Type 0
   SettleAlike n k =
       (ws vs : Named Version) → Alike ws vs → (v : OpName) → P v → len ws < n → len vs < k
       → RowsAlike (settle n ws v) (settle k vs v)
@@ -106,7 +108,7 @@ module _ (P : OpName → Type 0) (A : Range → Type 0) (all own : Named Version
         subst (λ o. RowsAlike (settle_at ws v (settle n) o) (settle_at vs v (settle k) (get vs v)))
         (sym (c.same v p)) (alike_at (get vs v) refl)
 
-  -- with more fuel than there are versions, each settle does the same
+  -- with more fuel than there are versions each settle does the same
   pub alike_settle : (n k : ℕ) → SettleAlike n k
   unfolding settle
   alike_settle zero k ws vs c v p enough enough_own = absurd (none_below (len ws) enough)
@@ -115,6 +117,7 @@ module _ (P : OpName → Type 0) (A : Range → Type 0) (all own : Named Version
       alike_settle_at n k (alike_settle n k) ws vs c v p enough enough_own
 
   module _ (ws vs : Named Version) (c : Alike ws vs) where
+    -- so settled versions are left alike
     pub alike_settled : (v : OpName) → P v → RowsAlike (settled ws v) (settled vs v)
     alike_settled v p = alike_settle (suc (len ws)) (suc (len vs)) ws vs c v p (omega arith) (omega arith)
 
@@ -191,6 +194,7 @@ module _ (P : OpName → Type 0) (A : Range → Type 0) (all own : Named Version
       }
       alike_opened (Some f) before = alike_opened_how f (before f refl) f.how
 
+      -- a version of the names is opened, behind another of them
       pub alike_open : ((f : Follow) → opening.follows ≡ Some f → P f.version)
           → RowsAlike (after_open ws o opening) (after_open vs o opening)
       alike_open before = alike_opened opening.follows before
@@ -227,6 +231,7 @@ module _ (P : OpName → Type 0) (A : Range → Type 0) (all own : Named Version
       alike_used None there = record { part = c; sent = refl }
       alike_used (Some x) there = alike_behind x there x.tail
 
+      -- a version of the names is used
       pub alike_use : RowsAlike (after_use ws o v) (after_use vs o v)
       alike_use =
           subst (λ x. RowsAlike (used_at ws o v x) (after_use vs o v)) (sym (c.same v p))
@@ -253,6 +258,7 @@ module _ (P : OpName → Type 0) (A : Range → Type 0) (all own : Named Version
       alike_released producer None there = record { part = c; sent = refl }
       alike_released producer (Some x) there = alike_released_by x there producer
 
+    -- it is released
     pub alike_release : (o : OpName) (r : ReleaseContents) → P r.version
         → RowsAlike (after_release ws o r) (after_release vs o r)
     alike_release o r p =
@@ -269,10 +275,12 @@ module _ (P : OpName → Type 0) (A : Range → Type 0) (all own : Named Version
           alike_put_settled v p (refused_once x)
           (same_links x (refused_once x) refl refl refl (c.of_kind v x p there))
 
+      -- it may not retire
       pub alike_nack : RowsAlike (after_nack ws v) (after_nack vs v)
       alike_nack =
           subst (λ x. RowsAlike (nacked_at ws v x) (after_nack vs v)) (sym (c.same v p))
           (alike_nacked (get vs v) refl)
 
+      -- it retires
       pub alike_retire : Alike (after_retire ws v) (after_retire vs v)
       alike_retire = alike_drop P A all own ws vs c v p

@@ -85,6 +85,15 @@ module _ {K X : Type 0} {R : K → K → Ordering} where
     pub alone_before_set : (k : K) → IsInNoOther (set ms b n) b k → IsInNoOther ms b k
     alone_before_set k only i apart = ap (λ m. get m k) (sym (bank_set_beside i apart)) ∙ only i apart
 
+  module _ (ms : List (FinMap R X)) (b : ℕ) where
+    -- a bank's own map in its place leaves the banks as they were
+    pub same_banks : set ms b (bank ms b) ≡ ms
+    same_banks = set-get_or ms b empty
+
+    -- and the joined map
+    pub joined_unchanged : joined (set ms b (bank ms b)) ≡ joined ms
+    joined_unchanged = ap joined same_banks
+
   -- ---- keys of banks that are apart
 
   module _ (ms : List (FinMap R X)) (apart : AreApart ms) where
@@ -123,6 +132,7 @@ module _ {K X : Type 0} {R : K → K → Ordering} (order : IsKeyOrder R) where
       → get (joined (m ∷ ms)) k ≡ Some x
   joined_first m ms k x e = get-joined_cons m ms k ∙ ap (λ o. option_first o (get (joined ms) k)) e
 
+  -- where the first bank has nothing
   pub joined_later : (m : FinMap R X) (ms : List (FinMap R X)) (k : K) → get m k ≡ None
       → get (joined (m ∷ ms)) k ≡ get (joined ms) k
   joined_later m ms k e = get-joined_cons m ms k ∙ ap (λ o. option_first o (get (joined ms) k)) e
@@ -270,14 +280,6 @@ module _ {K X : Type 0} {R : K → K → Ordering} (order : IsKeyOrder R) where
         (λ q apart.
         beside_joined_set (remove (bank ms b) k) q (beside_removed order (bank ms b) k q apart)
         ∙ sym (beside_removed order (joined ms) k q apart))
-
-    -- a bank's map in its own place
-    pub joined_unchanged : joined (set ms b (bank ms b)) ≡ joined ms
-    joined_unchanged = ap joined (set-get_or ms b empty)
-
-    -- the list of banks is as it was
-    pub same_list : set ms b (bank ms b) ≡ ms
-    same_list = set-get_or ms b empty
 
     -- what holds of each entry by its bank holds after a write of one bank, where it holds of the new map's
     pub each_set : (Q : ℕ → K → X → Type 0) (n : FinMap R X)

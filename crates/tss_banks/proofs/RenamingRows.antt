@@ -16,7 +16,7 @@ use Rattle.tss_protocol.specs.State.{Entry}
 use Rattle.tss_protocol.specs.Renaming.{Tables, takes_place, takes_buffer, live_entry, entry_after_decode, places_after_decode, decoded_by, after_decode, may_retire, idle_by, after_idle, buffers_after_gone, after_gone}
 use Rattle.tss_banks.specs.Joined.{bank, joined, IsInNoOther}
 use Rattle.tss_banks.specs.Tables.{bank_of_base, BankTables, joined_tables, tables_of, with_tables, HasBank, EntriesInBanks, NamesInBanks, AreBankTables, IsRowOfTables, IsRowOfEntries}
-use Rattle.tss_banks.proofs.JoinedLemmas.{joined_insert, joined_remove, joined_unchanged, same_list, each_set, apart_inserted, apart_removed}
+use Rattle.tss_banks.proofs.JoinedLemmas.{joined_insert, joined_remove, joined_unchanged, same_banks, each_set, apart_inserted, apart_removed}
 use Rattle.tss_banks.proofs.BankCounts.{alone_base, entry_in_bank}
 
 -- ---- entries of one bank are changed
@@ -63,8 +63,8 @@ module _ (ms : List (Named ℕ)) (s : NamesInBanks ms) (b : ℕ) (within : b < l
 
   names_unchanged : IsNamesRow (joined ms) (bank ms b)
   names_unchanged = record {
-    part = sym (joined_unchanged name_order ms b within);
-    banks = subst NamesInBanks (sym (same_list name_order ms b within)) s;
+    part = sym (joined_unchanged ms b);
+    banks = subst NamesInBanks (sym (same_banks ms b)) s;
   }
 
   names_inserted : (v : OpName) → IsInNoOther ms b v → IsNamesRow (insert (joined ms) v b) (insert (bank ms b) v b)
@@ -129,10 +129,13 @@ module _ (sizes : Sizes) (t : BankTables) (s : AreBankTables sizes t) (o : OpNam
   decoded_base None at = refl
   decoded_base (Some e) at = live_base e operand.mode ∙ s.entries.base own_bank operand.object.base e at
 
-  decoded_row : (e : Option Entry) → get (bank t.entries own_bank) operand.object.base ≡ e
-      → IsRowOfTables sizes t own_bank (decoded_by (joined_tables t) o operand own_bank e)
-      (decoded_by (tables_of t own_bank) o operand own_bank e)
-  decoded_row e at =
+  -- by the entry that the bank has
+  pub decoded_in_bank : (e : Option Entry)
+      → get (bank t.entries (bank_of sizes operand.object)) operand.object.base ≡ e
+      → IsRowOfTables sizes t (bank_of sizes operand.object)
+      (decoded_by (joined_tables t) o operand (bank_of sizes operand.object) e)
+      (decoded_by (tables_of t (bank_of sizes operand.object)) o operand (bank_of sizes operand.object) e)
+  decoded_in_bank e at =
       let places = names_taken t.places s.places own_bank has.places o new_place (takes_place e operand.mode) in
       let buffers = names_taken t.buffers s.buffers own_bank has.buffers o new_buffer (takes_buffer e operand.mode) in
       record {
@@ -152,7 +155,7 @@ module _ (sizes : Sizes) (t : BankTables) (s : AreBankTables sizes t) (o : OpNam
         };
       }
 
-  -- a decode takes a name of no other bank
+  -- a decode, which takes names of no other bank
   pub decode_in_bank : IsRowOfTables sizes t (bank_of sizes operand.object)
       (after_decode sizes (joined_tables t) o operand)
       (after_decode sizes (tables_of t (bank_of sizes operand.object)) o operand)
@@ -161,7 +164,7 @@ module _ (sizes : Sizes) (t : BankTables) (s : AreBankTables sizes t) (o : OpNam
       (λ e. IsRowOfTables sizes t own_bank (decoded_by (joined_tables t) o operand own_bank e)
       (after_decode sizes (tables_of t own_bank) o operand))
       (sym (entry_in_bank sizes t.entries s.entries operand.object.base))
-      (decoded_row (get (bank t.entries own_bank) operand.object.base) refl)
+      (decoded_in_bank (get (bank t.entries own_bank) operand.object.base) refl)
 
 -- ---- idle
 
@@ -174,7 +177,7 @@ module _ (sizes : Sizes) (es : List (Numbered Entry)) (s : EntriesInBanks sizes 
       → IsRowOfEntries sizes es base_bank (idle_by (joined es) v base e may)
       (idle_by (bank es base_bank) v base e may)
   idle_row None at true = record {
-    part = sym (joined_unchanged nat_order es base_bank within);
+    part = sym (joined_unchanged es base_bank);
     sent = refl;
     banks = entries_unchanged sizes es s base_bank within;
   }
@@ -187,11 +190,12 @@ module _ (sizes : Sizes) (es : List (Numbered Entry)) (s : EntriesInBanks sizes 
         (s.base base_bank base e at) refl;
   }
   idle_row e at false = record {
-    part = sym (joined_unchanged nat_order es base_bank within);
+    part = sym (joined_unchanged es base_bank);
     sent = refl;
     banks = entries_unchanged sizes es s base_bank within;
   }
 
+  -- a version asks: its base tells the bank
   pub idle_in_bank : IsRowOfEntries sizes es (bank_of_base sizes base) (after_idle (joined es) v base count)
       (after_idle (bank es (bank_of_base sizes base)) v base count)
   idle_in_bank =
@@ -216,7 +220,7 @@ module _ (sizes : Sizes) (t : BankTables) (s : AreBankTables sizes t) (v : OpNam
   gone_part true =
       sym (joined_remove nat_order t.entries gone_bank has.entries g.object.base
       (alone_base sizes t.entries s.entries g.object.base))
-  gone_part false = sym (joined_unchanged nat_order t.entries gone_bank has.entries)
+  gone_part false = sym (joined_unchanged t.entries gone_bank)
 
   gone_banks : (retired : Bool)
       → EntriesInBanks sizes (set t.entries gone_bank
