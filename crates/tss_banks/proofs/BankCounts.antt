@@ -76,7 +76,7 @@ entries_at_first sizes es none = record {
 -- banks without a name
 pub names_at_first : (ms : List (Named ℕ)) → ((i : ℕ) → bank ms i ≡ empty) → NamesInBanks ms
 names_at_first ms none = record {
-  apart = apart_empties name_order ms none;
+  apart = apart_empties ms none;
   own = λ b k n there. absurd (in_no_empty ms none b k n there);
 }
 

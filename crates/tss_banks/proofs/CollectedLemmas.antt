@@ -4,9 +4,10 @@ use Rattle.std.specs.declared.cmp.Ordering.{Ordering}
 use Rattle.std.specs.Ordering.{eq_by_cmp}
 use Rattle.std.specs.FinMap.{FinMap, empty, get, insert, remove, entries, get-entries, get-empty}
 use Rattle.std.specs.FinMap.Entries.{find}
+use Rattle.std.proofs.lemmas.Option.{none-some}
 use Rattle.tss_maps.proofs.Keys.{IsKeyOrder, decide_key, same_key, other_key}
 use Rattle.tss_maps.proofs.Changes.{same_by_get, same_at_key, at_inserted, beside_inserted, at_removed, beside_removed, absent_removed}
-use Rattle.tss_banks.specs.Joined.{bank, joined, AreApart}
+use Rattle.tss_banks.specs.Joined.{bank, joined, AreApart, HaveKeysOf}
 use Rattle.tss_banks.specs.Collected.{answers_in, collected, with_at}
 use Rattle.tss_banks.proofs.JoinedLemmas.{option_first, get-joined_nil, get-joined_cons, absent_in_joined, apart_rest, apart_first}
 
@@ -130,6 +131,16 @@ module _ {K X Y : Type 0} {R : K → K → Ordering} (order : IsKeyOrder R) (f :
   bank-collected [] b = sym (collected-empty order f)
   bank-collected (m ∷ ms) zero = refl
   bank-collected (m ∷ ms) (suc b) = bank-collected ms b
+
+  from_answer : (k : K) (o : Option X) (y : Y) → option_and_then (f k) o ≡ Some y → (x : X) × (o ≡ Some x)
+  from_answer k None y e = absurd (none-some y e)
+  from_answer k (Some x) y e = (x, refl)
+
+  -- under some of the keys
+  pub keys_of_collected : (ms : List (FinMap R X)) → HaveKeysOf (map (collected f) ms) ms
+  keys_of_collected ms i k y e =
+      from_answer k (get (bank ms i) k) y
+      (sym (get-collected order f (bank ms i) k) ∙ ap (λ m. get m k) (sym (bank-collected ms i)) ∙ e)
 
   -- at a key of one of two at most
   and_then_first : (k : K) (a b : Option X) → ((x : X) → a ≡ Some x → b ≡ None)

@@ -10,7 +10,7 @@ use Rattle.std.proofs.lemmas.List.{get_or-set_same, get_or-set_other, get_or_pas
 use Rattle.std.proofs.lemmas.Bool.{cases_lt}
 use Rattle.tss_maps.proofs.Keys.{IsKeyOrder, nat_order, decide_key}
 use Rattle.tss_maps.proofs.Changes.{decide_get, same_by_get, same_at_key, at_inserted, beside_inserted, at_removed, beside_removed, from_inserted, from_removed}
-use Rattle.tss_banks.specs.Joined.{bank, joined, AreApart, IsInNoOther}
+use Rattle.tss_banks.specs.Joined.{bank, joined, AreApart, IsInNoOther, HaveKeysOf}
 
 -- the first of two values, where it is there
 abbrev pub option_first : {X : Type 0} → Option X → Option X → Option X
@@ -61,12 +61,16 @@ module _ {K X : Type 0} {R : K → K → Ordering} where
       → get (bank ms i) k ≡ Some x → ⊥
   in_no_empty ms none i k x e = none-some x (sym (get-empty R k) ∙ ap (λ m. get m k) (sym (none i)) ∙ e)
 
+  -- and so they are apart
+  pub apart_empties : (ms : List (FinMap R X)) → ((i : ℕ) → bank ms i ≡ empty) → AreApart ms
+  apart_empties ms none i j k x y e f = absurd (in_no_empty ms none i k x e)
+
   -- a bank by its place in the list
   pub bank_at : (ms : List (FinMap R X)) (b : ℕ) (m : FinMap R X) → slice_get ms b ≡ Some m
       → (b < length ms) × (bank ms b ≡ m)
   bank_at ms b m e = (slice_get_within ms b m e, get_or_from_slice_get ms b m empty e)
 
-  -- ---- a bank's map is written
+  -- ---- a bank of a written list
 
   module _ (ms : List (FinMap R X)) (b : ℕ) (n : FinMap R X) where
     -- that bank has it
@@ -114,6 +118,55 @@ module _ {K X : Type 0} {R : K → K → Ordering} where
   apart_first m ms apart k x e i = elim (decide_get (bank ms i) k) [
     | inl none ↦ none
     | inr there ↦ absurd (zero_suc i (apart zero (suc i) k x there.0 e there.1))
+  ]
+
+  -- ---- one bank's map is written
+
+  module _ (ms : List (FinMap R X)) (b : ℕ) (within : b < length ms) where
+    -- what holds of each entry by its bank holds after a write of one bank, where it holds of the new map's
+    pub each_set : (Q : ℕ → K → X → Type 0) (n : FinMap R X)
+        → ((i : ℕ) (k : K) (x : X) → get (bank ms i) k ≡ Some x → Q i k x)
+        → ((k : K) (x : X) → get n k ≡ Some x → Q b k x)
+        → (i : ℕ) (k : K) (x : X) → get (bank (set ms b n) i) k ≡ Some x → Q i k x
+    each_set Q n before new i k x e = elim (decide_key nat_order i b) [
+      | inl is ↦
+          subst (λ i. Q i k x) (sym is)
+          (new k x
+          (ap (λ m. get m k) (sym (bank_set ms b n within)) ∙ ap (λ i. get (bank (set ms b n) i) k) (sym is) ∙ e))
+      | inr other ↦ before i k x (ap (λ m. get m k) (sym (bank_set_beside ms b n i other)) ∙ e)
+    ]
+
+    -- banks stay apart where each key of the new map is in no other bank
+    pub apart_set : AreApart ms → (n : FinMap R X) → ((k : K) (x : X) → get n k ≡ Some x → IsInNoOther ms b k)
+        → AreApart (set ms b n)
+    apart_set apart n only i j k x y e f = by (decide_key nat_order i b) (decide_key nat_order j b)
+      where
+        -- what the bank has
+        own : (i : ℕ) → i ≡ b → (x : X) → get (bank (set ms b n) i) k ≡ Some x → get n k ≡ Some x
+        own i is x e =
+            ap (λ m. get m k) (sym (bank_set ms b n within)) ∙ ap (λ i. get (bank (set ms b n) i) k) (sym is) ∙ e
+
+        -- what another has
+        others : (i : ℕ) → i ≢ b → (x : X) → get (bank (set ms b n) i) k ≡ Some x → get (bank ms i) k ≡ Some x
+        others i other x e = ap (λ m. get m k) (sym (bank_set_beside ms b n i other)) ∙ e
+
+        by : (i ≡ b) ⊎ (i ≢ b) → (j ≡ b) ⊎ (j ≢ b) → i ≡ j
+        by (inl p) (inl q) = p ∙ sym q
+        by (inl p) (inr q) = absurd (none-some y (sym (only k x (own i p x e) j q) ∙ others j q y f))
+        by (inr p) (inl q) = absurd (none-some x (sym (only k y (own j q y f) i p) ∙ others i p x e))
+        by (inr p) (inr q) = apart i j k x y (others i p x e) (others j q y f)
+
+module _ {K X Y : Type 0} {R : K → K → Ordering} (ms : List (FinMap R X)) (ns : List (FinMap R Y))
+    (have : HaveKeysOf ms ns) where
+  -- banks whose keys are those of banks that are apart are apart
+  pub apart_within : AreApart ns → AreApart ms
+  apart_within apart i j k x y e f = apart i j k (have i k x e).0 (have j k y f).0 (have i k x e).1 (have j k y f).1
+
+  -- and a key of no other bank there is in no other here
+  pub alone_within : (b : ℕ) (k : K) → IsInNoOther ns b k → IsInNoOther ms b k
+  alone_within b k only i other = elim (decide_get (bank ms i) k) [
+    | inl none ↦ none
+    | inr there ↦ let t = have i k there.0 there.1 in absurd (none-some t.0 (sym (only i other) ∙ t.1))
   ]
 
 module _ {K X : Type 0} {R : K → K → Ordering} (order : IsKeyOrder R) where
@@ -233,10 +286,6 @@ module _ {K X : Type 0} {R : K → K → Ordering} (order : IsKeyOrder R) where
       same_by_get order _ _ (λ k.
       absent_in_joined ms k (λ i. ap (λ m. get m k) (none i) ∙ get-empty R k) ∙ sym (get-empty R k))
 
-  -- and are apart
-  pub apart_empties : (ms : List (FinMap R X)) → ((i : ℕ) → bank ms i ≡ empty) → AreApart ms
-  apart_empties ms none i j k x y e f = absurd (in_no_empty ms none i k x e)
-
   -- ---- a bank's map is written
 
   module _ (ms : List (FinMap R X)) (b : ℕ) (within : b < length ms) where
@@ -281,19 +330,6 @@ module _ {K X : Type 0} {R : K → K → Ordering} (order : IsKeyOrder R) where
         beside_joined_set (remove (bank ms b) k) q (beside_removed order (bank ms b) k q apart)
         ∙ sym (beside_removed order (joined ms) k q apart))
 
-    -- what holds of each entry by its bank holds after a write of one bank, where it holds of the new map's
-    pub each_set : (Q : ℕ → K → X → Type 0) (n : FinMap R X)
-        → ((i : ℕ) (k : K) (x : X) → get (bank ms i) k ≡ Some x → Q i k x)
-        → ((k : K) (x : X) → get n k ≡ Some x → Q b k x)
-        → (i : ℕ) (k : K) (x : X) → get (bank (set ms b n) i) k ≡ Some x → Q i k x
-    each_set Q n before new i k x e = elim (decide_key nat_order i b) [
-      | inl is ↦
-          subst (λ i. Q i k x) (sym is)
-          (new k x
-          (ap (λ m. get m k) (sym (bank_set ms b n within)) ∙ ap (λ i. get (bank (set ms b n) i) k) (sym is) ∙ e))
-      | inr other ↦ before i k x (ap (λ m. get m k) (sym (bank_set_beside ms b n i other)) ∙ e)
-    ]
-
     module _ (apart : AreApart ms) where
       -- a change that agrees with the old map at each key of another bank is one of the joined map. Each key is in
       -- another bank, or has what the joined map of the new banks has
@@ -305,29 +341,9 @@ module _ {K X : Type 0} {R : K → K → Ordering} (order : IsKeyOrder R) where
         | inr other ↦ (beyond k other).1 ∙ sym (beside_joined_set n k (beyond k other).0)
       ])
 
-      -- banks stay apart where each key of the new map is in no other bank
-      pub apart_set : (n : FinMap R X) → ((k : K) (x : X) → get n k ≡ Some x → IsInNoOther ms b k)
-          → AreApart (set ms b n)
-      apart_set n only i j k x y e f = by (decide_key nat_order i b) (decide_key nat_order j b)
-        where
-          -- what the bank has
-          own : (i : ℕ) → i ≡ b → (x : X) → get (bank (set ms b n) i) k ≡ Some x → get n k ≡ Some x
-          own i is x e =
-              ap (λ m. get m k) (sym (bank_set ms b n within)) ∙ ap (λ i. get (bank (set ms b n) i) k) (sym is) ∙ e
-
-          -- what another has
-          others : (i : ℕ) → i ≢ b → (x : X) → get (bank (set ms b n) i) k ≡ Some x → get (bank ms i) k ≡ Some x
-          others i other x e = ap (λ m. get m k) (sym (bank_set_beside ms b n i other)) ∙ e
-
-          by : (i ≡ b) ⊎ (i ≢ b) → (j ≡ b) ⊎ (j ≢ b) → i ≡ j
-          by (inl p) (inl q) = p ∙ sym q
-          by (inl p) (inr q) = absurd (none-some y (sym (only k x (own i p x e) j q) ∙ others j q y f))
-          by (inr p) (inl q) = absurd (none-some x (sym (only k y (own j q y f) i p) ∙ others i p x e))
-          by (inr p) (inr q) = apart i j k x y (others i p x e) (others j q y f)
-
       -- after an insertion of a key that is in no other bank
       pub apart_inserted : (k : K) (v : X) → IsInNoOther ms b k → AreApart (set ms b (insert (bank ms b) k v))
-      apart_inserted k v only = apart_set (insert (bank ms b) k v) (λ q x e.
+      apart_inserted k v only = apart_set ms b within apart (insert (bank ms b) k v) (λ q x e.
           elim (from_inserted order (bank ms b) k v q x e) [
             | inl new ↦ subst (IsInNoOther ms b) (sym new.0) only
             | inr old ↦ alone_there ms apart b q x old.1
@@ -335,5 +351,5 @@ module _ {K X : Type 0} {R : K → K → Ordering} (order : IsKeyOrder R) where
 
       -- after a removal
       pub apart_removed : (k : K) → AreApart (set ms b (remove (bank ms b) k))
-      apart_removed k = apart_set (remove (bank ms b) k) (λ q x e.
+      apart_removed k = apart_set ms b within apart (remove (bank ms b) k) (λ q x e.
           alone_there ms apart b q x (from_removed order (bank ms b) k q x e).1)

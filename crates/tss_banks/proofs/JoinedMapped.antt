@@ -7,8 +7,8 @@ use Rattle.tss_maps.specs.Mapped.{mapped}
 use Rattle.tss_maps.proofs.Keys.{IsKeyOrder}
 use Rattle.tss_maps.proofs.Changes.{same_by_get}
 use Rattle.tss_maps.proofs.MappedLemmas.{get-mapped, len-mapped, mapped-empty}
-use Rattle.tss_banks.specs.Joined.{bank, joined, AreApart, IsInNoOther, numbered, AreNumbered}
-use Rattle.tss_banks.proofs.JoinedLemmas.{option_first, get-joined_nil, get-joined_cons}
+use Rattle.tss_banks.specs.Joined.{bank, joined, AreApart, IsInNoOther, HaveKeysOf, numbered, AreNumbered}
+use Rattle.tss_banks.proofs.JoinedLemmas.{option_first, apart_within, alone_within, get-joined_nil, get-joined_cons}
 
 -- what a function is of a value that is there
 pub from_option_map : {X Y : Type 0} (f : X → Y) (o : Option X) (y : Y) → option_map f o ≡ Some y
@@ -40,14 +40,20 @@ module _ {K X Y : Type 0} {R : K → K → Ordering} (order : IsKeyOrder R) (f :
   pub mapped-joined : (ms : List (FinMap R X)) → mapped f (joined ms) ≡ joined (map (mapped f) ms)
   mapped-joined ms = same_by_get order _ _ (λ k. get-mapped f (joined ms) k ∙ get-mapped_joined ms k)
 
-  -- banks that are apart stay so
+  -- under the same keys
+  pub keys_of_mapped : (ms : List (FinMap R X)) → HaveKeysOf (map (mapped f) ms) ms
+  keys_of_mapped ms i k y e =
+      from_option_map f (get (bank ms i) k) y
+      (sym (get-mapped f (bank ms i) k) ∙ ap (λ m. get m k) (sym (bank-mapped ms i)) ∙ e)
+
+  -- so banks that are apart stay so
   pub apart_mapped : (ms : List (FinMap R X)) → AreApart ms → AreApart (map (mapped f) ms)
-  apart_mapped ms apart i j k x y e g =
-      let a = from_option_map f (get (bank ms i) k) x
-      (sym (get-mapped f (bank ms i) k) ∙ ap (λ m. get m k) (sym (bank-mapped ms i)) ∙ e) in
-      let b = from_option_map f (get (bank ms j) k) y
-      (sym (get-mapped f (bank ms j) k) ∙ ap (λ m. get m k) (sym (bank-mapped ms j)) ∙ g) in
-      apart i j k a.0 b.0 a.1 b.1
+  apart_mapped ms apart = apart_within (map (mapped f) ms) ms (keys_of_mapped ms) apart
+
+  -- and a key of no other bank is in no other
+  pub alone_mapped : (ms : List (FinMap R X)) (b : ℕ) (k : K) → IsInNoOther ms b k
+      → IsInNoOther (map (mapped f) ms) b k
+  alone_mapped ms b k only = alone_within (map (mapped f) ms) ms (keys_of_mapped ms) b k only
 
 plus_zero : (n : ℕ) → n ≡ n + zero
 plus_zero n = omega arith
@@ -99,25 +105,22 @@ module _ {K X : Type 0} {R : K → K → Ordering} (order : IsKeyOrder R) where
     pub get-numbered : (b : ℕ) (k : K) → get (bank (numbered 0 ms) b) k ≡ option_map (λ x. b) (get (bank ms b) k)
     get-numbered b k = ap (λ m. get m k) (bank-numbered_zero ms b) ∙ get-mapped (λ x. b) (bank ms b) k
 
-    from_numbered : (b : ℕ) (k : K) (n : ℕ) → get (bank (numbered 0 ms) b) k ≡ Some n
-        → (x : X) × (get (bank ms b) k ≡ Some x)
-    from_numbered b k n e = from_option_map (λ x. b) (get (bank ms b) k) n (sym (get-numbered b k) ∙ e)
+    -- under the same keys
+    pub keys_of_numbered : HaveKeysOf (numbered 0 ms) ms
+    keys_of_numbered b k n e = from_option_map (λ x. b) (get (bank ms b) k) n (sym (get-numbered b k) ∙ e)
 
-    -- banks that are apart stay so
+    -- so banks that are apart stay so
     pub apart_numbered : AreApart ms → AreApart (numbered 0 ms)
-    apart_numbered apart i j k x y e g =
-        let a = from_numbered i k x e in
-        let b = from_numbered j k y g in
-        apart i j k a.0 b.0 a.1 b.1
+    apart_numbered apart = apart_within (numbered 0 ms) ms keys_of_numbered apart
 
-    -- a key that is in no other bank is in none
+    -- and a key of no other bank is in no other
     pub alone_numbered : (b : ℕ) (k : K) → IsInNoOther ms b k → IsInNoOther (numbered 0 ms) b k
-    alone_numbered b k only i apart = get-numbered i k ∙ ap (option_map (λ (x : X). i)) (only i apart)
+    alone_numbered b k only = alone_within (numbered 0 ms) ms keys_of_numbered b k only
 
     -- each value is the number of its bank
     pub are_numbered : AreNumbered (numbered 0 ms)
     are_numbered b k n e =
-        let t = from_numbered b k n e in
+        let t = keys_of_numbered b k n e in
         same_Some n b (sym e ∙ get-numbered b k ∙ ap (option_map (λ (x : X). b)) t.1)
 
     -- a bank has as many entries

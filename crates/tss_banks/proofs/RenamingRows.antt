@@ -27,12 +27,12 @@ module _ (sizes : Sizes) (es : List (Numbered Entry)) (s : EntriesInBanks sizes 
     entries_inserted : (base : ℕ) (x : Entry) → x.object.base ≡ base → bank_of_base sizes base ≡ b
         → EntriesInBanks sizes (set es b (insert (bank es b) base x))
     entries_inserted base x at of_bank = record {
-      base = each_set nat_order es b within (λ i k e. e.object.base ≡ k) (insert (bank es b) base x) s.base
+      base = each_set es b within (λ i k e. e.object.base ≡ k) (insert (bank es b) base x) s.base
           (λ k e there. elim (from_inserted nat_order (bank es b) base x k e there) [
             | inl new ↦ ap (λ (e : Entry). e.object.base) new.1 ∙ at ∙ sym new.0
             | inr old ↦ s.base b k e old.1
           ]);
-      own = each_set nat_order es b within (λ i k e. bank_of sizes e.object ≡ i) (insert (bank es b) base x) s.own
+      own = each_set es b within (λ i k e. bank_of sizes e.object ≡ i) (insert (bank es b) base x) s.own
           (λ k e there. elim (from_inserted nat_order (bank es b) base x k e there) [
             | inl new ↦ ap (λ (e : Entry). bank_of sizes e.object) new.1 ∙ ap (bank_of_base sizes) at ∙ of_bank
             | inr old ↦ s.own b k e old.1
@@ -41,15 +41,15 @@ module _ (sizes : Sizes) (es : List (Numbered Entry)) (s : EntriesInBanks sizes 
 
     entries_unchanged : EntriesInBanks sizes (set es b (bank es b))
     entries_unchanged = record {
-      base = each_set nat_order es b within (λ i k e. e.object.base ≡ k) (bank es b) s.base (s.base b);
-      own = each_set nat_order es b within (λ i k e. bank_of sizes e.object ≡ i) (bank es b) s.own (s.own b);
+      base = each_set es b within (λ i k e. e.object.base ≡ k) (bank es b) s.base (s.base b);
+      own = each_set es b within (λ i k e. bank_of sizes e.object ≡ i) (bank es b) s.own (s.own b);
     }
 
     entries_removed : (base : ℕ) → EntriesInBanks sizes (set es b (remove (bank es b) base))
     entries_removed base = record {
-      base = each_set nat_order es b within (λ i k e. e.object.base ≡ k) (remove (bank es b) base) s.base
+      base = each_set es b within (λ i k e. e.object.base ≡ k) (remove (bank es b) base) s.base
           (λ k e there. s.base b k e (from_removed nat_order (bank es b) base k e there).1);
-      own = each_set nat_order es b within (λ i k e. bank_of sizes e.object ≡ i) (remove (bank es b) base) s.own
+      own = each_set es b within (λ i k e. bank_of sizes e.object ≡ i) (remove (bank es b) base) s.own
           (λ k e there. s.own b k e (from_removed nat_order (bank es b) base k e there).1);
     }
 
@@ -72,7 +72,7 @@ module _ (ms : List (Named ℕ)) (s : NamesInBanks ms) (b : ℕ) (within : b < l
     part = sym (joined_insert name_order ms b within v b only);
     banks = record {
       apart = apart_inserted name_order ms b within s.apart v b only;
-      own = each_set name_order ms b within (λ i k n. n ≡ i) (insert (bank ms b) v b) s.own
+      own = each_set ms b within (λ i k n. n ≡ i) (insert (bank ms b) v b) s.own
           (λ k n there. elim (from_inserted name_order (bank ms b) v b k n there) [
             | inl new ↦ new.1
             | inr old ↦ s.own b k n old.1
@@ -85,7 +85,7 @@ module _ (ms : List (Named ℕ)) (s : NamesInBanks ms) (b : ℕ) (within : b < l
     part = sym (joined_remove name_order ms b within v only);
     banks = record {
       apart = apart_removed name_order ms b within s.apart v;
-      own = each_set name_order ms b within (λ i k n. n ≡ i) (remove (bank ms b) v) s.own
+      own = each_set ms b within (λ i k n. n ≡ i) (remove (bank ms b) v) s.own
           (λ k n there. s.own b k n (from_removed name_order (bank ms b) v k n there).1);
     };
   }

@@ -22,7 +22,7 @@ use Rattle.tss_banks.proofs.AlikeRows.{alike_open, alike_use, alike_release, ali
 pub versions_at_first : (sizes : Sizes) (ms : List (Named Version)) → ((i : ℕ) → bank ms i ≡ empty)
     → VersionsInBanks sizes ms
 versions_at_first sizes ms none = record {
-  apart = apart_empties name_order ms none;
+  apart = apart_empties ms none;
   own = λ b v x there. absurd (in_no_empty ms none b v x there);
 }
 
@@ -95,8 +95,8 @@ module _ (sizes : Sizes) (ms : List (Named Version)) (s : VersionsInBanks sizes 
             (λ q out. (r.part.beyond_own q out, r.part.beyond_all q out));
         sent = r.sent;
         banks = record {
-          apart = apart_set name_order ms b within s.apart e.part left_alone;
-          own = each_set name_order ms b within (λ i q x. bank_of sizes x.object ≡ i) e.part s.own
+          apart = apart_set ms b within s.apart e.part left_alone;
+          own = each_set ms b within (λ i q x. bank_of sizes x.object ≡ i) e.part s.own
               (λ q x there. (r.part.of_kind q x (left_alone q x there) there).object);
         };
         links = λ q x there.

@@ -22,6 +22,11 @@ AreApart {K} {X} ms =
 abbrev pub IsInNoOther : {K X : Type 0} {R : K → K → Ordering} → List (FinMap R X) → ℕ → K → Type 0
 IsInNoOther ms b k = (i : ℕ) → i ≢ b → get (bank ms i) k ≡ None
 
+-- each bank has a key only where the same bank of others has it
+abbrev pub HaveKeysOf : {K X Y : Type 0} {R : K → K → Ordering} → List (FinMap R X) → List (FinMap R Y) → Type 0
+HaveKeysOf {K} {X} {Y} ms ns =
+    (i : ℕ) (k : K) (x : X) → get (bank ms i) k ≡ Some x → (y : Y) × (get (bank ns i) k ≡ Some y)
+
 -- the banks' maps with the numbers of the banks, from the first one's, in the place of all values
 abbrev pub numbered : {K X : Type 0} {R : K → K → Ordering} → ℕ → List (FinMap R X) → List (FinMap R ℕ)
 numbered n [] = []
