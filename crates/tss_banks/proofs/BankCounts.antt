@@ -1,5 +1,5 @@
 -- What a bank has in use, and what a decode waits for, by the bank's own tables.
-use Rattle.std.proofs.Common.{◌≡◌, ◌≢◌, ◌<◌, mod-lt, ℕ, ◌==◌, ◌/◌, true, false, List, Some, is_none, sym, ap, ◌∙◌, arith, inl, inr}
+use Rattle.std.proofs.Common.{refl, ◌≡◌, ◌≢◌, ◌<◌, mod-lt, ℕ, ◌==◌, ◌/◌, true, false, List, Some, is_none, sym, ap, ◌∙◌, arith, inl, inr, zero, suc, [], ◌∷◌, map, get_or, subst}
 use Rattle.std.specs.FinMap.{empty, get, len}
 use Rattle.std.proofs.lemmas.Bool.Decides.{nat_tests}
 use Rattle.tss_base.specs.declared.bounds.TheConstants.{BANK_BYTES}
@@ -12,10 +12,10 @@ use Rattle.tss_maps.proofs.Changes.{decide_get}
 use Rattle.tss_maps.proofs.Sums.{count_all}
 use Rattle.tss_protocol.specs.Names.{bank_of}
 use Rattle.tss_protocol.specs.State.{Entry}
-use Rattle.tss_protocol.specs.Renaming.{entries_in, places_in, buffers_in, fill_of, line_of, bank_wait, operand_wait, can_decode}
+use Rattle.tss_protocol.specs.Renaming.{Tables, entries_in, places_in, buffers_in, fill_of, line_of, bank_wait, operand_wait, can_decode}
 use Rattle.tss_protocol.specs.Counts.{greatest}
 use Rattle.tss_banks.specs.Joined.{bank, joined, AreApart, IsInNoOther, numbered}
-use Rattle.tss_banks.specs.Tables.{bank_of_base, BankTables, joined_tables, tables_of, EntriesInBanks, NamesInBanks, AreBankTables, own_fill}
+use Rattle.tss_banks.specs.Tables.{bank_of_base, no_tables, tables_at, entries_of, places_of, buffers_of, joined_tables, EntriesInBanks, NamesInBanks, AreBankTables, own_fill}
 use Rattle.tss_banks.proofs.JoinedLemmas.{in_no_empty, alone_there, joined_somewhere, get-joined, apart_empties}
 use Rattle.tss_banks.proofs.JoinedSums.{count_in_bank}
 use Rattle.tss_banks.proofs.JoinedMapped.{apart_numbered, are_numbered}
@@ -27,6 +27,13 @@ same_number a b e = grind (arith, nat_tests)
 
 other_number : (a b : ℕ) → a ≢ b → (a == b) ≡ false
 other_number a b e = grind (arith, nat_tests)
+
+-- a part of the one at a place, where past the end it is that of the default
+pub get_or-part : {X Y : Type 0} (f : X → Y) (d : X) (xs : List X) (i : ℕ)
+    → get_or (map f xs) i (f d) ≡ f (get_or xs i d)
+get_or-part f d [] i = refl
+get_or-part f d (x ∷ xs) zero = refl
+get_or-part f d (x ∷ xs) (suc i) = get_or-part f d xs i
 
 module _ (sizes : Sizes) (es : List (Numbered Entry)) (s : EntriesInBanks sizes es) where
   -- the bank of an entry is that of its key
@@ -127,48 +134,82 @@ pub most_buffers : (ms : List (Named ℕ)) → NamesInBanks ms → (n : ℕ)
     → greatest (λ b. buffers_in b (joined ms)) n ≡ greatest (λ b. len (bank ms b)) n
 most_buffers ms s n = λ i. greatest (λ b. buffers_in_bank ms s b i) n
 
-module _ (sizes : Sizes) (t : BankTables) (s : AreBankTables sizes t) where
+-- ---- lists of tables
+
+module _ (ts : List Tables) (b : ℕ) where
+  -- the entries of a bank
+  pub bank-entries : bank (entries_of ts) b ≡ (tables_at ts b).entries
+  bank-entries = get_or-part (λ (t : Tables). t.entries) no_tables ts b
+
+  -- its places
+  pub bank-places : bank (places_of ts) b ≡ (tables_at ts b).places
+  bank-places = get_or-part (λ (t : Tables). t.places) no_tables ts b
+
+  -- its buffers
+  pub bank-buffers : bank (buffers_of ts) b ≡ (tables_at ts b).buffers
+  bank-buffers = get_or-part (λ (t : Tables). t.buffers) no_tables ts b
+
+module _ (sizes : Sizes) (ts : List Tables) (s : AreBankTables sizes ts) where
   -- what a bank has in use of all tables is what its own tables have
-  pub fill_in_bank : (b : ℕ) → fill_of sizes (joined_tables t) b ≡ own_fill t b
+  pub fill_in_bank : (b : ℕ) → fill_of sizes (joined_tables ts) b ≡ own_fill (tables_at ts b)
   fill_in_bank b = λ i. record {
-    entries = entries_in_bank sizes t.entries s.entries b i;
-    places = places_in_bank t.places s.places b i;
-    buffers = buffers_in_bank t.buffers s.buffers b i;
+    entries = (entries_in_bank sizes (entries_of ts) s.entries b ∙ ap len (bank-entries ts b)) i;
+    places = (places_in_bank (places_of ts) s.places b ∙ ap len (bank-places ts b)) i;
+    buffers = (buffers_in_bank (buffers_of ts) s.buffers b ∙ ap len (bank-buffers ts b)) i;
   }
 
   -- the same by its own tables
-  pub fill_of_own : (b : ℕ) → fill_of sizes (tables_of t b) b ≡ own_fill t b
+  pub fill_of_own : (b : ℕ) → fill_of sizes (tables_at ts b) b ≡ own_fill (tables_at ts b)
   fill_of_own b = λ i. record {
-    entries = entries_of_own sizes t.entries s.entries b i;
-    places = places_of_own t.places s.places b i;
-    buffers = places_of_own t.buffers s.buffers b i;
+    entries =
+        subst (λ m. entries_in sizes b m ≡ len m) (bank-entries ts b)
+        (entries_of_own sizes (entries_of ts) s.entries b) i;
+    places = subst (λ m. places_in b m ≡ len m) (bank-places ts b) (places_of_own (places_of ts) s.places b) i;
+    buffers = subst (λ m. places_in b m ≡ len m) (bank-buffers ts b) (places_of_own (buffers_of ts) s.buffers b) i;
   }
 
+  -- at a base all tables have the entry that its bank has
+  pub entry_of_own : (base : ℕ)
+      → get (joined (entries_of ts)) base ≡ get (tables_at ts (bank_of_base sizes base)).entries base
+  entry_of_own base =
+      entry_in_bank sizes (entries_of ts) s.entries base
+      ∙ ap (λ m. get m base) (bank-entries ts (bank_of_base sizes base))
+
   module _ (decodes : Named Operand) (o : OpName) (operand : Operand) where
+    abbrev own : Tables
+    own = tables_at ts (bank_of sizes operand.object)
+
     -- what an operand waits for is what it waits for in its bank
-    pub wait_in_bank : operand_wait sizes (joined_tables t) decodes o operand
-        ≡ bank_wait sizes (own_fill t (bank_of sizes operand.object))
+    pub wait_in_bank : operand_wait sizes (joined_tables ts) decodes o operand
+        ≡ bank_wait sizes (own_fill (tables_at ts (bank_of sizes operand.object)))
         (line_of sizes (bank_of sizes operand.object) decodes) o
-        (get (bank t.entries (bank_of sizes operand.object)) operand.object.base) operand.mode
+        (get (tables_at ts (bank_of sizes operand.object)).entries operand.object.base) operand.mode
     wait_in_bank = λ i. bank_wait sizes (fill_in_bank (bank_of sizes operand.object) i)
-        (line_of sizes (bank_of sizes operand.object) decodes) o
-        (entry_in_bank sizes t.entries s.entries operand.object.base i) operand.mode
+        (line_of sizes (bank_of sizes operand.object) decodes) o (entry_of_own operand.object.base i) operand.mode
 
     -- the same by the bank's own tables
-    pub wait_of_own : operand_wait sizes (tables_of t (bank_of sizes operand.object)) decodes o operand
-        ≡ bank_wait sizes (own_fill t (bank_of sizes operand.object))
+    pub wait_of_own : operand_wait sizes (tables_at ts (bank_of sizes operand.object)) decodes o operand
+        ≡ bank_wait sizes (own_fill (tables_at ts (bank_of sizes operand.object)))
         (line_of sizes (bank_of sizes operand.object) decodes) o
-        (get (bank t.entries (bank_of sizes operand.object)) operand.object.base) operand.mode
+        (get (tables_at ts (bank_of sizes operand.object)).entries operand.object.base) operand.mode
     wait_of_own = λ i. bank_wait sizes (fill_of_own (bank_of sizes operand.object) i)
-        (line_of sizes (bank_of sizes operand.object) decodes) o
-        (get (bank t.entries (bank_of sizes operand.object)) operand.object.base) operand.mode
+        (line_of sizes (bank_of sizes operand.object) decodes) o (get own.entries operand.object.base) operand.mode
 
     -- so all tables and the bank's own give one wait
-    pub same_wait : operand_wait sizes (joined_tables t) decodes o operand
-        ≡ operand_wait sizes (tables_of t (bank_of sizes operand.object)) decodes o operand
+    pub same_wait : operand_wait sizes (joined_tables ts) decodes o operand
+        ≡ operand_wait sizes (tables_at ts (bank_of sizes operand.object)) decodes o operand
     same_wait = wait_in_bank ∙ sym wait_of_own
 
     -- and let a decode happen alike
-    pub can_decode_in_bank : can_decode sizes (joined_tables t) decodes o operand
-        ≡ can_decode sizes (tables_of t (bank_of sizes operand.object)) decodes o operand
+    pub can_decode_in_bank : can_decode sizes (joined_tables ts) decodes o operand
+        ≡ can_decode sizes (tables_at ts (bank_of sizes operand.object)) decodes o operand
     can_decode_in_bank = ap is_none same_wait
+
+-- banks without anything
+pub tables_at_first : (sizes : Sizes) (ts : List Tables) → ((b : ℕ) → tables_at ts b ≡ no_tables)
+    → AreBankTables sizes ts
+tables_at_first sizes ts none = record {
+  entries = entries_at_first sizes (entries_of ts) (λ b. bank-entries ts b ∙ ap (λ (t : Tables). t.entries) (none b));
+  places = names_at_first (places_of ts) (λ b. bank-places ts b ∙ ap (λ (t : Tables). t.places) (none b));
+  buffers = names_at_first (buffers_of ts) (λ b. bank-buffers ts b ∙ ap (λ (t : Tables). t.buffers) (none b));
+}

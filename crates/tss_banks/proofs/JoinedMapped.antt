@@ -64,6 +64,14 @@ plus_suc n b = omega arith
 zero_plus : (b : ℕ) → 0 + b ≡ b
 zero_plus b = omega arith
 
+-- banks that each have their own number for every value
+pub are_numbered_by : {K X : Type 0} {R : K → K → Ordering} (ns : List (FinMap R X)) (ms : List (FinMap R ℕ))
+    → ((b : ℕ) → bank ms b ≡ mapped (λ (x : X). b) (bank ns b)) → AreNumbered ms
+are_numbered_by {X = X} ns ms is b k n e =
+    let at = sym (get-mapped (λ (x : X). b) (bank ns b) k) ∙ ap (λ m. get m k) (sym (is b)) ∙ e in
+    let t = from_option_map (λ (x : X). b) (get (bank ns b) k) n at in
+    same_Some n b (sym at ∙ ap (option_map (λ (x : X). b)) t.1)
+
 module _ {K X : Type 0} {R : K → K → Ordering} (order : IsKeyOrder R) where
   -- a bank of the numbered maps
   pub bank-numbered : (n : ℕ) (ms : List (FinMap R X)) (b : ℕ)
@@ -119,9 +127,7 @@ module _ {K X : Type 0} {R : K → K → Ordering} (order : IsKeyOrder R) where
 
     -- each value is the number of its bank
     pub are_numbered : AreNumbered (numbered 0 ms)
-    are_numbered b k n e =
-        let t = keys_of_numbered b k n e in
-        same_Some n b (sym e ∙ get-numbered b k ∙ ap (option_map (λ (x : X). b)) t.1)
+    are_numbered = are_numbered_by ms (numbered 0 ms) (bank-numbered_zero ms)
 
     -- a bank has as many entries
     pub len-numbered : (b : ℕ) → len (bank (numbered 0 ms) b) ≡ len (bank ms b)

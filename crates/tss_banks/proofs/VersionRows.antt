@@ -64,6 +64,15 @@ module _ (sizes : Sizes) (ms : List (Named Version)) (s : VersionsInBanks sizes 
             same_object_alone b x f.version (s.own b v x there) (λ y e. within.successor v f x y at to e);
       }
 
+  -- a version of a bank has the neighbours there that it has among all versions
+  module _ (b : ℕ) (links : LinksIn ms b) (v : OpName) (x : Version) (there : get (bank ms b) v ≡ Some x) where
+    pub before_in_bank : (p : OpName) → x.predecessor ≡ Some p → get (joined ms) p ≡ get (bank ms b) p
+    before_in_bank p to = get-joined name_order ms b p ((links v x there).predecessor p to)
+
+    pub after_in_bank : (f : Follow) → x.successor ≡ Some f
+        → get (joined ms) f.version ≡ get (bank ms b) f.version
+    after_in_bank f to = get-joined name_order ms b f.version ((links v x there).successor f to)
+
   module _ (b : ℕ) (within : b < length ms) (links : LinksIn ms b) where
     -- the names that are in no other bank, and the objects of this one
     abbrev OwnName : OpName → Type 0
