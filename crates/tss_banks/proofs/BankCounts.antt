@@ -22,10 +22,12 @@ use Rattle.tss_banks.proofs.JoinedMapped.{apart_numbered, are_numbered}
 
 -- ---- numbers
 
-same_number : (a b : ℕ) → a ≡ b → (a == b) ≡ true
+-- equal numbers pass the test
+pub same_number : (a b : ℕ) → a ≡ b → (a == b) ≡ true
 same_number a b e = grind (arith, nat_tests)
 
-other_number : (a b : ℕ) → a ≢ b → (a == b) ≡ false
+-- other numbers don't
+pub other_number : (a b : ℕ) → a ≢ b → (a == b) ≡ false
 other_number a b e = grind (arith, nat_tests)
 
 -- a part of the one at a place, where past the end it is that of the default

@@ -125,6 +125,19 @@ module _ {K X Y : Type 0} {R : K → K → Ordering} (order : IsKeyOrder R) (f g
 
 -- ---- of joined maps
 
+from_answer : {X Y : Type 0} (g : X → Option Y) (o : Option X) (y : Y) → option_and_then g o ≡ Some y
+    → (x : X) × (o ≡ Some x)
+from_answer g None y e = absurd (none-some y e)
+from_answer g (Some x) y e = (x, refl)
+
+-- banks of what is collected of others, with a test for each bank, have some of their keys
+pub keys_of_collected_by : {K X Y : Type 0} {R : K → K → Ordering} (order : IsKeyOrder R)
+    (f : ℕ → K → X → Option Y) (ns : List (FinMap R X)) (ms : List (FinMap R Y))
+    → ((i : ℕ) → bank ms i ≡ collected (f i) (bank ns i)) → HaveKeysOf ms ns
+keys_of_collected_by order f ns ms is i k y e =
+    from_answer (f i k) (get (bank ns i) k) y
+    (sym (get-collected order (f i) (bank ns i) k) ∙ ap (λ m. get m k) (sym (is i)) ∙ e)
+
 module _ {K X Y : Type 0} {R : K → K → Ordering} (order : IsKeyOrder R) (f : K → X → Option Y) where
   -- a bank of the collected maps
   pub bank-collected : (ms : List (FinMap R X)) (b : ℕ) → bank (map (collected f) ms) b ≡ collected f (bank ms b)
@@ -132,15 +145,9 @@ module _ {K X Y : Type 0} {R : K → K → Ordering} (order : IsKeyOrder R) (f :
   bank-collected (m ∷ ms) zero = refl
   bank-collected (m ∷ ms) (suc b) = bank-collected ms b
 
-  from_answer : (k : K) (o : Option X) (y : Y) → option_and_then (f k) o ≡ Some y → (x : X) × (o ≡ Some x)
-  from_answer k None y e = absurd (none-some y e)
-  from_answer k (Some x) y e = (x, refl)
-
   -- under some of the keys
   pub keys_of_collected : (ms : List (FinMap R X)) → HaveKeysOf (map (collected f) ms) ms
-  keys_of_collected ms i k y e =
-      from_answer k (get (bank ms i) k) y
-      (sym (get-collected order f (bank ms i) k) ∙ ap (λ m. get m k) (sym (bank-collected ms i)) ∙ e)
+  keys_of_collected ms = keys_of_collected_by order (λ i. f) ms (map (collected f) ms) (bank-collected ms)
 
   -- at a key of one of two at most
   and_then_first : (k : K) (a b : Option X) → ((x : X) → a ≡ Some x → b ≡ None)

@@ -3,6 +3,7 @@ pub mod JoinedSums
 pub mod JoinedMapped
 pub mod CollectedLemmas
 pub mod BankCounts
+pub mod BankLines
 pub mod RenamingRows
 pub mod VersionsLeft
 pub mod AlikeChanges
