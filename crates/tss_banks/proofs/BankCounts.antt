@@ -1,5 +1,5 @@
 -- What a bank has in use, and what a decode waits for, by the bank's own tables.
-use Rattle.std.proofs.Common.{refl, ◌≡◌, ◌≢◌, ◌<◌, mod-lt, ℕ, ◌==◌, ◌/◌, true, false, List, Some, is_none, sym, ap, ◌∙◌, arith, inl, inr, zero, suc, [], ◌∷◌, map, get_or, subst}
+use Rattle.std.proofs.Common.{◌≡◌, ◌≢◌, ◌<◌, mod-lt, ℕ, ◌==◌, ◌/◌, true, false, List, Some, is_none, sym, ap, ◌∙◌, arith, inl, inr, subst}
 use Rattle.std.specs.FinMap.{empty, get, len}
 use Rattle.std.proofs.lemmas.Bool.Decides.{nat_tests}
 use Rattle.tss_base.specs.declared.bounds.TheConstants.{BANK_BYTES}
@@ -16,7 +16,7 @@ use Rattle.tss_protocol.specs.Renaming.{Tables, entries_in, places_in, buffers_i
 use Rattle.tss_protocol.specs.Counts.{greatest}
 use Rattle.tss_banks.specs.Joined.{bank, joined, AreApart, IsInNoOther, numbered}
 use Rattle.tss_banks.specs.Tables.{bank_of_base, no_tables, tables_at, entries_of, places_of, buffers_of, joined_tables, EntriesInBanks, NamesInBanks, AreBankTables, own_fill}
-use Rattle.tss_banks.proofs.JoinedLemmas.{in_no_empty, alone_there, joined_somewhere, get-joined, apart_empties}
+use Rattle.tss_banks.proofs.JoinedLemmas.{get_or-part, in_no_empty, alone_there, joined_somewhere, get-joined, apart_empties}
 use Rattle.tss_banks.proofs.JoinedSums.{count_in_bank}
 use Rattle.tss_banks.proofs.JoinedMapped.{apart_numbered, are_numbered}
 
@@ -29,13 +29,6 @@ same_number a b e = grind (arith, nat_tests)
 -- other numbers don't
 pub other_number : (a b : ℕ) → a ≢ b → (a == b) ≡ false
 other_number a b e = grind (arith, nat_tests)
-
--- a part of the one at a place, where past the end it is that of the default
-pub get_or-part : {X Y : Type 0} (f : X → Y) (d : X) (xs : List X) (i : ℕ)
-    → get_or (map f xs) i (f d) ≡ f (get_or xs i d)
-get_or-part f d [] i = refl
-get_or-part f d (x ∷ xs) zero = refl
-get_or-part f d (x ∷ xs) (suc i) = get_or-part f d xs i
 
 module _ (sizes : Sizes) (es : List (Numbered Entry)) (s : EntriesInBanks sizes es) where
   -- the bank of an entry is that of its key

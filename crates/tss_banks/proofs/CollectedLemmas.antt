@@ -1,5 +1,5 @@
 -- What stands at a key of a collected map, and what changes of the map or of the test make of it.
-use Rattle.std.proofs.Common.{◌≡◌, ◌≢◌, ℕ, zero, suc, cond, List, [], ◌∷◌, map, Option, Some, None, option_and_then, refl, sym, ap, ◌∙◌, inl, inr}
+use Rattle.std.proofs.Common.{get_or, ◌≡◌, ◌≢◌, ℕ, cond, List, [], ◌∷◌, map, Option, Some, None, option_and_then, refl, sym, ap, ◌∙◌, inl, inr}
 use Rattle.std.specs.declared.cmp.Ordering.{Ordering}
 use Rattle.std.specs.Ordering.{eq_by_cmp}
 use Rattle.std.specs.FinMap.{FinMap, empty, get, insert, remove, entries, get-entries, get-empty}
@@ -9,7 +9,7 @@ use Rattle.tss_maps.proofs.Keys.{IsKeyOrder, decide_key, same_key, other_key}
 use Rattle.tss_maps.proofs.Changes.{same_by_get, same_at_key, at_inserted, beside_inserted, at_removed, beside_removed, absent_removed}
 use Rattle.tss_banks.specs.Joined.{bank, joined, AreApart, HaveKeysOf}
 use Rattle.tss_banks.specs.Collected.{answers_in, collected, with_at}
-use Rattle.tss_banks.proofs.JoinedLemmas.{option_first, get-joined_nil, get-joined_cons, absent_in_joined, apart_rest, apart_first}
+use Rattle.tss_banks.proofs.JoinedLemmas.{get_or-part, option_first, get-joined_nil, get-joined_cons, absent_in_joined, apart_rest, apart_first}
 
 module _ {K Y : Type 0} {R : K → K → Ordering} (order : IsKeyOrder R) (m : FinMap R Y) (k : K) (o : Option Y) where
   at_by : (o : Option Y) → get (with_at m k o) k ≡ o
@@ -141,9 +141,8 @@ keys_of_collected_by order f ns ms is i k y e =
 module _ {K X Y : Type 0} {R : K → K → Ordering} (order : IsKeyOrder R) (f : K → X → Option Y) where
   -- a bank of the collected maps
   pub bank-collected : (ms : List (FinMap R X)) (b : ℕ) → bank (map (collected f) ms) b ≡ collected f (bank ms b)
-  bank-collected [] b = sym (collected-empty order f)
-  bank-collected (m ∷ ms) zero = refl
-  bank-collected (m ∷ ms) (suc b) = bank-collected ms b
+  bank-collected ms b =
+      ap (get_or (map (collected f) ms) b) (sym (collected-empty order f)) ∙ get_or-part (collected f) empty ms b
 
   -- under some of the keys
   pub keys_of_collected : (ms : List (FinMap R X)) → HaveKeysOf (map (collected f) ms) ms

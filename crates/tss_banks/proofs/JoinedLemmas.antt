@@ -1,5 +1,5 @@
 -- What stands at a key of joined maps, and what a change of one bank's map makes of them.
-use Rattle.std.proofs.Common.{◌≡◌, ◌≢◌, ◌⊎◌, ◌↔◌, ◌<◌, ℕ, zero, suc, true, false, cond, List, [], ◌∷◌, ◌++◌, length, set, replicate, slice_get, Option, Some, None, refl, sym, ap, ◌∙◌, subst, inl, inr, arith}
+use Rattle.std.proofs.Common.{get_or, map, ◌≡◌, ◌≢◌, ◌⊎◌, ◌↔◌, ◌<◌, ℕ, zero, suc, true, false, cond, List, [], ◌∷◌, ◌++◌, length, set, replicate, slice_get, Option, Some, None, refl, sym, ap, ◌∙◌, subst, inl, inr, arith}
 use Rattle.std.specs.List.{flat_map}
 use Rattle.std.specs.declared.cmp.Ordering.{Ordering}
 use Rattle.std.specs.Ordering.{eq_by_cmp}
@@ -16,6 +16,13 @@ use Rattle.tss_banks.specs.Joined.{bank, joined, AreApart, IsInNoOther, HaveKeys
 abbrev pub option_first : {X : Type 0} → Option X → Option X → Option X
 option_first None b = b
 option_first (Some x) b = Some x
+
+-- a part of the one at a place, where past the end it is that of the default
+pub get_or-part : {X Y : Type 0} (f : X → Y) (d : X) (xs : List X) (i : ℕ)
+    → get_or (map f xs) i (f d) ≡ f (get_or xs i d)
+get_or-part f d [] i = refl
+get_or-part f d (x ∷ xs) zero = refl
+get_or-part f d (x ∷ xs) (suc i) = get_or-part f d xs i
 
 suc_same : (i j : ℕ) → suc i ≡ suc j → i ≡ j
 suc_same i j e = omega (arith, e)

@@ -1,14 +1,14 @@
 -- Joined maps whose values are replaced: by a function, or by the numbers of the banks.
-use Rattle.std.proofs.Common.{◌≡◌, ℕ, zero, suc, ◌+◌, List, [], ◌∷◌, map, length, set, Option, Some, None, option_map, refl, sym, ap, ◌∙◌, arith}
+use Rattle.std.proofs.Common.{get_or, ◌≡◌, ℕ, zero, suc, ◌+◌, List, [], ◌∷◌, map, length, set, Option, Some, None, option_map, refl, sym, ap, ◌∙◌, arith}
 use Rattle.std.specs.declared.cmp.Ordering.{Ordering}
-use Rattle.std.specs.FinMap.{FinMap, get, len}
+use Rattle.std.specs.FinMap.{FinMap, empty, get, len}
 use Rattle.std.proofs.lemmas.Option.{none-some, same_Some}
 use Rattle.tss_maps.specs.Mapped.{mapped}
 use Rattle.tss_maps.proofs.Keys.{IsKeyOrder}
 use Rattle.tss_maps.proofs.Changes.{same_by_get}
 use Rattle.tss_maps.proofs.MappedLemmas.{get-mapped, len-mapped, mapped-empty}
 use Rattle.tss_banks.specs.Joined.{bank, joined, AreApart, IsInNoOther, HaveKeysOf, numbered, AreNumbered}
-use Rattle.tss_banks.proofs.JoinedLemmas.{option_first, apart_within, alone_within, get-joined_nil, get-joined_cons}
+use Rattle.tss_banks.proofs.JoinedLemmas.{get_or-part, option_first, apart_within, alone_within, get-joined_nil, get-joined_cons}
 
 -- what a function is of a value that is there
 pub from_option_map : {X Y : Type 0} (f : X → Y) (o : Option X) (y : Y) → option_map f o ≡ Some y
@@ -23,9 +23,8 @@ module _ {K X Y : Type 0} {R : K → K → Ordering} (order : IsKeyOrder R) (f :
 
   -- a bank of the mapped maps
   pub bank-mapped : (ms : List (FinMap R X)) (b : ℕ) → bank (map (mapped f) ms) b ≡ mapped f (bank ms b)
-  bank-mapped [] b = sym (mapped-empty order f)
-  bank-mapped (m ∷ ms) zero = refl
-  bank-mapped (m ∷ ms) (suc b) = bank-mapped ms b
+  bank-mapped ms b =
+      ap (get_or (map (mapped f) ms) b) (sym (mapped-empty order f)) ∙ get_or-part (mapped f) empty ms b
 
   get-mapped_joined : (ms : List (FinMap R X)) (k : K)
       → option_map f (get (joined ms) k) ≡ get (joined (map (mapped f) ms)) k

@@ -17,8 +17,8 @@ use Rattle.tss_protocol.specs.State.{Entry, Outcome}
 use Rattle.tss_protocol.specs.Renaming.{buffers_after_decode, Tables, takes_place, takes_buffer, live_entry, entry_after_decode, places_after_decode, decoded_by, after_decode, may_retire, idle_by, after_idle, buffers_after_gone, after_gone}
 use Rattle.tss_banks.specs.Joined.{bank, joined, IsInNoOther}
 use Rattle.tss_banks.specs.Tables.{bank_of_base, no_tables, tables_at, entries_of, places_of, buffers_of, joined_tables, EntriesInBanks, NamesInBanks, AreBankTables, on_entries, silent, IsRowOfTables}
-use Rattle.tss_banks.proofs.JoinedLemmas.{joined_insert, joined_remove, joined_unchanged, same_banks, each_set, apart_inserted, apart_removed}
-use Rattle.tss_banks.proofs.BankCounts.{alone_base, get_or-part, bank-entries, entry_of_own}
+use Rattle.tss_banks.proofs.JoinedLemmas.{get_or-part, joined_insert, joined_remove, joined_unchanged, same_banks, each_set, apart_inserted, apart_removed}
+use Rattle.tss_banks.proofs.BankCounts.{alone_base, bank-entries, entry_of_own}
 
 -- ---- entries of one bank are changed
 
