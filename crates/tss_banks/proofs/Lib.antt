@@ -1,0 +1,11 @@
+pub mod JoinedLemmas
+pub mod JoinedSums
+pub mod JoinedMapped
+pub mod CollectedLemmas
+pub mod BankCounts
+pub mod BankLines
+pub mod RenamingRows
+pub mod VersionsLeft
+pub mod AlikeChanges
+pub mod AlikeRows
+pub mod VersionRows

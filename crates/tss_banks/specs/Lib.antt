@@ -1,0 +1,4 @@
+pub mod Joined
+pub mod Collected
+pub mod Tables
+pub mod Versions
