@@ -1,0 +1,21 @@
+-- What the laws know of a reached state: the facts of the run that leaves it.
+use Rattle.std.proofs.Common.{[], ◌∷◌, ◌++◌}
+use Rattle.tss_base.specs.declared.machine.Machine.{Machine}
+use Rattle.tss_base.specs.Image.{ImageState}
+use Rattle.tss_protocol.specs.State.{State, initial_state}
+use Rattle.tss_control.proofs.rounds.Facts.{Facts}
+use Rattle.tss_control.proofs.GroundworkControl.{Facts-Run}
+use Rattle.tss_values.proofs.ValuesJoin.{after_events-push}
+use Rattle.tss_conditions.specs.Reached.{Reached, ReachedLaw}
+
+-- the state after an enabled event is reached
+pub reached_after : ReachedLaw
+reached_after m i S e r on = record {
+  accepted = r.accepted;
+  admissible = r.admissible;
+  reachable = (r.reachable.0 ++ e ∷ [], after_events-push m r.reachable.0 e (initial_state i) S r.reachable.1 on);
+}
+
+-- the facts of a reached state
+pub facts_reached : (m : Machine) (i : ImageState) (S : State) → Reached m i S → Facts m S
+facts_reached m i S r = Facts-Run m i r.reachable.0 S r.reachable.1
