@@ -5,8 +5,12 @@ use Rattle.tss_base.specs.Image.{ImageState}
 use Rattle.tss_protocol.specs.State.{State, initial_state}
 use Rattle.tss_control.proofs.rounds.Facts.{Facts}
 use Rattle.tss_control.proofs.GroundworkControl.{Facts-Run}
+use Rattle.tss_values.specs.Buffers.{HasBuffers}
 use Rattle.tss_values.proofs.ValuesJoin.{after_events-push}
+use Rattle.tss_values.proofs.buffers.Events.{HasBuffers-Run}
 use Rattle.tss_conditions.specs.Reached.{Reached, ReachedLaw}
+use Rattle.tss_conditions.proofs.Spawned.{CountRightly, counts_run}
+use Rattle.tss_conditions.proofs.BufferBanks.{HoldsInBanks, banks_run}
 
 -- the state after an enabled event is reached
 pub reached_after : ReachedLaw
@@ -19,3 +23,19 @@ reached_after m i S e r on = record {
 -- the facts of a reached state
 pub facts_reached : (m : Machine) (i : ImageState) (S : State) → Reached m i S → Facts m S
 facts_reached m i S r = Facts-Run m i r.reachable.0 S r.reachable.1
+
+module _ (m : Machine) (i : ImageState) (S : State) (r : Reached m i S) where
+  -- the tasks that were spawned count their operands rightly
+  pub counts_reached : CountRightly m.limits (facts_reached m i S r).all
+  unfolding facts_reached
+  counts_reached = counts_run m i r.reachable.0 S r.reachable.1
+
+  -- each buffer has one holder
+  pub buffers_reached : HasBuffers (facts_reached m i S r).ts S
+  unfolding facts_reached
+  buffers_reached = HasBuffers-Run m i r.reachable.0 S r.reachable.1
+
+  -- and is held in the bank of its operand's object
+  pub banks_reached : HoldsInBanks m.sizes (facts_reached m i S r).all S.buffers
+  unfolding facts_reached
+  banks_reached = banks_run m i r.reachable.0 S r.accepted r.admissible r.reachable.1

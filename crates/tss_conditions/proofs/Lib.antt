@@ -5,3 +5,11 @@ pub mod PostingVersions
 pub mod PostingTasks
 pub mod PostingMail
 pub mod Posting
+pub mod Spawned
+pub mod BufferBanks
+pub mod Holding
+pub mod Taking
+pub mod Decoding
+pub mod Opening
+pub mod Releasing
+pub mod Retiring

@@ -6,6 +6,11 @@
 
 ghost use Rattle.tss_conditions.specs.Reached.{ReachedLaw};
 ghost use Rattle.tss_conditions.specs.Posting.{PostingLaw};
+ghost use Rattle.tss_conditions.specs.Taking.{ArrivingLaw, TakingLaw, LinesLaw};
+ghost use Rattle.tss_conditions.specs.Decoding.{DecodingLaw};
+ghost use Rattle.tss_conditions.specs.Opening.{RegisteredLaw, OpeningLaw, UsingLaw};
+ghost use Rattle.tss_conditions.specs.Releasing.{ReleasingLaw};
+ghost use Rattle.tss_conditions.specs.Retiring.{IdleLaw, NackLaw, RetiringLaw, GoneLaw};
 
 /// A run leaves each reached state, and the state after an enabled event is reached.
 pub fn reached()
@@ -16,4 +21,48 @@ pub fn reached()
 /// takes. With them it is the mail after the event, and it has room for all of them.
 pub fn messages()
     ensures { PostingLaw }
+{}
+
+/// The inbox's task has a number above all that the gateway holds and that stand in the banks' lines, and isn't in flight.
+/// It has the operands that it counts, no more than a task may have. Where it may be taken, there is room for its decodes
+/// in the lines, and for itself in the queue where it has no operands.
+pub fn inbox()
+    ensures arriving { ArrivingLaw }
+    ensures room { TakingLaw }
+    ensures lines { LinesLaw }
+{}
+
+/// An operand that is to be decoded stands in its bank's line. No place and no buffer is held under its name, and an entry
+/// at its object's base is of that object, with room for one more reader.
+pub fn decodes()
+    ensures { DecodingLaw }
+{}
+
+/// Each registered version is settled and has registered neighbours of its own object, the older before it. It holds a
+/// place in the bank of its object, and so is its buffer held.
+pub fn versions()
+    ensures { RegisteredLaw }
+{}
+
+/// An open has a form that decode sends. No version has its name, its place and its buffer are held in its object's bank,
+/// and what it follows is the last version of its object, where it is registered. A use has an operand with a record, on
+/// the object of the version that it names.
+pub fn opens()
+    ensures open_message { OpeningLaw }
+    ensures use_message { UsingLaw }
+{}
+
+/// A release names a registered version of its operand's object. Its producer's version is open, and a reader's has fewer
+/// readers that released it than readers.
+pub fn releases()
+    ensures { ReleasingLaw }
+{}
+
+/// A version that asks, may not retire, or may, is registered and has asked. That which may is the last and has a storage.
+/// Of one that is gone a place is held, and its buffer, and where it was the last, the object's entry is about to leave.
+pub fn retirement()
+    ensures idle_message { IdleLaw }
+    ensures nack_message { NackLaw }
+    ensures retire_message { RetiringLaw }
+    ensures gone_message { GoneLaw }
 {}
