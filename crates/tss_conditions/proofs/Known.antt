@@ -7,6 +7,11 @@ use Rattle.tss_control.proofs.rounds.Facts.{Facts}
 use Rattle.tss_control.proofs.GroundworkControl.{Facts-Run}
 use Rattle.tss_values.specs.Buffers.{HasBuffers}
 use Rattle.tss_values.proofs.ValuesJoin.{after_events-push}
+use Rattle.tss_values.proofs.Values.{HasRoom, HasWorkers}
+use Rattle.tss_values.proofs.ValuesEvents.{HasValues-Run}
+use Rattle.tss_values.proofs.ValuesFinds.{operands_run}
+use Rattle.tss_values.proofs.storages.FixedBytes.{HaveFitOperands}
+use Rattle.tss_model.specs.Memory.{memory_ranges}
 use Rattle.tss_values.proofs.buffers.Events.{HasBuffers-Run}
 use Rattle.tss_conditions.specs.Reached.{Reached, ReachedLaw}
 use Rattle.tss_conditions.proofs.Spawned.{CountRightly, counts_run}
@@ -39,3 +44,17 @@ module _ (m : Machine) (i : ImageState) (S : State) (r : Reached m i S) where
   pub banks_reached : HoldsInBanks m.sizes (facts_reached m i S r).all S.buffers
   unfolding facts_reached
   banks_reached = banks_run m i r.reachable.0 S r.accepted r.admissible r.reachable.1
+
+  -- the operands of spawned tasks fit in memory
+  pub operands_reached : HaveFitOperands m.limits (memory_ranges i) (facts_reached m i S r).all
+  unfolding facts_reached
+  operands_reached = operands_run m i r.accepted r.admissible r.reachable.0 S r.reachable.1
+
+  -- buffers that are set have room
+  pub room_reached : HasRoom m (facts_reached m i S r).ts S
+  unfolding facts_reached
+  room_reached = (HasValues-Run m i r.reachable.0 S r.accepted r.admissible r.reachable.1).room
+
+  -- a worker has the task in flight, with the storages that it was told
+  pub workers_reached : HasWorkers m i S
+  workers_reached = (HasValues-Run m i r.reachable.0 S r.accepted r.admissible r.reachable.1).workers

@@ -13,3 +13,5 @@ pub mod Decoding
 pub mod Opening
 pub mod Releasing
 pub mod Retiring
+pub mod Flying
+pub mod Running

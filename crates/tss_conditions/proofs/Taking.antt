@@ -147,7 +147,7 @@ len-decodes task place (o ∷ os) m h =
     omega (arith, one, rest)
 
 -- the queue with one more
-queued_more : (queue : List ℕ) (t : ℕ) (b : Bool) (most : ℕ) → length (queue_with queue t b) ≤ most → b ≡ true
+pub queued_more : (queue : List ℕ) (t : ℕ) (b : Bool) (most : ℕ) → length (queue_with queue t b) ≤ most → b ≡ true
     → length queue < most
 queued_more queue t true most few e = let more = length_push queue t in omega (arith, few, more)
 queued_more queue t false most few e = absurd (true≢false (sym e))

@@ -10,6 +10,8 @@ ghost use Rattle.tss_conditions.specs.Taking.{ArrivingLaw, TakingLaw, LinesLaw};
 ghost use Rattle.tss_conditions.specs.Decoding.{DecodingLaw};
 ghost use Rattle.tss_conditions.specs.Opening.{RegisteredLaw, OpeningLaw, UsingLaw};
 ghost use Rattle.tss_conditions.specs.Releasing.{ReleasingLaw};
+ghost use Rattle.tss_conditions.specs.Flying.{ReadyLaw, LinkLaw, ByeLaw};
+ghost use Rattle.tss_conditions.specs.Running.{StartLaw, RunningLaw};
 ghost use Rattle.tss_conditions.specs.Retiring.{IdleLaw, NackLaw, RetiringLaw, GoneLaw};
 
 /// A run leaves each reached state, and the state after an enabled event is reached.
@@ -65,4 +67,21 @@ pub fn retirement()
     ensures nack_message { NackLaw }
     ensures retire_message { RetiringLaw }
     ensures gone_message { GoneLaw }
+{}
+
+/// An operand that is told its version, or who comes next, or whether it may leave, has a record in a task in flight. That
+/// which is told its version was told nothing yet, its task waits, and there is room in the queue. That which leaves is of
+/// a task that has finished.
+pub fn stations()
+    ensures ready_message { ReadyLaw }
+    ensures link_message { LinkLaw }
+    ensures bye_message { ByeLaw }
+{}
+
+/// The task at the queue's front is in flight and queued, with a storage for each operand, and a worker's task is in flight
+/// and runs. Its objects are apart, fit, and lie in ranges of home, writable where it writes. Its buffers are held in the
+/// banks of their objects, no two operands have the same, and those that it reads, or that it runs over, have contents.
+pub fn workers()
+    ensures start { StartLaw }
+    ensures exec { RunningLaw }
 {}
