@@ -1,21 +1,17 @@
 -- What ready, link and bye find follows from the laws.
-use Rattle.std.proofs.Common.{◌≡◌, ℕ, zero, suc, ◌<◌, ◌≤◌, Bool, true, false, List, [], ◌∷◌, length, Option, Some, None, refl, sym, ap, ◌∙◌, subst, arith, true≢false}
-use Rattle.std.specs.Prelude.{◌&&◌, slice_get, is_some}
-use Rattle.std.specs.List.{list_all}
+use Rattle.std.proofs.Common.{◌≡◌, ℕ, Bool, true, false, length, Option, Some, None, refl, sym, ap, ◌∙◌, arith, true≢false}
+use Rattle.std.specs.Prelude.{slice_get, is_some}
 use Rattle.std.specs.FinMap.{get}
-use Rattle.std.proofs.lemmas.Bool.{and_parts}
-use Rattle.std.proofs.lemmas.Option.{none-some, same_Some}
+use Rattle.std.proofs.lemmas.Option.{same_Some}
 use Rattle.tss_base.specs.declared.operand.OpName.{OpName}
 use Rattle.tss_base.specs.declared.machine.Machine.{Machine}
 use Rattle.tss_base.specs.declared.event.Event.TheVariants as event
-use Rattle.tss_base.specs.declared.marks.Stage.TheVariants as stage
-use Rattle.tss_base.specs.Image.{ImageState}
 use Rattle.tss_protocol.specs.Mail.{Source}
 use Rattle.tss_protocol.specs.State.{State, OperandState, Flying}
-use Rattle.tss_protocol.specs.Stations.{operand_at, is_ready, is_complete, after_ready}
+use Rattle.tss_protocol.specs.Stations.{operand_at, is_complete, after_ready}
 use Rattle.tss_protocol.specs.Counts.{all_slots}
 use Rattle.tss_protocol.specs.UnitMachine.{is_enabled, IsEnabled, after_event, without, ready_message_taken, queue_with}
-use Rattle.tss_phases.specs.Phase.{Leaving, look_ups, phase_of}
+use Rattle.tss_phases.specs.Phase.{look_ups}
 use Rattle.tss_phases.proofs.Records.{task_of_record}
 use Rattle.tss_phases.proofs.PhaseLemmas.{phase_leaving}
 use Rattle.tss_phases.proofs.OrderlyLemmas.{telling_stands, leaving_stands}
@@ -23,8 +19,7 @@ use Rattle.tss_control.specs.Runners.{is_late}
 use Rattle.tss_control.proofs.rounds.Facts.{Facts}
 use Rattle.tss_control.proofs.GroundworkControl.{sizes_of_runs}
 use Rattle.tss_control.proofs.holders.Order.{ready_in}
-use Rattle.tss_conditions.specs.Reached.{Reached}
-use Rattle.tss_conditions.specs.Flying.{IsInFlight, IsTold, ReadyLaw, LinkLaw, IsParting, ByeLaw}
+use Rattle.tss_conditions.specs.Flying.{IsInFlight, ReadyLaw, LinkLaw, IsParting, ByeLaw}
 use Rattle.tss_conditions.proofs.Known.{reached_after, facts_reached}
 use Rattle.tss_conditions.proofs.Taking.{queued_more}
 

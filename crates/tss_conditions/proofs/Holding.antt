@@ -1,8 +1,9 @@
 -- What is held for names of a round: buffers in the bank of their object, and counts of readers below what a word has.
-use Rattle.std.proofs.Common.{◌≡◌, ◌-◌, ◌<◌, Some, refl, sym, ap, ◌∙◌, arith}
-use Rattle.std.specs.Prelude.{◌^◌}
+use Rattle.std.proofs.Common.{◌≡◌, ◌-◌, ◌/◌, ◌<◌, Some, refl, sym, ap, ◌∙◌, arith, mod-lt}
+use Rattle.std.specs.Prelude.{◌^◌, ◌/◌}
 use Rattle.std.specs.FinMap.{get}
 use Rattle.std.proofs.lemmas.Option.{same_Some}
+use Rattle.tss_base.specs.declared.range.Range.{Range}
 use Rattle.tss_base.specs.declared.operand.OpName.{OpName}
 use Rattle.tss_base.specs.declared.operand.Operand.{Operand}
 use Rattle.tss_base.specs.declared.machine.Machine.{Machine}
@@ -26,6 +27,11 @@ few_operands m admissible =
     let operands = (admissible.limits key.MaxOperands m.limits.max_operands refl).1 in
     let more = more_times m.limits.max_tasks 65536 m.limits.max_operands tasks in
     omega (arith, more, operands)
+
+-- the bank of an object is one of the machine's
+pub bank_below : (m : Machine) → IsAdmissible m → (x : Range) → bank_of m.sizes x < m.sizes.banks
+bank_below m admissible x =
+    mod-lt (x.base / 64) (admissible.sizes key.Banks m.sizes.banks refl).0
 
 module _ (m : Machine) (i : ImageState) (S : State) (r : Reached m i S) where
   -- a buffer is held in the bank of its holder's object

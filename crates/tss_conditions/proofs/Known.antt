@@ -9,7 +9,8 @@ use Rattle.tss_values.specs.Buffers.{HasBuffers}
 use Rattle.tss_values.proofs.ValuesJoin.{after_events-push}
 use Rattle.tss_values.proofs.Values.{HasRoom, HasWorkers}
 use Rattle.tss_values.proofs.ValuesEvents.{HasValues-Run}
-use Rattle.tss_values.proofs.ValuesFinds.{operands_run}
+use Rattle.tss_values.proofs.ValuesFinds.{operands_run, outputs_run}
+use Rattle.tss_values.proofs.storages.FixedOutputs.{HasOutputs}
 use Rattle.tss_values.proofs.storages.FixedBytes.{HaveFitOperands}
 use Rattle.tss_model.specs.Memory.{memory_ranges}
 use Rattle.tss_values.proofs.buffers.Events.{HasBuffers-Run}
@@ -58,3 +59,8 @@ module _ (m : Machine) (i : ImageState) (S : State) (r : Reached m i S) where
   -- a worker has the task in flight, with the storages that it was told
   pub workers_reached : HasWorkers m i S
   workers_reached = (HasValues-Run m i r.reachable.0 S r.accepted r.admissible r.reachable.1).workers
+
+  -- buffers are held by outputs
+  pub outputs_reached : HasOutputs (facts_reached m i S r).ts S
+  unfolding facts_reached
+  outputs_reached = outputs_run m i r.accepted r.admissible r.reachable.0 S r.reachable.1

@@ -15,3 +15,8 @@ pub mod Releasing
 pub mod Retiring
 pub mod Flying
 pub mod Running
+pub mod Copies
+pub mod Copying
+pub mod Fitting
+pub mod MainLimits
+pub mod Filling

@@ -1,33 +1,27 @@
 -- What start, exec and finish find follows from the laws.
-use Rattle.std.proofs.Common.{◌≡◌, ◌≢◌, ℕ, zero, suc, ◌<◌, ◌≤◌, ◌⊎◌, Bool, true, false, List, [], ◌∷◌, length, Option, Some, None, refl, sym, ap, ◌∙◌, subst, inl, inr, arith, true≢false}
+use Rattle.std.proofs.Common.{◌≡◌, ◌≢◌, ℕ, zero, suc, ◌≤◌, Bool, true, false, List, [], ◌∷◌, length, Option, Some, None, refl, sym, ap, ◌∙◌, subst, inl, inr, arith, true≢false}
 use Rattle.std.specs.Prelude.{slice_get, is_some, unwrap_or}
-use Rattle.std.specs.List.{list_any}
 use Rattle.std.specs.FinMap.{get}
 use Rattle.std.proofs.lemmas.List.{length-map}
 use Rattle.std.proofs.lemmas.Option.{none-some, same_Some}
-use Rattle.tss_base.specs.declared.range.Range.{Range}
 use Rattle.tss_base.specs.declared.operand.OpName.{OpName}
-use Rattle.tss_base.specs.declared.operand.Mode.{Mode}
-use Rattle.tss_base.specs.declared.operand.Mode.TheVariants.{Input, Output, Inout}
 use Rattle.tss_base.specs.declared.operand.Operand.{Operand}
-use Rattle.tss_base.specs.declared.operand.Task.{Task}
 use Rattle.tss_base.specs.declared.machine.Key.TheVariants as key
 use Rattle.tss_base.specs.declared.machine.Machine.{Machine}
 use Rattle.tss_base.specs.declared.marks.Stage.TheVariants as stage
 use Rattle.tss_base.specs.Image.{ImageState}
 use Rattle.tss_base.specs.Range.{meets}
-use Rattle.tss_model.specs.Memory.{memory_ranges, range_of}
-use Rattle.tss_model.specs.Access.{operands_of, reads, writes}
+use Rattle.tss_model.specs.Memory.{range_of}
+use Rattle.tss_model.specs.Access.{operands_of, writes}
 use Rattle.tss_protocol.specs.Names.{bank_of, operand_name}
 use Rattle.tss_protocol.specs.Mail.{StorageName, Buffer, Source}
-use Rattle.tss_protocol.specs.State.{State, OperandState, Flying, Busy, Version}
-use Rattle.tss_protocol.specs.Stations.{is_ready, is_complete, storage_of, storages_of}
+use Rattle.tss_protocol.specs.State.{State, Flying, Busy, Version}
+use Rattle.tss_protocol.specs.Stations.{is_complete, storage_of, storages_of}
 use Rattle.tss_protocol.specs.Buffers.{buffer_bytes}
 use Rattle.tss_protocol.specs.Needs.{is_in_queue}
 use Rattle.tss_names.proofs.QueueLemmas.{in_queue, at_front}
 use Rattle.tss_names.proofs.StageLemmas.{queued≢finished, running≢finished}
 use Rattle.tss_program_order.proofs.RunKeeps.{HasGround-run}
-use Rattle.tss_program_order.proofs.FlatOperands.{IsFit}
 use Rattle.tss_control.specs.Holders.{IsOwnOrRead}
 use Rattle.tss_names.specs.Tasks.{task_at}
 use Rattle.tss_control.proofs.rounds.Facts.{Facts}
@@ -39,7 +33,6 @@ use Rattle.tss_values.proofs.workers.Hold.{IsHeld, holder_named}
 use Rattle.tss_values.proofs.workers.Apart.{held}
 use Rattle.tss_values.proofs.workers.Finds.{finds_room}
 use Rattle.tss_conditions.specs.Reached.{Reached}
-use Rattle.tss_conditions.specs.Taking.{IsProper}
 use Rattle.tss_conditions.specs.Running.{HasFitObject, MayRunOver, IsSet, IsStartable, StartLaw, IsRunning, RunningLaw}
 use Rattle.tss_conditions.proofs.Known.{facts_reached, counts_reached, buffers_reached, operands_reached, room_reached, workers_reached}
 use Rattle.tss_conditions.proofs.Holding.{held_in_bank}
@@ -56,7 +49,7 @@ beside_in (u ∷ xs) (v ∷ ys) same zero x e = (v, refl)
 beside_in (u ∷ xs) (v ∷ ys) same (suc k) x e = beside_in xs ys (omega (arith, same)) k x e
 
 -- contents with room are there
-set_by : (m : Machine) (S : State) (b : OpName) → 1 ≤ m.limits.object_bytes
+pub set_by : (m : Machine) (S : State) (b : OpName) → 1 ≤ m.limits.object_bytes
     → m.limits.object_bytes ≤ length (buffer_bytes S.contents b) → IsSet m S b
 set_by m S b some room = by (get S.contents b) refl room
   where

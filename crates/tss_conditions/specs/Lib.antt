@@ -7,3 +7,6 @@ pub mod Releasing
 pub mod Retiring
 pub mod Flying
 pub mod Running
+pub mod Copying
+pub mod Fitting
+pub mod Filling

@@ -12,6 +12,9 @@ ghost use Rattle.tss_conditions.specs.Opening.{RegisteredLaw, OpeningLaw, UsingL
 ghost use Rattle.tss_conditions.specs.Releasing.{ReleasingLaw};
 ghost use Rattle.tss_conditions.specs.Flying.{ReadyLaw, LinkLaw, ByeLaw};
 ghost use Rattle.tss_conditions.specs.Running.{StartLaw, RunningLaw};
+ghost use Rattle.tss_conditions.specs.Copying.{CopyLaw};
+ghost use Rattle.tss_conditions.specs.Fitting.{FittingLaw};
+ghost use Rattle.tss_conditions.specs.Filling.{WithinLaw, EntriesLaw, HeldBanksLaw, GroundLaw, MainLaw};
 ghost use Rattle.tss_conditions.specs.Retiring.{IdleLaw, NackLaw, RetiringLaw, GoneLaw};
 
 /// A run leaves each reached state, and the state after an enabled event is reached.
@@ -84,4 +87,25 @@ pub fn stations()
 pub fn workers()
     ensures start { StartLaw }
     ensures exec { RunningLaw }
+{}
+
+/// A bank copies an object of its own into one range of home that can be written, from a buffer that it holds and that has
+/// contents, and some of its bytes are still to be moved.
+pub fn copy()
+    ensures { CopyLaw }
+{}
+
+/// A log can name every enabled event.
+pub fn events()
+    ensures { FittingLaw }
+{}
+
+/// No count exceeds its size. An entry stands under its object's base, and places and buffers are held in banks of the
+/// machine. Code and the ranges of home are the image's. Main completes, spawns and prints no more than it may.
+pub fn sizes()
+    ensures within { WithinLaw }
+    ensures entries { EntriesLaw }
+    ensures held { HeldBanksLaw }
+    ensures ground { GroundLaw }
+    ensures main { MainLaw }
 {}
