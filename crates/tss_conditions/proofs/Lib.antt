@@ -10,6 +10,7 @@ pub mod BufferBanks
 pub mod Holding
 pub mod Taking
 pub mod Decoding
+pub mod VersionRoom
 pub mod Opening
 pub mod Releasing
 pub mod Retiring

@@ -20,6 +20,7 @@ use Rattle.tss_control.proofs.rounds.Facts.{Facts}
 use Rattle.tss_control.proofs.holders.Finished.{its_operand}
 use Rattle.tss_conditions.specs.Opening.{IsNextOf, IsBeforeOf, RegisteredLaw, HasOpenForm, IsLastOf, OpeningLaw, IsUsable, UsingLaw}
 use Rattle.tss_conditions.proofs.Known.{facts_reached}
+use Rattle.tss_conditions.proofs.VersionRoom.{few_versions}
 use Rattle.tss_conditions.proofs.Holding.{few_operands, held_in_bank}
 
 module _ (m : Machine) (S : State) (facts : Facts m S) where
@@ -147,6 +148,7 @@ openable m i S o c r there =
       form = form_by m S facts o c there c.follows refl;
       bare = bare_by m S facts o c there;
       follows = last_of m S facts o c there;
+      room = few_versions m i S r o c there;
     }
 
 pub uses_version : UsingLaw

@@ -1,6 +1,6 @@
 -- What start, exec and finish find follows from the laws.
 use Rattle.std.proofs.Common.{◌≡◌, ◌≢◌, ℕ, zero, suc, ◌≤◌, Bool, true, false, List, [], ◌∷◌, length, Option, Some, None, refl, sym, ap, ◌∙◌, subst, inl, inr, arith, true≢false}
-use Rattle.std.specs.Prelude.{slice_get, is_some, unwrap_or}
+use Rattle.std.specs.Prelude.{◌&&◌, not, slice_get, is_some, unwrap_or}
 use Rattle.std.specs.FinMap.{get}
 use Rattle.std.proofs.lemmas.List.{length-map}
 use Rattle.std.proofs.lemmas.Option.{none-some, same_Some}
@@ -12,6 +12,9 @@ use Rattle.tss_base.specs.declared.marks.Stage.TheVariants as stage
 use Rattle.tss_base.specs.Image.{ImageState}
 use Rattle.tss_base.specs.Range.{meets}
 use Rattle.tss_model.specs.Memory.{range_of}
+use Rattle.tss_model.specs.Spawn.{is_outside}
+use Rattle.std.proofs.lemmas.Bool.{and_from}
+use Rattle.std.specs.List.{list_all}
 use Rattle.tss_model.specs.Access.{operands_of, writes}
 use Rattle.tss_protocol.specs.Names.{bank_of, operand_name}
 use Rattle.tss_protocol.specs.Mail.{StorageName, Buffer, Source}
@@ -47,6 +50,24 @@ beside_in [] ys same k x e = absurd (none-some x e)
 beside_in (u ∷ xs) [] same k x e = absurd (omega (arith, same))
 beside_in (u ∷ xs) (v ∷ ys) same zero x e = (v, refl)
 beside_in (u ∷ xs) (v ∷ ys) same (suc k) x e = beside_in xs ys (omega (arith, same)) k x e
+
+-- a test that passes at each place passes
+all_pass : {X : Type 0} → (test : X → Bool) (xs : List X)
+    → ((k : ℕ) (x : X) → slice_get xs k ≡ Some x → test x ≡ true) → list_all test xs ≡ true
+all_pass test [] each = refl
+all_pass test (x ∷ xs) each =
+    and_from (test x) (list_all test xs) (each zero x refl) (all_pass test xs (λ k y at. each (suc k) y at))
+
+-- an object that fits lies inside
+inside : (m : Machine) (S : State) (p : Operand) → HasFitObject m S p
+    → not (is_outside p.mode (range_of S.home.ranges p.object)) ≡ true
+inside m S p fit =
+    ap (λ r. not (is_outside p.mode r)) fit.within ∙ by (writes p.mode) fit.writable fit.written
+  where
+    by : (w r : Bool) → (w ≡ true → r ≡ true) → not (w && not r) ≡ true
+    by false r may = refl
+    by true true may = refl
+    by true false may = absurd (true≢false (sym (may refl)))
 
 -- contents with room are there
 pub set_by : (m : Machine) (S : State) (b : OpName) → 1 ≤ m.limits.object_bytes
@@ -154,6 +175,9 @@ module _ (m : Machine) (i : ImageState) (S : State) (r : Reached m i S) where
           proper_task m facts.all S facts.ground.numbers (counts_reached m i S r) n x.task task_at_number;
       storages = many;
       fits = fit_object;
+      placed =
+          all_pass (λ o. not (is_outside o.mode (range_of S.home.ranges o.object))) (operands_of x.task)
+          (λ k p at. inside m S p (fit_object k p at));
       apart = apart;
       buffers = bank;
       single = single;

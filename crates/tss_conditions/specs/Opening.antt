@@ -1,5 +1,5 @@
 -- What open and use find in the versioning tables, and how versions stand there.
-use Rattle.std.specs.Prelude.{◌≡◌, ◌⊎◌, ◌-◌, ◌^◌, ◌<◌, Option, Some, None}
+use Rattle.std.specs.Prelude.{◌≡◌, ◌⊎◌, ◌-◌, ◌^◌, ◌<◌, ◌==◌, Option, Some, None}
 use Rattle.std.specs.FinMap.{get}
 use Rattle.tss_base.specs.declared.range.Range.{Range}
 use Rattle.tss_base.specs.declared.operand.OpName.{OpName}
@@ -8,6 +8,7 @@ use Rattle.tss_base.specs.declared.machine.Machine.{Machine}
 use Rattle.tss_base.specs.declared.marks.How.TheVariants.{Beside, Over}
 use Rattle.tss_base.specs.declared.marks.Follow.{Follow}
 use Rattle.tss_base.specs.Image.{ImageState}
+use Rattle.tss_maps.specs.Sums.{count_of}
 use Rattle.tss_protocol.specs.Names.{bank_of}
 use Rattle.tss_protocol.specs.Mail.{Home, Buffer, OpenContents}
 use Rattle.tss_protocol.specs.State.{State, OperandState, Version}
@@ -71,8 +72,8 @@ pub record IsLastOf (S : State) (o : OpName) (c : OpenContents) (x : Version) (f
   pub last : x.successor ≡ None
   pub older : f.version.task < o.task
 
--- an open: no version has its name, a place of its object's bank is held under it, and so is its buffer, and it has a form
--- that decode sends
+-- an open: no version has its name, a place of its object's bank is held under it, and so is its buffer, it has a form
+-- that decode sends, and the versions of its bank are fewer than the places
 pub record IsOpenable (m : Machine) (S : State) (o : OpName) (c : OpenContents) : Type 0 where
   pub fresh : get S.versions o ≡ None
   pub place : get S.places o ≡ Some (bank_of m.sizes c.operand.object)
@@ -80,6 +81,7 @@ pub record IsOpenable (m : Machine) (S : State) (o : OpName) (c : OpenContents) 
   pub form : HasOpenForm o c c.follows
   pub bare : (f : Follow) → c.follows ≡ Some f → f.how ≡ Over → c.storage ≡ None
   pub follows : (f : Follow) (x : Version) → c.follows ≡ Some f → get S.versions f.version ≡ Some x → IsLastOf S o c x f
+  pub room : count_of (λ v x. bank_of m.sizes x.object == bank_of m.sizes c.operand.object) S.versions < m.sizes.versions
 
 -- in every reached state
 abbrev pub OpeningLaw : Type 0

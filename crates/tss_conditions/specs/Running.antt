@@ -1,5 +1,6 @@
 -- What start, exec and finish find of the task on the worker.
-use Rattle.std.specs.Prelude.{◌≡◌, ◌≢◌, ℕ, ◌<◌, ◌≤◌, Bool, true, false, List, ◌∷◌, length, slice_get, Some}
+use Rattle.std.specs.Prelude.{◌≡◌, ◌≢◌, ℕ, ◌<◌, ◌≤◌, Bool, true, false, not, List, ◌∷◌, length, slice_get, Some}
+use Rattle.std.specs.List.{list_all}
 use Rattle.std.specs.FinMap.{get}
 use Rattle.tss_base.specs.declared.operand.OpName.{OpName}
 use Rattle.tss_base.specs.declared.operand.Operand.{Operand}
@@ -10,6 +11,7 @@ use Rattle.tss_base.specs.Image.{ImageState}
 use Rattle.tss_base.specs.Range.{meets}
 use Rattle.tss_model.specs.Memory.{range_of}
 use Rattle.tss_model.specs.Access.{operands_of, reads, writes}
+use Rattle.tss_model.specs.Spawn.{is_outside}
 use Rattle.tss_protocol.specs.Names.{bank_of}
 use Rattle.tss_protocol.specs.Mail.{StorageName, Buffer, Source}
 use Rattle.tss_protocol.specs.State.{State, OperandState, Flying, Busy}
@@ -34,6 +36,7 @@ pub record MayRunOver (m : Machine) (S : State) (t : Task) (ss : List StorageNam
   pub proper : IsProper m t
   pub storages : length ss ≡ length (operands_of t)
   pub fits : (k : ℕ) (p : Operand) → slice_get (operands_of t) k ≡ Some p → HasFitObject m S p
+  pub placed : list_all (λ o. not (is_outside o.mode (range_of S.home.ranges o.object))) (operands_of t) ≡ true
   pub apart : (j k : ℕ) (p q : Operand) → slice_get (operands_of t) j ≡ Some p → slice_get (operands_of t) k ≡ Some q
       → j ≢ k → meets p.object q.object ≡ false
   pub buffers : (k : ℕ) (p : Operand) (b : OpName) → slice_get (operands_of t) k ≡ Some p

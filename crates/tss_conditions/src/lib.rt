@@ -100,8 +100,8 @@ pub fn events()
     ensures { FittingLaw }
 {}
 
-/// No count exceeds its size. An entry stands under its object's base, and places and buffers are held in banks of the
-/// machine. Code and the ranges of home are the image's. Main completes, spawns and prints no more than it may.
+/// No count exceeds its size. An entry stands under its object's base, and its latest version is of its object. Places and
+/// buffers are held in banks of the machine. Code and the ranges of home are the image's, beside a task's scratch. Main completes, spawns and prints no more than it may.
 pub fn sizes()
     ensures within { WithinLaw }
     ensures entries { EntriesLaw }

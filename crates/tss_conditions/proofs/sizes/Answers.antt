@@ -1,11 +1,11 @@
-use Rattle.tss_conditions.proofs.Filling.{within_sizes, entry_base, held_banks, grounded, main_limits}
+use Rattle.tss_conditions.proofs.Filling.{within_sizes, entered, held_banks, grounded, main_limits}
 use Rattle.tss_conditions.proofs.sizes.Goals as goal
 
 pub returns-clause-within : goal.returns-clause-within
 returns-clause-within c = within_sizes
 
 pub returns-clause-entries : goal.returns-clause-entries
-returns-clause-entries c = entry_base
+returns-clause-entries c = entered
 
 pub returns-clause-held : goal.returns-clause-held
 returns-clause-held c = held_banks
