@@ -112,5 +112,6 @@ pub left_run : (m : Machine) (i : ImageState) (es : List Event) (S : State) → 
     → IsRun m i es S → HaveBytesLeft S.copies
 left_run m i es S accepted admissible run =
     values_of_run (λ m i all ts S. HaveBytesLeft S.copies)
-    (λ m i es S e accepted admissible run left on. left_after m S (Facts-Run m i es S run) (fit_run m i es S run) left e)
+    (λ m i es S e accepted admissible run left on.
+    left_after m S (Facts-Run m i es S run) (fit_run m i es S run) left e)
     m i accepted admissible (λ b c e. absurd (none-some c (sym (get-empty nat_cmp b) ∙ e))) es S run

@@ -1,5 +1,5 @@
 -- What copy finds follows from the laws.
-use Rattle.std.proofs.Common.{◌≡◌, ℕ, ◌<◌, ◌≤◌, true, Some, refl, sym, ap, ◌∙◌, inl, inr, arith}
+use Rattle.std.proofs.Common.{◌≡◌, ℕ, ◌<◌, ◌≤◌, true, Some, refl, sym, ap, ◌∙◌, inr, arith}
 use Rattle.std.specs.FinMap.{get}
 use Rattle.std.proofs.lemmas.Option.{same_Some}
 use Rattle.tss_base.specs.declared.range.Range.{Range}

@@ -20,9 +20,10 @@ use Rattle.tss_protocol.specs.State.{State}
 use Rattle.tss_control.proofs.GroundworkControl.{sizes_of_runs}
 use Rattle.tss_program_order.proofs.RunKeeps.{HasGround-run}
 use Rattle.tss_conditions.specs.Reached.{Reached}
-use Rattle.tss_conditions.specs.Filling.{WithinLaw, EntriesLaw, HeldBanksLaw, GroundLaw, MainLaw}
+use Rattle.tss_conditions.specs.Filling.{WithinLaw, EntriesLaw, HeldBanksLaw, ContentsLaw, GroundLaw, MainLaw}
 use Rattle.tss_conditions.proofs.Known.{facts_reached, banks_reached}
 use Rattle.tss_conditions.proofs.Holding.{bank_below}
+use Rattle.tss_conditions.proofs.Contents.{whole_run}
 use Rattle.tss_conditions.proofs.MainLimits.{call_left, within_run}
 
 pub within_sizes : WithinLaw
@@ -100,6 +101,10 @@ module _ (m : Machine) (i : ImageState) (S : State) (r : Reached m i S) (n : OpN
 
 pub held_banks : HeldBanksLaw
 held_banks m i S n bank r = (place_bank m i S r n bank, buffer_bank m i S r n bank)
+
+pub contents_whole : ContentsLaw
+contents_whole m i S n bytes r there =
+    whole_run m i r.reachable.0 S r.accepted r.admissible r.reachable.1 n bytes there
 
 pub grounded : GroundLaw
 grounded m i S r =

@@ -1,8 +1,9 @@
 -- What the laws know of a reached state: the facts of the run that leaves it.
-use Rattle.std.proofs.Common.{[], ◌∷◌, ◌++◌}
+use Rattle.std.proofs.Common.{[], ◌∷◌, ◌++◌, refl}
 use Rattle.tss_base.specs.declared.machine.Machine.{Machine}
 use Rattle.tss_base.specs.Image.{ImageState}
 use Rattle.tss_protocol.specs.State.{State, initial_state}
+use Rattle.tss_protocol.specs.Run.{after_events}
 use Rattle.tss_control.proofs.rounds.Facts.{Facts}
 use Rattle.tss_control.proofs.GroundworkControl.{Facts-Run}
 use Rattle.tss_values.specs.Buffers.{HasBuffers}
@@ -14,9 +15,15 @@ use Rattle.tss_values.proofs.storages.FixedOutputs.{HasOutputs}
 use Rattle.tss_values.proofs.storages.FixedBytes.{HaveFitOperands}
 use Rattle.tss_model.specs.Memory.{memory_ranges}
 use Rattle.tss_values.proofs.buffers.Events.{HasBuffers-Run}
-use Rattle.tss_conditions.specs.Reached.{Reached, ReachedLaw}
+use Rattle.tss_conditions.specs.Reached.{Reached, FirstLaw, ReachedLaw}
 use Rattle.tss_conditions.proofs.Spawned.{CountRightly, counts_run}
 use Rattle.tss_conditions.proofs.BufferBanks.{HoldsInBanks, banks_run}
+
+-- the first state is reached
+pub reached_first : FirstLaw
+unfolding after_events
+reached_first m i accepted admissible =
+    record { accepted = accepted; admissible = admissible; reachable = ([], refl) }
 
 -- the state after an enabled event is reached
 pub reached_after : ReachedLaw

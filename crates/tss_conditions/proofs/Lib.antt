@@ -18,6 +18,7 @@ pub mod Flying
 pub mod Running
 pub mod Copies
 pub mod Copying
+pub mod Contents
 pub mod Fitting
 pub mod MainLimits
 pub mod Filling

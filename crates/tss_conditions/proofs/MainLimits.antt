@@ -44,7 +44,8 @@ call_left m S c e = by (has_spent m.limits S.main) refl
     by false left = leb-false m.limits.main_budget S.main.registers.done left
 
 -- what main has printed with one more piece
-printed_more : (ps : List Piece) (p : Piece) → length (output_of (ps ++ p ∷ [])) ≡ length (output_of ps) + length p.bytes
+printed_more : (ps : List Piece) (p : Piece)
+    → length (output_of (ps ++ p ∷ [])) ≡ length (output_of ps) + length p.bytes
 printed_more ps p =
     ap length (flat_map-append (λ (p : Piece). p.bytes) ps (p ∷ []))
     ∙ length-append (output_of ps) (output_of (p ∷ []))
@@ -79,7 +80,8 @@ module _ (code : List SegmentState) (limits : Limits) where
       by : (e s : Bool) → is_some f.main.ending ≡ e → has_spent limits f.main ≡ s
           → (main_step code limits f).main.registers.done ≤ limits.main_budget
       by true s ended spent =
-          subst (λ (g : Flat). g.main.registers.done ≤ limits.main_budget) (sym (main_step-ended code limits f ended)) few
+          subst (λ (g : Flat). g.main.registers.done ≤ limits.main_budget)
+          (sym (main_step-ended code limits f ended)) few
       by false true on spent =
           subst (λ (g : Flat). g.main.registers.done ≤ limits.main_budget)
           (sym (main_step-spent code limits f on spent)) few

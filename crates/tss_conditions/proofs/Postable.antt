@@ -1,11 +1,11 @@
 -- Lists of messages that may be posted: one list after another, and how many messages there are with them.
-use Rattle.std.proofs.Common.{◌≡◌, suc, ◌+◌, List, [], ◌∷◌, ◌++◌, length, Option, Some, None, refl, arith}
+use Rattle.std.proofs.Common.{◌≡◌, ℕ, suc, ◌+◌, List, [], ◌∷◌, ◌++◌, length, Option, Some, None, refl, arith}
 use Rattle.std.specs.Prelude.{option_map}
 use Rattle.std.specs.FinMap.{get}
 use Rattle.tss_maps.proofs.Keys.{name_order}
 use Rattle.tss_maps.proofs.Entries.{len_added}
 use Rattle.tss_protocol.specs.Mail.{Message, Decode, Ack, Open, Use, Ready, Link, Release, Bye, Idle, Nack, Retire, Gone, Mail, name_of, posted, posted_all, message_at, message_count}
-use Rattle.tss_conditions.specs.Posting.{ArePostable}
+use Rattle.tss_conditions.specs.Posting.{ArePostable, MayPostAll, MayPostNext}
 
 -- one list after another
 pub postable_append : (m : Mail) (xs ys : List Message) → ArePostable m xs → ArePostable (posted_all m xs) ys
@@ -19,7 +19,8 @@ nothing_there f None e = refl
 nothing_there f (Some x) e = absurd (cc)
 
 -- one more message
-one_more : (m : Mail) (x : Message) → message_at m (name_of x) ≡ None → message_count (posted m x) ≡ suc (message_count m)
+one_more : (m : Mail) (x : Message) → message_at m (name_of x) ≡ None
+    → message_count (posted m x) ≡ suc (message_count m)
 one_more m (Decode o p) e =
     let a = len_added name_order m.decodes o p (nothing_there (Decode o) (get m.decodes o) e) in omega (arith, a)
 one_more m (Ack o) e =
@@ -53,3 +54,15 @@ message_count-posted_all m (x ∷ xs) h =
     let rest = message_count-posted_all (posted m x) xs h.1 in
     let one = one_more m x h.0 in
     omega (arith, rest, one)
+
+-- the first of a list may be posted, and then the others
+pub post_next : (most : ℕ) (m : Mail) (x : Message) (xs : List Message) → MayPostAll most m (x ∷ xs)
+    → MayPostNext most m x xs
+post_next most m x xs may =
+    let few = may.room in
+    let one = one_more m x may.fresh.0 in
+    record {
+      fresh = may.fresh.0;
+      room = omega (arith, few);
+      rest = record { fresh = may.fresh.1; room = omega (arith, few, one) };
+    }

@@ -119,7 +119,8 @@ may_post m i S e r on =
     let mail = mail_after m S e in
     let many = message_count-posted_all (taken S.mail e) (sent_by_event m S e) fresh in
     let next = reached_after m i S e r on in
-    let few = (sizes_of_runs m i next.reachable.0 (after_event m S e) r.accepted r.admissible next.reachable.1).messages in
+    let T = after_event m S e in
+    let few = (sizes_of_runs m i next.reachable.0 T r.accepted r.admissible next.reachable.1).messages in
     let same = ap message_count mail in
     record {
       fresh = fresh;

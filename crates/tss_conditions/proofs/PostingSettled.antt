@@ -1,5 +1,5 @@
--- What a settle sends may be posted, where no message says yet that a version is gone, or asks for one that doesn't ask,
--- and whom it tells isn't told yet.
+-- What a settle sends may be posted, where no message says yet that a version is gone, or asks for one that doesn't
+-- ask, and whom it tells isn't told yet.
 use Rattle.std.proofs.Common.{◌≡◌, ℕ, zero, suc, Bool, true, false, if◌then◌else◌, Option, Some, None, refl, sym, ap, ◌∙◌, inl, inr}
 use Rattle.std.specs.Prelude.{option_map}
 use Rattle.std.specs.FinMap.{get, insert}
@@ -55,7 +55,8 @@ module _ (m : Mail) where
     unsaid_named vs (Some v) each = unsaid_changed vs v each
 
   -- a version has given way, and is said to be gone
-  unsaid_unlinked : (vs : Named Version) (v : OpName) (x : Version) (s : OpName) → EachEntry (IsUnsaid m) (drop_version vs v)
+  unsaid_unlinked : (vs : Named Version) (v : OpName) (x : Version) (s : OpName)
+      → EachEntry (IsUnsaid m) (drop_version vs v)
       → EachEntry (IsUnsaid m) (unlinked vs v x s)
   unsaid_unlinked vs v x s each =
       unsaid_changed (λ y. record y { predecessor = x.predecessor }) (λ y. refl) _ s

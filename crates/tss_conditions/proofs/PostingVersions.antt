@@ -170,8 +170,8 @@ module _ (m : Machine) (S : State) (facts : Facts m S) where
       followed_how Beside way =
           postable_append (taken S.mail (event.Open o)) (ready_with o o c.storage) (settled opened f.version).sent
           (postable_ready (taken S.mail (event.Open o)) o o c.storage own_untold)
-          (postable_settle (suc (len opened)) (posted_all (taken S.mail (event.Open o)) (ready_with o o c.storage)) opened
-          f.version (unsaid_ready (taken S.mail (event.Open o)) o o c.storage opened opened_unsaid)
+          (postable_settle (suc (len opened)) (posted_all (taken S.mail (event.Open o)) (ready_with o o c.storage))
+          opened f.version (unsaid_ready (taken S.mail (event.Open o)) o o c.storage opened opened_unsaid)
           (λ q t. absurd (tells_none way (suc (len opened)) q t)))
       followed_how Over way =
           postable_settle (suc (len opened)) (taken S.mail (event.Open o)) opened f.version opened_unsaid
@@ -193,7 +193,8 @@ module _ (m : Machine) (S : State) (facts : Facts m S) where
   -- nobody comes after the last reader yet
   tail_unlinked : (v : OpName) (x : Version) → get S.versions v ≡ Some x → (last : OpName) → x.tail ≡ Some last
       → get S.mail.links last ≡ None
-  tail_unlinked v x at last tail = by (g v) (sym (h.readers.versions v x at).tail ∙ tail) (h.readers.versions v x at).newest
+  tail_unlinked v x at last tail =
+      by (g v) (sym (h.readers.versions v x at).tail ∙ tail) (h.readers.versions v x at).newest
     where
       newest : (a : OpName) (b : Bool) → cond b None (Some a) ≡ Some last → a ≡ last
       newest a true e = absurd (none-some last e)
@@ -236,10 +237,14 @@ module _ (m : Machine) (S : State) (facts : Facts m S) where
     abbrev before : Mail
     before = taken S.mail (event.Release o)
 
+    -- the versions with the one that is released
+    abbrev written : Version → Named Version
+    written z = put_version S.versions c.version z
+
     no_bye : get S.mail.byes o ≡ None
     no_bye = (releasing_stands (look_ups S o) c (h.orderly o) there).0.leaving
 
-    written_unsaid : (z : Version) → z.asked ≡ x.asked → EachEntry (IsUnsaid S.mail) (put_version S.versions c.version z)
+    written_unsaid : (z : Version) → z.asked ≡ x.asked → EachEntry (IsUnsaid S.mail) (written z)
     written_unsaid z asks =
         let own = all_unsaid c.version x at in
         unsaid_put S.mail S.versions c.version z all_unsaid (own.0, λ quiet. own.1 (sym asks ∙ quiet))
@@ -266,15 +271,15 @@ module _ (m : Machine) (S : State) (facts : Facts m S) where
 
     -- so its settle tells nobody
     head_silent : (q : OpName) → x.head ≡ Some q → (s : OpName)
-        → SettleTells (suc (len (put_version S.versions c.version (produced_now x))))
-        (put_version S.versions c.version (produced_now x)) c.version s → ⊥
+        → SettleTells (suc (len (written (produced_now x))))
+        (written (produced_now x)) c.version s → ⊥
     head_silent q head s t = elim t [
       | inl over ↦ none over.version over.follow Over over.gives
       | inr goes ↦ none goes.version goes.follow Beside goes.gives
     ]
       where
         vs : Named Version
-        vs = put_version S.versions c.version (produced_now x)
+        vs = written (produced_now x)
 
         none : (y : Version) (f : Follow) (how : How) → GivesWay vs c.version y f how → ⊥
         none y f how gives =
@@ -288,10 +293,10 @@ module _ (m : Machine) (S : State) (facts : Facts m S) where
 
     -- what is sent after the bye
     rest_postable : (m : Mail) (z : Version) → z.asked ≡ x.asked → m.gones ≡ S.mail.gones → m.idles ≡ S.mail.idles
-        → AreUntold m (suc (len (put_version S.versions c.version z))) (put_version S.versions c.version z) c.version
-        → ArePostable m (settled (put_version S.versions c.version z) c.version).sent
+        → AreUntold m (suc (len (written z))) (written z) c.version
+        → ArePostable m (settled (written z) c.version).sent
     rest_postable m z asks gones idles untold =
-        postable_settle (suc (len (put_version S.versions c.version z))) m (put_version S.versions c.version z) c.version
+        postable_settle (suc (len (written z))) m (written z) c.version
         (λ v y e.
         let k = written_unsaid z asks v y e in
         (ap (λ m. get m v) gones ∙ k.0, λ quiet. ap (λ m. get m v) idles ∙ k.1 quiet))
@@ -299,7 +304,7 @@ module _ (m : Machine) (S : State) (facts : Facts m S) where
 
     -- whom the settle tells waits
     settle_untold : (z : Version) → z.successor ≡ x.successor → z.predecessor ≡ x.predecessor
-        → AreUntold S.mail (suc (len (put_version S.versions c.version z))) (put_version S.versions c.version z) c.version
+        → AreUntold S.mail (suc (len (written z))) (written z) c.version
     settle_untold z after ahead q t =
         waiting_untold q
         (settle_tells_waiting ts g S h.chains h.holders h.retirement c.version x z at after ahead q t)
@@ -318,8 +323,8 @@ module _ (m : Machine) (S : State) (facts : Facts m S) where
         z = produced_now x
 
         after : (m : Mail) → m.byes ≡ S.mail.byes → m.gones ≡ S.mail.gones → m.idles ≡ S.mail.idles
-            → AreUntold m (suc (len (put_version S.versions c.version z))) (put_version S.versions c.version z) c.version
-            → ArePostable m (Bye o false ∷ (settled (put_version S.versions c.version z) c.version).sent)
+            → AreUntold m (suc (len (written z))) (written z) c.version
+            → ArePostable m (Bye o false ∷ (settled (written z) c.version).sent)
         after m byes gones idles untold = (
           ap (λ m. option_map (Bye o) (get m o)) byes ∙ ap (option_map (Bye o)) no_bye,
           rest_postable (posted_all m (Bye o false ∷ [])) z refl gones idles untold,
@@ -327,14 +332,14 @@ module _ (m : Machine) (S : State) (facts : Facts m S) where
 
         with_head : (q : Option OpName) → x.head ≡ q
             → ArePostable before
-            ((head_ready c.version x q ++ Bye o false ∷ []) ++ (settled (put_version S.versions c.version z) c.version).sent)
+            ((head_ready c.version x q ++ Bye o false ∷ []) ++ (settled (written z) c.version).sent)
         with_head None head = after before refl refl refl (settle_untold z refl refl)
         with_head (Some q) head = by x.storage
           where
             by : (s : Option StorageName)
                 → ArePostable before
                 ((ready_with q c.version s ++ Bye o false ∷ [])
-                ++ (settled (put_version S.versions c.version z) c.version).sent)
+                ++ (settled (written z) c.version).sent)
             by None = after before refl refl refl (settle_untold z refl refl)
             by (Some s) = (
               ap (option_map (Ready q)) (waiting_untold q (head_waits ts g S h.readers c.version x at q head)),

@@ -44,7 +44,7 @@ use Rattle.tss_conditions.proofs.Taking.{proper_task}
 -- ---- lists of one length
 
 -- what stands in one has something beside it in the other
-beside_in : {X Y : Type 0} → (xs : List X) (ys : List Y) → length xs ≡ length ys → (k : ℕ) (x : X)
+pub beside_in : {X Y : Type 0} → (xs : List X) (ys : List Y) → length xs ≡ length ys → (k : ℕ) (x : X)
     → slice_get xs k ≡ Some x → (y : Y) × (slice_get ys k ≡ Some y)
 beside_in [] ys same k x e = absurd (none-some x e)
 beside_in (u ∷ xs) [] same k x e = absurd (omega (arith, same))

@@ -1,9 +1,9 @@
 -- A bank has fewer versions than places while one of them is still to be opened.
-use Rattle.std.proofs.Common.{◌≡◌, ◌≢◌, ℕ, ◌+◌, ◌<◌, ◌≤◌, Bool, true, false, [], Some, None, refl, sym, ap, ◌∙◌, arith, true≢false}
+use Rattle.std.proofs.Common.{◌≡◌, ◌+◌, ◌<◌, ◌≤◌, Bool, true, false, [], Some, None, refl, ap, ◌∙◌, arith}
 use Rattle.std.specs.Prelude.{◌==◌}
 use Rattle.std.specs.declared.cmp.Ordering.{Ordering}
-use Rattle.std.specs.FinMap.{FinMap, get, insert, remove, empty}
-use Rattle.std.proofs.lemmas.Bool.{eq-eqb, eqb-true}
+use Rattle.std.specs.FinMap.{FinMap, get, insert, remove}
+use Rattle.std.proofs.lemmas.Bool.{eq-eqb}
 use Rattle.tss_base.specs.declared.operand.OpName.{OpName}
 use Rattle.tss_base.specs.declared.machine.Machine.{Machine}
 use Rattle.tss_base.specs.Image.{ImageState}
@@ -18,6 +18,7 @@ use Rattle.tss_protocol.specs.State.{State, Version, initial_state}
 use Rattle.tss_names.proofs.RunLemmas.{kept_after}
 use Rattle.tss_names.proofs.TableLemmas.{StaysWithinBanks, StaysWithinBanks-after_event, StaysWithinBanks-initial_state}
 use Rattle.tss_conditions.specs.Reached.{Reached}
+use Rattle.tss_conditions.specs.Opening.{versions_in}
 use Rattle.tss_conditions.proofs.Known.{facts_reached}
 
 module _ {K X Y : Type 0} {R : K → K → Ordering} (order : IsKeyOrder R) (p : K → X → Bool) (q : K → Y → Bool) where
@@ -64,7 +65,7 @@ module _ {K X Y : Type 0} {R : K → K → Ordering} (order : IsKeyOrder R) (p :
 -- while one is to be opened, the versions of its bank are fewer than the places
 pub few_versions : (m : Machine) (i : ImageState) (S : State) → Reached m i S → (o : OpName) (c : OpenContents)
     → get S.mail.opens o ≡ Some c
-    → count_of (λ v x. bank_of m.sizes x.object == bank_of m.sizes c.operand.object) S.versions < m.sizes.versions
+    → versions_in m.sizes (bank_of m.sizes c.operand.object) S.versions < m.sizes.versions
 few_versions m i S r o c there =
     let places = (facts_reached m i S r).ground.places in
     let bank = bank_of m.sizes c.operand.object in
@@ -73,8 +74,8 @@ few_versions m i S r o c there =
     (StaysWithinBanks-initial_state m i) r.reachable.1).places bank in
     let less = sum_removed name_order (λ v b. one_if (b == bank)) S.places o bank own.0 in
     let one = ap one_if (eq-eqb bank bank refl) in
-    let few = count_beside name_order (λ v (x : Version). bank_of m.sizes x.object == bank) (λ v b. b == bank) S.versions
-    (remove S.places o)
+    let few = count_beside name_order (λ v (x : Version). bank_of m.sizes x.object == bank) (λ v b. b == bank)
+    S.versions (remove S.places o)
     (λ v x at passes. (
       bank_of m.sizes x.object,
       beside_removed name_order S.places o v (apart_absent S.versions v o x at own.1) ∙ (places.versions v x at).0,

@@ -10,8 +10,8 @@ use Rattle.tss_protocol.specs.State.{State, Entry}
 use Rattle.tss_protocol.specs.Renaming.{line_of}
 use Rattle.tss_conditions.specs.Reached.{Reached}
 
--- an operand that is to be decoded stands in its bank's line, no place and no buffer is held under its name, and an entry
--- at its object's base is of that object, with room for one more reader
+-- an operand that is to be decoded stands in its bank's line, no place and no buffer is held under its name, and an
+-- entry at its object's base is of that object, with room for one more reader
 pub record IsDecodable (m : Machine) (S : State) (o : OpName) (p : Operand) : Type 0 where
   pub place : get S.places o ≡ None
   pub buffer : get S.buffers o ≡ None

@@ -1,5 +1,5 @@
 -- How full the units get, what main keeps within its limits, and the ground on which all stands.
-use Rattle.std.specs.Prelude.{◌≡◌, ℕ, ◌<◌, ◌≤◌, true, not, length, Some}
+use Rattle.std.specs.Prelude.{◌≡◌, ℕ, ◌<◌, ◌≤◌, true, not, List, length, Some}
 use Rattle.std.specs.List.{list_all}
 use Rattle.std.specs.FinMap.{get}
 use Rattle.tss_base.specs.declared.operand.OpName.{OpName}
@@ -18,7 +18,8 @@ use Rattle.tss_conditions.specs.Reached.{Reached}
 abbrev pub WithinLaw : Type 0
 WithinLaw = (m : Machine) (i : ImageState) (S : State) → Reached m i S → AreWithin (counts_of m S) (sizes_of m)
 
--- an entry stands under the base of its object, and its latest version, registered or still to be opened, is of the object
+-- an entry stands under the base of its object, and its latest version, registered or still to be opened, is of the
+-- object
 pub record IsEntered (S : State) (base : ℕ) (e : Entry) : Type 0 where
   pub base_of : e.object.base ≡ base
   pub version : (x : Version) → get S.versions e.latest ≡ Some x → x.object ≡ e.object
@@ -39,6 +40,14 @@ HeldBanksLaw =
     → Reached m i S
     → (get S.places n ≡ Some bank → bank < m.sizes.banks)
     × (get S.buffers n ≡ Some bank → bank < m.sizes.banks)
+
+-- only a held buffer has contents, with as many bytes as an object may have
+abbrev pub ContentsLaw : Type 0
+ContentsLaw =
+    (m : Machine) (i : ImageState) (S : State) (n : OpName) (bytes : List ℕ)
+    → Reached m i S
+    → get S.contents n ≡ Some bytes
+    → ((bank : ℕ) × (get S.buffers n ≡ Some bank)) × (length bytes ≡ m.limits.object_bytes)
 
 -- code and the ranges of home are those of the image, and no range shares an address with a task's scratch
 pub record IsGrounded (i : ImageState) (S : State) : Type 0 where

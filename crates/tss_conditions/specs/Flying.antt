@@ -20,8 +20,8 @@ pub record IsInFlight (S : State) (o : OpName) : Type 0 where
   pub operand : OperandState
   pub place : slice_get flying.operands o.place ≡ Some operand
 
--- one that is told now: it was told nothing yet and hasn't said farewell, and its task waits. There is room in the queue
--- where its task is queued then
+-- one that is told now: it was told nothing yet and hasn't said farewell, and its task waits. There is room in the
+-- queue where its task is queued then
 pub record IsTold (m : Machine) (S : State) (o : OpName) (s : Source) : Type 0 where
   pub flies : IsInFlight S o
   pub untold : flies.operand.source ≡ None

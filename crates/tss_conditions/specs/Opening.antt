@@ -1,13 +1,15 @@
 -- What open and use find in the versioning tables, and how versions stand there.
-use Rattle.std.specs.Prelude.{◌≡◌, ◌⊎◌, ◌-◌, ◌^◌, ◌<◌, ◌==◌, Option, Some, None}
+use Rattle.std.specs.Prelude.{◌≡◌, ℕ, ◌⊎◌, ◌-◌, ◌^◌, ◌<◌, ◌==◌, Option, Some, None}
 use Rattle.std.specs.FinMap.{get}
 use Rattle.tss_base.specs.declared.range.Range.{Range}
 use Rattle.tss_base.specs.declared.operand.OpName.{OpName}
 use Rattle.tss_base.specs.declared.operand.Mode.TheVariants.{Output, Inout}
+use Rattle.tss_base.specs.declared.machine.Sizes.{Sizes}
 use Rattle.tss_base.specs.declared.machine.Machine.{Machine}
 use Rattle.tss_base.specs.declared.marks.How.TheVariants.{Beside, Over}
 use Rattle.tss_base.specs.declared.marks.Follow.{Follow}
 use Rattle.tss_base.specs.Image.{ImageState}
+use Rattle.tss_base.specs.Names.{Named}
 use Rattle.tss_maps.specs.Sums.{count_of}
 use Rattle.tss_protocol.specs.Names.{bank_of}
 use Rattle.tss_protocol.specs.Mail.{Home, Buffer, OpenContents}
@@ -18,8 +20,8 @@ use Rattle.tss_conditions.specs.Reached.{Reached}
 
 -- ---- versions
 
--- a version of an object stands next in its chain: it is registered, younger, and stands behind the one before. Over that
--- one it has no storage yet
+-- a version of an object stands next in its chain: it is registered, younger, and stands behind the one before. Over
+-- that one it has no storage yet
 pub record IsNextOf (S : State) (whole : Range) (v : OpName) (f : Follow) : Type 0 where
   pub version : Version
   pub there : get S.versions f.version ≡ Some version
@@ -38,8 +40,8 @@ pub record IsBeforeOf (S : State) (whole : Range) (v q : OpName) : Type 0 where
   pub link : version.successor ≡ Some follow
   pub back : follow.version ≡ v
 
--- a registered version: it is settled, its neighbours are registered, it has no more readers than there are numbers, and
--- holds a place in the bank of its object
+-- a registered version: it is settled, its neighbours are registered, it has no more readers than there are numbers,
+-- and holds a place in the bank of its object
 pub record IsRegistered (m : Machine) (S : State) (v : OpName) (x : Version) : Type 0 where
   pub settled : IsSettled x
   pub after : (f : Follow) → x.successor ≡ Some f → IsNextOf S x.object v f
@@ -58,8 +60,8 @@ RegisteredLaw =
 
 -- ---- open
 
--- the storage of an open, by what it follows: home where it follows nothing, none for an inout over another version, and
--- a buffer of its own name for an output beside another one
+-- the storage of an open, by what it follows: home where it follows nothing, none for an inout over another version,
+-- and a buffer of its own name for an output beside another one
 abbrev pub HasOpenForm : OpName → OpenContents → Option Follow → Type 0
 HasOpenForm o c None = c.storage ≡ Some Home
 HasOpenForm o c (Some f) =
@@ -72,6 +74,10 @@ pub record IsLastOf (S : State) (o : OpName) (c : OpenContents) (x : Version) (f
   pub last : x.successor ≡ None
   pub older : f.version.task < o.task
 
+-- the versions of a bank
+abbrev pub versions_in : Sizes → ℕ → Named Version → ℕ
+versions_in sizes bank versions = count_of (λ v x. bank_of sizes x.object == bank) versions
+
 -- an open: no version has its name, a place of its object's bank is held under it, and so is its buffer, it has a form
 -- that decode sends, and the versions of its bank are fewer than the places
 pub record IsOpenable (m : Machine) (S : State) (o : OpName) (c : OpenContents) : Type 0 where
@@ -81,7 +87,7 @@ pub record IsOpenable (m : Machine) (S : State) (o : OpName) (c : OpenContents) 
   pub form : HasOpenForm o c c.follows
   pub bare : (f : Follow) → c.follows ≡ Some f → f.how ≡ Over → c.storage ≡ None
   pub follows : (f : Follow) (x : Version) → c.follows ≡ Some f → get S.versions f.version ≡ Some x → IsLastOf S o c x f
-  pub room : count_of (λ v x. bank_of m.sizes x.object == bank_of m.sizes c.operand.object) S.versions < m.sizes.versions
+  pub room : versions_in m.sizes (bank_of m.sizes c.operand.object) S.versions < m.sizes.versions
 
 -- in every reached state
 abbrev pub OpeningLaw : Type 0
@@ -93,8 +99,8 @@ OpeningLaw =
 
 -- ---- use
 
--- a use: its operand has a record, and the version that it names, where that is registered, is of the operand's object and
--- older
+-- a use: its operand has a record, and the version that it names, where that is registered, is of the operand's object
+-- and older
 pub record IsUsable (S : State) (o v : OpName) : Type 0 where
   pub operand : OperandState
   pub there : operand_at S.flight o ≡ Some operand

@@ -1,5 +1,5 @@
 -- The messages that an event sends, and that each may be posted.
-use Rattle.std.specs.Prelude.{◌≡◌, ◌+◌, ◌≤◌, List, [], ◌∷◌, length, Option, Some, None}
+use Rattle.std.specs.Prelude.{◌≡◌, ℕ, ◌+◌, ◌<◌, ◌≤◌, List, [], ◌∷◌, length, Option, Some, None}
 use Rattle.std.specs.FinMap.{get}
 use Rattle.tss_base.specs.declared.operand.OpName.{OpName}
 use Rattle.tss_base.specs.declared.operand.Operand.{Operand}
@@ -104,8 +104,20 @@ abbrev pub ArePostable : Mail → List Message → Type 0
 ArePostable mail [] = Unit {0}
 ArePostable mail (x ∷ xs) = (message_at mail (name_of x) ≡ None) × ArePostable (posted mail x) xs
 
--- the messages of an event: in the mail without the message that the event takes each has a new name, with them it is the
--- mail after the event, and there is room for all of them
+-- what holds before the messages of a list are posted, one after the other: each has a new name and there is room for
+-- all
+pub record MayPostAll (most : ℕ) (m : Mail) (xs : List Message) : Type 0 where
+  pub fresh : ArePostable m xs
+  pub room : message_count m + length xs ≤ most
+
+-- the first may be posted, and then the others
+pub record MayPostNext (most : ℕ) (m : Mail) (x : Message) (xs : List Message) : Type 0 where
+  pub fresh : message_at m (name_of x) ≡ None
+  pub room : message_count m < most
+  pub rest : MayPostAll most (posted m x) xs
+
+-- the messages of an event: in the mail without the message that the event takes each has a new name, with them it is
+-- the mail after the event, and there is room for all of them
 pub record MayPost (m : Machine) (S : State) (e : Event) : Type 0 where
   pub fresh : ArePostable (taken S.mail e) (sent_by_event m S e)
   pub mail : (after_event m S e).mail ≡ posted_all (taken S.mail e) (sent_by_event m S e)

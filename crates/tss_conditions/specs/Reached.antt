@@ -3,7 +3,7 @@ use Rattle.tss_base.specs.declared.machine.Machine.{Machine}
 use Rattle.tss_base.specs.declared.event.Event.{Event}
 use Rattle.tss_base.specs.Image.{ImageState, IsAccepted}
 use Rattle.tss_base.specs.Machine.{IsAdmissible}
-use Rattle.tss_protocol.specs.State.{State}
+use Rattle.tss_protocol.specs.State.{State, initial_state}
 use Rattle.tss_protocol.specs.UnitMachine.{IsEnabled, after_event}
 use Rattle.tss_protocol.specs.Run.{IsReachable}
 
@@ -13,7 +13,11 @@ pub record Reached (m : Machine) (i : ImageState) (S : State) : Type 0 where
   pub admissible : IsAdmissible m
   pub reachable : IsReachable m i S
 
--- one more event
+-- the first state is reached
+abbrev pub FirstLaw : Type 0
+FirstLaw = (m : Machine) (i : ImageState) → IsAccepted i → IsAdmissible m → Reached m i (initial_state i)
+
+-- and so is the state after an enabled event
 abbrev pub ReachedLaw : Type 0
 ReachedLaw =
     (m : Machine) (i : ImageState) (S : State) (e : Event)

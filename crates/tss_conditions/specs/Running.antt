@@ -30,8 +30,8 @@ pub record HasFitObject (m : Machine) (S : State) (p : Operand) : Type 0 where
   pub within : range_of S.home.ranges p.object ≡ Some writable
   pub written : writes p.mode ≡ true → writable ≡ true
 
--- a task may run over these storages: it has one for each operand, its objects share no address and fit, a buffer is held
--- in the bank of its operand's object, and no buffer is that of two operands
+-- a task may run over these storages: it has one for each operand, its objects share no address and fit, a buffer is
+-- held in the bank of its operand's object, and no buffer is that of two operands
 pub record MayRunOver (m : Machine) (S : State) (t : Task) (ss : List StorageName) : Type 0 where
   pub proper : IsProper m t
   pub storages : length ss ≡ length (operands_of t)
@@ -49,8 +49,8 @@ IsSet m S b = (bytes : List ℕ) × (get S.contents b ≡ Some bytes) × (m.limi
 
 -- ---- start
 
--- the task at the front of the queue: it is in flight, queued, and each of its operands was told its storage. The buffers
--- of operands that it reads are set
+-- the task at the front of the queue: it is in flight, queued, and each of its operands was told its storage. The
+-- buffers of operands that it reads are set
 pub record IsStartable (m : Machine) (S : State) (t : ℕ) : Type 0 where
   pub flying : Flying
   pub there : get S.flight t ≡ Some flying
@@ -72,8 +72,8 @@ StartLaw =
 
 -- ---- exec, finish
 
--- the task of a busy worker: it is in flight and runs, with the storages that it was told, and all its buffers are set. It
--- has completed no more instructions than a task may
+-- the task of a busy worker: it is in flight and runs, with the storages that it was told, and all its buffers are set.
+-- It has completed no more instructions than a task may
 pub record IsRunning (m : Machine) (S : State) (w : ℕ) (b : Busy) : Type 0 where
   pub worker : w < m.sizes.workers
   pub flying : Flying

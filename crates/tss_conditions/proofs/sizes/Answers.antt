@@ -1,4 +1,4 @@
-use Rattle.tss_conditions.proofs.Filling.{within_sizes, entered, held_banks, grounded, main_limits}
+use Rattle.tss_conditions.proofs.Filling.{within_sizes, entered, held_banks, contents_whole, grounded, main_limits}
 use Rattle.tss_conditions.proofs.sizes.Goals as goal
 
 pub returns-clause-within : goal.returns-clause-within
@@ -15,3 +15,6 @@ returns-clause-ground c = grounded
 
 pub returns-clause-main : goal.returns-clause-main
 returns-clause-main c = main_limits
+
+pub returns-clause-contents : goal.returns-clause-contents
+returns-clause-contents c = contents_whole
