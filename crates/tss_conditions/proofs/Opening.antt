@@ -18,7 +18,7 @@ use Rattle.tss_control.specs.Members.{IsVersionOf}
 use Rattle.tss_control.specs.Chains.{OpensAfter}
 use Rattle.tss_control.proofs.rounds.Facts.{Facts}
 use Rattle.tss_control.proofs.holders.Finished.{its_operand}
-use Rattle.tss_conditions.specs.Opening.{IsNextOf, IsBeforeOf, RegisteredLaw, HasOpenForm, IsLastOf, OpeningLaw, IsUsable, UsingLaw}
+use Rattle.tss_conditions.specs.Opening.{IsNextOf, IsBeforeOf, RegisteredLaw, LinksLaw, HasOpenForm, IsLastOf, OpeningLaw, IsUsable, UsingLaw}
 use Rattle.tss_conditions.proofs.Known.{facts_reached}
 use Rattle.tss_conditions.proofs.VersionRoom.{few_versions}
 use Rattle.tss_conditions.proofs.Holding.{few_operands, held_in_bank}
@@ -135,6 +135,18 @@ registered m i S v x r there =
       buffer = λ b e.
           held_in_bank m i S r v b p.0 (inr (inl (x, there, e))) p.1
           ∙ ap (λ x. Some (bank_of m.sizes x)) p.2;
+    }
+
+pub links_within : LinksLaw
+links_within m i S r =
+    let facts = facts_reached m i S r in
+    record {
+      predecessor = λ v q x y at to there.
+          let n = before_of m S facts v x at q to in
+          ap (λ (x : Version). x.object) (one_value S.versions q y n.version there n.there) ∙ n.object;
+      successor = λ v f x y at to there.
+          let n = next_of m S facts v x at f to in
+          ap (λ (x : Version). x.object) (one_value S.versions f.version y n.version there n.there) ∙ n.object;
     }
 
 pub openable : OpeningLaw

@@ -9,12 +9,17 @@ use Rattle.tss_base.specs.declared.marks.Follow.{Follow}
 use Rattle.tss_protocol.specs.Names.{bank_of}
 use Rattle.tss_protocol.specs.Mail.{StorageName, IdleContents, GoneContents}
 use Rattle.tss_protocol.specs.State.{State, Entry, Version}
+use Rattle.std.specs.Prelude.{is_some}
+use Rattle.tss_protocol.specs.Buffers.{can_retire_from}
+use Rattle.tss_protocol.specs.UnitMachine.{is_enabled, can_retire}
+use Rattle.tss_phases.proofs.Tests.{both}
+use Rattle.tss_names.proofs.PlainLemmas.{none_from_test}
 use Rattle.tss_control.specs.Members.{operand_among, IsVersionOf}
 use Rattle.tss_control.specs.Entries.{HasEntryOf, IsLeaving}
 use Rattle.tss_control.proofs.rounds.EntryOf.{decide_entry_of}
 use Rattle.tss_control.proofs.rounds.EntriesNames.{operand_of_object}
 use Rattle.tss_control.proofs.rounds.Facts.{Facts}
-use Rattle.tss_conditions.specs.Retiring.{IsIdle, IdleLaw, NackLaw, MayLeave, RetiringLaw, GoneLaw}
+use Rattle.tss_conditions.specs.Retiring.{IsIdle, IdleLaw, NackLaw, MayLeave, RetiringLaw, EngineLaw, GoneLaw}
 use Rattle.tss_conditions.proofs.Known.{facts_reached}
 use Rattle.tss_conditions.proofs.Holding.{held_in_bank}
 
@@ -128,6 +133,14 @@ may_leave m i S v r there =
     let facts = facts_reached m i S r in
     let a = facts.ground.asking.retires v there in
     leaves m S facts v there a.0 a.1.0 a.1.1 a.1.2
+
+pub engine_idle : EngineLaw
+unfolding is_enabled
+engine_idle m S v n x on there stored =
+    let may = (both (is_some (get S.mail.retires v)) (can_retire m S (get S.versions v)) on).1 in
+    none_from_test (get S.copies (bank_of m.sizes x.object))
+    (ap (λ s. can_retire_from s (get S.copies (bank_of m.sizes x.object))) (sym stored)
+    ∙ ap (can_retire m S) (sym there) ∙ may)
 
 pub gone_of : GoneLaw
 gone_of m i S v c r there =

@@ -58,6 +58,17 @@ RegisteredLaw =
     → get S.versions v ≡ Some x
     → IsRegistered m S v x
 
+-- the links of versions stay within their objects
+pub record LinkWithinObjects (vs : Named Version) : Type 0 where
+  pub predecessor : (v q : OpName) (x y : Version) → get vs v ≡ Some x → x.predecessor ≡ Some q → get vs q ≡ Some y
+      → y.object ≡ x.object
+  pub successor : (v : OpName) (f : Follow) (x y : Version) → get vs v ≡ Some x → x.successor ≡ Some f
+      → get vs f.version ≡ Some y → y.object ≡ x.object
+
+-- in every reached state
+abbrev pub LinksLaw : Type 0
+LinksLaw = (m : Machine) (i : ImageState) (S : State) → Reached m i S → LinkWithinObjects S.versions
+
 -- ---- open
 
 -- the storage of an open, by what it follows: home where it follows nothing, none for an inout over another version,

@@ -3,10 +3,12 @@ use Rattle.std.specs.Prelude.{◌≡◌, ℕ, true, Some, None}
 use Rattle.std.specs.FinMap.{get}
 use Rattle.tss_base.specs.declared.operand.OpName.{OpName}
 use Rattle.tss_base.specs.declared.machine.Machine.{Machine}
+use Rattle.tss_base.specs.declared.event.Event.TheVariants as event
 use Rattle.tss_base.specs.Image.{ImageState}
 use Rattle.tss_protocol.specs.Names.{bank_of}
-use Rattle.tss_protocol.specs.Mail.{StorageName, IdleContents, GoneContents}
+use Rattle.tss_protocol.specs.Mail.{StorageName, Buffer, IdleContents, GoneContents}
 use Rattle.tss_protocol.specs.State.{State, Entry, Version}
+use Rattle.tss_protocol.specs.UnitMachine.{IsEnabled}
 use Rattle.tss_conditions.specs.Reached.{Reached}
 
 -- a registered version has asked with a number of readers
@@ -54,6 +56,15 @@ RetiringLaw =
     → Reached m i S
     → get S.mail.retires v ≡ Some tt
     → MayLeave S v
+
+-- where one that lies in a buffer may be removed, the bank of its object copies nothing
+abbrev pub EngineLaw : Type 0
+EngineLaw =
+    (m : Machine) (S : State) (v n : OpName) (x : Version)
+    → IsEnabled m S (event.Retire v)
+    → get S.versions v ≡ Some x
+    → x.storage ≡ Some (Buffer n)
+    → get S.copies (bank_of m.sizes x.object) ≡ None
 
 -- of one that is gone a place is held in the bank of its object, and so is its buffer. Where it was the last of its
 -- object, the object has an entry, which is about to leave

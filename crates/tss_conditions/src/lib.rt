@@ -8,14 +8,14 @@ ghost use Rattle.tss_conditions.specs.Reached.{FirstLaw, ReachedLaw};
 ghost use Rattle.tss_conditions.specs.Posting.{PostingLaw};
 ghost use Rattle.tss_conditions.specs.Taking.{ArrivingLaw, TakingLaw, LinesLaw};
 ghost use Rattle.tss_conditions.specs.Decoding.{DecodingLaw};
-ghost use Rattle.tss_conditions.specs.Opening.{RegisteredLaw, OpeningLaw, UsingLaw};
+ghost use Rattle.tss_conditions.specs.Opening.{RegisteredLaw, LinksLaw, OpeningLaw, UsingLaw};
 ghost use Rattle.tss_conditions.specs.Releasing.{ReleasingLaw};
 ghost use Rattle.tss_conditions.specs.Flying.{ReadyLaw, LinkLaw, ByeLaw};
 ghost use Rattle.tss_conditions.specs.Running.{StartLaw, RunningLaw};
 ghost use Rattle.tss_conditions.specs.Copying.{CopyLaw};
 ghost use Rattle.tss_conditions.specs.Fitting.{FittingLaw};
 ghost use Rattle.tss_conditions.specs.Filling.{WithinLaw, EntriesLaw, HeldBanksLaw, ContentsLaw, GroundLaw, MainLaw};
-ghost use Rattle.tss_conditions.specs.Retiring.{IdleLaw, NackLaw, RetiringLaw, GoneLaw};
+ghost use Rattle.tss_conditions.specs.Retiring.{IdleLaw, NackLaw, RetiringLaw, EngineLaw, GoneLaw};
 
 /// The first state is reached, and so is the state after an enabled event.
 pub fn reached()
@@ -47,7 +47,8 @@ pub fn decodes()
 /// Each registered version is settled and has registered neighbours of its own object, the older before it. It holds a
 /// place in the bank of its object, and so is its buffer held.
 pub fn versions()
-    ensures { RegisteredLaw }
+    ensures registered { RegisteredLaw }
+    ensures links { LinksLaw }
 {}
 
 /// An open has a form that decode sends. No version has its name, its place and its buffer are held in its object's
@@ -65,12 +66,13 @@ pub fn releases()
 {}
 
 /// A version that asks, may not retire, or may, is registered and has asked. That which may is the last and has a
-/// storage. Of one that is gone a place is held, and its buffer, and where it was the last, the object's entry is about
-/// to leave.
+/// storage, and where it may leave a buffer, its bank copies nothing. Of one that is gone a place is held, and its
+/// buffer, and where it was the last, the object's entry is about to leave.
 pub fn retirement()
     ensures idle_message { IdleLaw }
     ensures nack_message { NackLaw }
     ensures retire_message { RetiringLaw }
+    ensures engine { EngineLaw }
     ensures gone_message { GoneLaw }
 {}
 
