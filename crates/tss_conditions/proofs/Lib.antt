@@ -8,6 +8,7 @@ pub mod Posting
 pub mod Spawned
 pub mod BufferBanks
 pub mod Holding
+pub mod Lines
 pub mod Taking
 pub mod Decoding
 pub mod VersionRoom

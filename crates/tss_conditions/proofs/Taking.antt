@@ -1,21 +1,17 @@
 -- What take finds follows from the laws.
-use Rattle.std.proofs.Common.{◌≡◌, ℕ, suc, ◌+◌, ◌<◌, ◌≤◌, Bool, true, false, List, [], ◌∷◌, length, Option, Some, None, refl, sym, ap, ◌∙◌, inl, inr, arith, true≢false}
-use Rattle.std.specs.Prelude.{◌==◌}
+use Rattle.std.proofs.Common.{◌≡◌, ℕ, suc, ◌+◌, ◌<◌, ◌≤◌, Bool, true, false, List, [], ◌∷◌, length, Some, None, sym, ap, inl, inr, arith, true≢false}
 use Rattle.std.specs.FinMap.{get, len}
 use Rattle.std.proofs.lemmas.List.{length_push}
-use Rattle.std.proofs.lemmas.Option.{none-some}
 use Rattle.tss_base.specs.declared.operand.OpName.{OpName}
 use Rattle.tss_base.specs.declared.operand.Operand.{Operand}
 use Rattle.tss_base.specs.declared.operand.Task.{Task}
 use Rattle.tss_base.specs.declared.machine.Machine.{Machine}
 use Rattle.tss_base.specs.declared.event.Event.TheVariants as event
-use Rattle.tss_maps.specs.Parts.{key_where}
 use Rattle.tss_maps.proofs.Keys.{name_order}
 use Rattle.tss_maps.proofs.Changes.{decide_get}
-use Rattle.tss_maps.proofs.Entries.{len_added, len_at_most}
-use Rattle.tss_maps.proofs.PartsLemmas.{get-keys_where}
+use Rattle.tss_maps.proofs.Entries.{len_added}
 use Rattle.tss_model.specs.Access.{operands_of}
-use Rattle.tss_protocol.specs.Names.{bank_of, operand_name}
+use Rattle.tss_protocol.specs.Names.{operand_name}
 use Rattle.tss_protocol.specs.Mail.{Decode, Mail, posted, posted_all}
 use Rattle.tss_protocol.specs.State.{State}
 use Rattle.tss_protocol.specs.Gateway.{decodes_from, sent_by_take}
@@ -32,34 +28,16 @@ use Rattle.tss_control.proofs.GroundworkControl.{sizes_of_runs}
 use Rattle.tss_conditions.specs.Posting.{ArePostable}
 use Rattle.tss_conditions.specs.Taking.{IsProper, ArrivingLaw, TakingLaw, LinesLaw}
 use Rattle.tss_conditions.proofs.Known.{reached_after, facts_reached, counts_reached}
+use Rattle.tss_conditions.proofs.Lines.{from_line, no_line, few_in_line, window_room}
 use Rattle.tss_conditions.proofs.Postable.{nothing_there}
 use Rattle.tss_conditions.proofs.PostingTasks.{none_decoding, postable_take}
 
 -- ---- the lines
 
--- what stands in a line is to be decoded
-pub from_line : (m : Machine) (S : State) (bank : ℕ) (o : OpName)
-    → get (line_of m.sizes bank S.mail.decodes) o ≡ Some tt → (p : Operand) × (get S.mail.decodes o ≡ Some p)
-from_line m S bank o e =
-    by (get S.mail.decodes o) refl
-    (sym (get-keys_where name_order (λ o p. bank_of m.sizes p.object == bank) S.mail.decodes o) ∙ e)
-  where
-    by : (x : Option Operand) → get S.mail.decodes o ≡ x
-        → key_where (λ o (p : Operand). bank_of m.sizes p.object == bank) o x ≡ Some tt
-        → (p : Operand) × (get S.mail.decodes o ≡ Some p)
-    by None at k = absurd (none-some tt k)
-    by (Some p) at k = (p, at)
-
--- a line is no longer than what is to be decoded
-few_in_line : (m : Machine) (S : State) (bank : ℕ)
-    → len (line_of m.sizes bank S.mail.decodes) ≤ len S.mail.decodes
-few_in_line m S bank =
-    len_at_most name_order (line_of m.sizes bank S.mail.decodes) S.mail.decodes (λ o x e. from_line m S bank o e)
-
 pub short_lines : LinesLaw
 short_lines m i S bank r =
     let few = (messages_of_runs m i r.reachable.0 S r.accepted r.admissible r.reachable.1).gateway in
-    (few_in_line m S bank, omega (arith, few))
+    (few_in_line m.sizes bank S.mail.decodes, omega (arith, few))
 
 -- ---- spawned tasks
 
@@ -113,13 +91,10 @@ module _ (m : Machine) (S : State) (facts : Facts m S) (t : Task) (arrives : S.i
   ]
 
   unlined : (bank : ℕ) (o : OpName) → o.task ≡ t.number → get (line_of m.sizes bank S.mail.decodes) o ≡ None
-  unlined bank o own =
-      get-keys_where name_order (λ o p. bank_of m.sizes p.object == bank) S.mail.decodes o
-      ∙ ap (key_where (λ o (p : Operand). bank_of m.sizes p.object == bank) o)
-      (none_decoding m S facts t arrives o own)
+  unlined bank o own = no_line m.sizes bank S.mail.decodes o (none_decoding m S facts t arrives o own)
 
   above : (bank : ℕ) (o : OpName) → get (line_of m.sizes bank S.mail.decodes) o ≡ Some tt → o.task < t.number
-  above bank o at = let p = from_line m S bank o at in decode_below o p.0 p.1
+  above bank o at = let p = from_line m.sizes bank S.mail.decodes o at in decode_below o p.0 p.1
 
 pub arriving : ArrivingLaw
 arriving m i S t r e =
@@ -171,7 +146,9 @@ room_to_take m i S t r on e =
     let many = len-decodes t.number 0 (operands_of t) S.mail fresh in
     let mail = ap (λ (mail : Mail). len mail.decodes) (mail_taken m S t e) in
     let queue = ap length (queue_taken m S t e) in
+    let window = window_room m r.admissible in
     record {
       decodes = omega (arith, few, many, mail);
+      lines = omega (arith, few, many, mail, window);
       queue = queued_more S.queue t.number (is_queued (entered t).stage) (all_slots m) (omega (arith, ready, queue));
     }

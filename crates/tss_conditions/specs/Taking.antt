@@ -4,6 +4,9 @@ use Rattle.std.specs.FinMap.{get, len}
 use Rattle.tss_base.specs.declared.operand.OpName.{OpName}
 use Rattle.tss_base.specs.declared.operand.Operand.{Operand}
 use Rattle.tss_base.specs.declared.operand.Task.{Task}
+use Rattle.tss_base.specs.declared.bounds.TheConstants.{MAX_OPERANDS}
+use Rattle.tss_base.specs.declared.machine.Sizes.{Sizes}
+use Rattle.tss_protocol.specs.Mail.{Decode, Mail, posted}
 use Rattle.tss_base.specs.declared.machine.Machine.{Machine}
 use Rattle.tss_base.specs.declared.event.Event.TheVariants as event
 use Rattle.tss_base.specs.Image.{ImageState}
@@ -45,6 +48,7 @@ ArrivingLaw =
 -- where it may be taken, there is room for its decodes, and in the queue where it is queued at once
 pub record HasRoomToTake (m : Machine) (S : State) (t : Task) : Type 0 where
   pub decodes : len S.mail.decodes + length (operands_of t) ≤ m.sizes.window * m.limits.max_operands
+  pub lines : len S.mail.decodes + length (operands_of t) ≤ m.sizes.window * MAX_OPERANDS
   pub queue : is_queued (entered t).stage ≡ true → length S.queue < all_slots m
 
 -- in every reached state
@@ -55,6 +59,12 @@ TakingLaw =
     → IsEnabled m S event.Take
     → S.inbox ≡ Some t
     → HasRoomToTake m S t
+
+-- an operand whose decode is sent enters a line: it isn't there, there is room, and so there is for n more
+pub record MayExpect (sizes : Sizes) (most n : ℕ) (mail : Mail) (o : OpName) (p : Operand) : Type 0 where
+  pub fresh : (bank : ℕ) → get (line_of sizes bank mail.decodes) o ≡ None
+  pub room : (bank : ℕ) → len (line_of sizes bank mail.decodes) < most
+  pub rest : len (posted mail (Decode o p)).decodes + n ≤ most
 
 -- no bank's line is longer than all operands that a window of tasks may have
 abbrev pub LinesLaw : Type 0
