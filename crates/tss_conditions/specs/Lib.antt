@@ -1,0 +1,12 @@
+pub mod Reached
+pub mod Posting
+pub mod Taking
+pub mod Decoding
+pub mod Opening
+pub mod Releasing
+pub mod Retiring
+pub mod Flying
+pub mod Running
+pub mod Copying
+pub mod Fitting
+pub mod Filling
