@@ -17,13 +17,13 @@ module _ (places : Named ℕ) (o : OpName) (apart : AreApart places) where
   pub apart_inserted : (size p : ℕ) → IsFree places size p → AreApart (insert places o p)
   apart_inserted size p free x y q ex ey = elim (from_inserted name_order places o p x q ex) [
     | inl new ↦ elim (from_inserted name_order places o p y q ey) [
-        | inl also ↦ new.0 ∙ sym also.0
-        | inr old ↦ absurd (free.free y (old.1 ∙ ap Some new.1))
-      ]
+      | inl also ↦ new.0 ∙ sym also.0
+      | inr old ↦ absurd (free.free y (old.1 ∙ ap Some new.1))
+    ]
     | inr was ↦ elim (from_inserted name_order places o p y q ey) [
-        | inl new ↦ absurd (free.free x (was.1 ∙ ap Some new.1))
-        | inr old ↦ apart x y q was.1 old.1
-      ]
+      | inl new ↦ absurd (free.free x (was.1 ∙ ap Some new.1))
+      | inr old ↦ apart x y q was.1 old.1
+    ]
   ]
 
   -- a name that gives its place back

@@ -25,25 +25,6 @@ use Rattle.tss_renaming.specs.Decoding.{token_at, decode_letter, IsOpened, state
 
 -- ---- decode
 
-no_number : (w : Option Wait) → option_map wait_number w ≡ None → w ≡ None
-no_number None e = refl
-no_number (Some w) e = absurd (none-some (wait_number w) (sym e))
-
-first_absent : (b : Bool) (w : Wait) (rest : Option Wait) → wait_or b w rest ≡ None → (b ≡ false) × (rest ≡ None)
-first_absent true w rest e = absurd (none-some w (sym e))
-first_absent false w rest e = (refl, e)
-
--- where nothing is waited for and the object has no entry, there is room for one
-pub room_for_entry : (sizes : Sizes) (fill : Fill) (line : Named (Unit {0})) (o : OpName) (entry : Option Entry) (mode : Mode)
-    → option_map wait_number (bank_wait sizes fill line o entry mode) ≡ None → entry ≡ None → fill.entries < sizes.entries
-room_for_entry sizes fill line o (Some x) mode e none = absurd (none-some x (sym none))
-room_for_entry sizes fill line o None mode e none =
-    let turn = first_absent (has_earlier o line) _ (decode_wait sizes fill None mode)
-    (no_number (bank_wait sizes fill line o None mode) e) in
-    let room = first_absent (nat_le sizes.entries fill.entries) EntriesFull (needs_place sizes fill None) turn.1 in
-    let test = room.0 in
-    grind (arith, nat_tests, test)
-
 -- places of a bank, where one is taken or not
 of_bank_after : (bank : ℕ) (places : Named ℕ) (o : OpName) (place : ℕ) (takes : Bool)
     → of_bank bank (places_after_decode places o place takes) ≡ places_after_decode (of_bank bank places) o bank takes
@@ -66,42 +47,6 @@ decoded_tables s o operand place buffer =
       places = of_bank_after s.bank s.places o place (takes_place entry operand.mode) i;
       buffers = buffers_of_bank_after s.bank s.buffers o buffer (takes_buffer entry operand.mode) i;
     }
-
-module _ (bank : ℕ) (sizes : Sizes) (entries : TableState nat_cmp Entry) (places buffers : HeldState)
-    (line : TableState name_cmp (Unit {0})) (kept : IsBank bank sizes entries places buffers line)
-    (o : OpName) (operand : Operand) where
-  -- a decode that is done, by what it opened
-  pub decoded_from : (places_new buffers_new : HeldState) (letter : Message)
-      → IsOpened places places_new buffers buffers_new o operand (get entries.entries operand.object.base) letter
-      → (entries_new : TableState nat_cmp Entry)
-      → entries_new ≡ record entries { entries = insert entries.entries operand.object.base
-      (entry_after_decode o operand (get entries.entries operand.object.base)) }
-      → (line_new : TableState name_cmp (Unit {0})) → line_new ≡ record line { entries = remove line.entries o }
-      → IsDecoded (renaming_of bank sizes entries places buffers line)
-      (renaming_of bank sizes entries_new places_new buffers_new line_new) o operand (letter ∷ message.Ack o ∷ [])
-  decoded_from places_new buffers_new letter opened entries_new written line_new left =
-      let entry = get entries.entries operand.object.base in
-      record {
-        place = opened.place;
-        buffer = opened.buffer;
-        exact = λ i. renaming_of bank sizes (written i) (opened.places_are i) (opened.buffers_are i) (left i);
-        messages =
-            ap (λ m. m ∷ message.Ack o ∷ []) (opened.message ∙ (λ i. decode_letter o operand entry
-            (token_at (kept.place_number i) opened.place) (token_at (kept.buffer_number i) opened.buffer)));
-        fresh = λ takes. subst (λ n. IsFree places.places n opened.place) kept.place_room (opened.place_free takes);
-        fresh_buffer = λ takes.
-            subst (λ n. IsFree buffers.places n opened.buffer) kept.buffer_room (opened.buffer_free takes);
-      }
-
--- ---- idle
-
--- a version that may retire is granted it
-pub idle_granted : (entries : Numbered Entry) (v : OpName) (base count : ℕ) (x : Entry) → get entries base ≡ Some x
-    → may_retire v count (Some x) ≡ true
-    → after_idle entries v base count
-    ≡ record { part = insert entries base (record x { retiring = true }); sent = mail.Retire v ∷ [] }
-idle_granted entries v base count x there granted =
-    ap (λ m. idle_by entries v base m (may_retire v count m)) there ∙ ap (idle_by entries v base (Some x)) granted
 
 -- ---- gone
 

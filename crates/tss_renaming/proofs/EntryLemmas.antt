@@ -1,6 +1,6 @@
 -- A table of the code's entries, as one of the definitions' entries.
-use Rattle.std.proofs.Common.{◌≡◌, ℕ, None, refl, sym, ap, ◌∙◌, option_map}
-use Rattle.std.specs.Prelude.{slice_get}
+use Rattle.std.proofs.Common.{◌≡◌, ℕ, false, true≢false, Option, Some, None, refl, sym, ap, ◌∙◌, option_map}
+use Rattle.std.specs.Prelude.{slice_get, is_some}
 use Rattle.std.specs.Ordering.{nat_cmp}
 use Rattle.std.specs.FinMap.{get, insert, remove, empty, len}
 use Rattle.tss_maps.specs.Ordered.{key_at}
@@ -9,6 +9,11 @@ use Rattle.tss_maps.proofs.MappedLemmas.{get-mapped, len-mapped, keys-mapped, ma
 use Rattle.tss_tables.specs.Table.{TableState}
 use Rattle.tss_renaming.specs.declared.entry_view.EntryView.{EntryView}
 use Rattle.tss_renaming.specs.Entries.{entry_of, entries_of}
+
+-- where the test for something fails, nothing is there
+pub absent_of : {X : Type 0} (m : Option X) → is_some m ≡ false → m ≡ None
+absent_of None e = refl
+absent_of (Some x) e = absurd (true≢false e)
 
 -- an empty table
 pub entries_of-empty : (size : ℕ) → entries_of (record { size = size; entries = empty }) ≡ record { size = size; entries = empty }

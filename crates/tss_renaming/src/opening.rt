@@ -12,7 +12,13 @@ use tss_events::{Message, Opening};
 
 /// An object's first version follows nothing and lies at home. An input uses the latest version. An inout follows over it,
 /// and an output beside it, in a buffer of its own.
-pub fn opened(places: &mut Held, buffers: &mut Held, o: OpName, operand: &Operand, entry: Option<EntryView>) -> Message
+pub fn opened(
+    places: &mut Held,
+    buffers: &mut Held,
+    o: OpName,
+    operand: &Operand,
+    entry: Option<EntryView>,
+) -> Message
     requires room { takes_place (option_map entry_of entry) operand.now.mode ≡ true
         → map.len places.old.places < places.old.size }
     requires buffer_room { takes_buffer (option_map entry_of entry) operand.now.mode ≡ true

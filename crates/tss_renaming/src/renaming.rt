@@ -63,7 +63,8 @@ fn give_back(buffers: &mut Held, buffer: Option<HeldBuffer>)
     requires number { ForSome buffer (λ b. b.token.number ≡ buffers.old.number) }
     requires held { ForSome buffer (λ b. map.get buffers.old.places b.name ≡ Some b.token.place) }
     ensures { buffers.new ≡ record buffers.old {
-        places = buffers_after_gone buffers.old.places (option_map (λ b. b.name) buffer) } }
+      places = buffers_after_gone buffers.old.places (option_map (λ b. b.name) buffer);
+    } }
 {
     if let Some(HeldBuffer { name, token }) = buffer {
         buffers.give(name, token);
