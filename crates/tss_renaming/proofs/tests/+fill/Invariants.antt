@@ -2,4 +2,4 @@
 use Rattle.tss_renaming.proofs.tests.+fill.Given as goal
 
 abbrev pub decreases-fill : goal.decreases-fill
-decreases-fill l = l.more
+decreases-fill g l = l.more
