@@ -1,6 +1,6 @@
 -- No two names hold one place: what a name that takes a free place, and one that gives its place back, leave of that.
-use Rattle.std.proofs.Common.{◌≡◌, ℕ, Some, sym, ap, ◌∙◌, inl, inr}
-use Rattle.std.specs.FinMap.{get, insert, remove, empty, get-empty}
+use Rattle.std.proofs.Common.{ℕ, Some, sym, ap, ◌∙◌, inl, inr}
+use Rattle.std.specs.FinMap.{insert, remove, empty, get-empty}
 use Rattle.std.proofs.lemmas.Option.{none-some}
 use Rattle.tss_base.specs.declared.operand.OpName.{OpName}
 use Rattle.tss_base.specs.Names.{name_cmp, Named}

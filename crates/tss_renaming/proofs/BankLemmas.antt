@@ -1,27 +1,15 @@
 -- The rows of a bank, on what contracts see of it and on the definitions' tables.
-use Rattle.std.proofs.Common.{◌≡◌, ℕ, ◌<◌, Bool, true, false, Option, None, Some, ◌∷◌, [], refl, sym, ap, ◌∙◌, subst, arith, option_map}
-use Rattle.std.specs.Prelude.{nat_le}
-use Rattle.std.specs.Ordering.{nat_cmp}
-use Rattle.std.specs.FinMap.{get, insert, remove, len}
-use Rattle.std.proofs.lemmas.Bool.Decides.{nat_tests}
-use Rattle.std.proofs.lemmas.Option.{none-some}
+use Rattle.std.proofs.Common.{◌≡◌, ℕ, Bool, true, false, Option, None, Some, refl}
+use Rattle.std.specs.FinMap.{get, insert}
 use Rattle.tss_base.specs.declared.operand.OpName.{OpName}
-use Rattle.tss_base.specs.declared.operand.Mode.{Mode}
 use Rattle.tss_base.specs.declared.operand.Operand.{Operand}
-use Rattle.tss_base.specs.declared.machine.Sizes.{Sizes}
-use Rattle.tss_base.specs.Names.{name_cmp, Named, Numbered}
+use Rattle.tss_base.specs.Names.{Named}
 use Rattle.tss_maps.proofs.Keys.{name_order}
 use Rattle.tss_maps.proofs.MappedLemmas.{mapped-insert, mapped-remove}
-use Rattle.tss_tables.specs.Table.{TableState}
-use Rattle.tss_protocol.specs.Mail as mail
 use Rattle.tss_protocol.specs.Mail.{GoneContents}
-use Rattle.tss_protocol.specs.State.{Entry}
-use Rattle.tss_protocol.specs.Renaming.{Fill, Wait, EntriesFull, wait_number, wait_or, has_earlier, needs_place, decode_wait, bank_wait, entry_after_decode, takes_place, takes_buffer, places_after_decode, buffers_after_decode, idle_by, may_retire, after_idle, buffers_after_gone, after_gone}
-use Rattle.tss_events.specs.declared.message.Message.{Message}
-use Rattle.tss_events.specs.declared.message.Message.TheVariants as message
-use Rattle.tss_renaming.specs.Holding.{HeldState, IsFree}
-use Rattle.tss_renaming.specs.Bank.{RenamingState, of_bank, tables_of, renaming_of, IsBank, state_after_gone}
-use Rattle.tss_renaming.specs.Decoding.{token_at, decode_letter, IsOpened, state_after_decode, IsDecoded, decoded_in}
+use Rattle.tss_protocol.specs.Renaming.{entry_after_decode, takes_place, takes_buffer, places_after_decode, buffers_after_decode, buffers_after_gone, after_gone}
+use Rattle.tss_renaming.specs.Bank.{RenamingState, of_bank, tables_of, state_after_gone}
+use Rattle.tss_renaming.specs.Decoding.{state_after_decode, decoded_in}
 
 -- ---- decode
 

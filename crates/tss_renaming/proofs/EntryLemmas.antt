@@ -1,5 +1,5 @@
 -- A table of the code's entries, as one of the definitions' entries.
-use Rattle.std.proofs.Common.{◌≡◌, ℕ, false, true≢false, Option, Some, None, refl, sym, ap, ◌∙◌, option_map}
+use Rattle.std.proofs.Common.{◌≡◌, ℕ, false, true≢false, Option, Some, None, refl, sym, ap, option_map}
 use Rattle.std.specs.Prelude.{slice_get, is_some}
 use Rattle.std.specs.Ordering.{nat_cmp}
 use Rattle.std.specs.FinMap.{get, insert, remove, empty, len}

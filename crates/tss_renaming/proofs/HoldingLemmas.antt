@@ -1,7 +1,7 @@
 -- The places out of a pool are those that the names hold, after each change.
 use Rattle.std.proofs.Common.{◌≡◌, ℕ, ◌+◌, ◌<◌, Option, None, Some, sym, ap, ◌∙◌, inl, inr, arith, refl}
 use Rattle.std.specs.Prelude.{IfSome}
-use Rattle.std.specs.FinMap.{get, insert, remove, empty, len, get-empty, len-empty}
+use Rattle.std.specs.FinMap.{get, insert, remove, empty, get-empty, len-empty}
 use Rattle.std.specs.Ordering.{nat_cmp}
 use Rattle.std.proofs.lemmas.Option.{none-some, same_Some}
 use Rattle.tss_base.specs.declared.operand.OpName.{OpName}

@@ -1,16 +1,15 @@
 -- The first operand of the line tells whether it has one of an earlier task, since names are ordered by their tasks first.
 use Rattle.std.proofs.Common.{◌≡◌, ℕ, ◌<◌, ◌≤◌, Bool, true, false, Some, None, refl, sym, ap, ◌∙◌, arith, inl, inr}
-use Rattle.std.specs.Prelude.{nat_lt, nat_le}
+use Rattle.std.specs.Prelude.{nat_lt}
 use Rattle.std.specs.declared.cmp.Ordering.{Ordering}
 use Rattle.std.specs.declared.cmp.Ordering.TheVariants.{Less, Equal, Greater}
 use Rattle.std.specs.Ordering.{nat_cmp, ordering_then}
-use Rattle.std.specs.FinMap.{get, nat_cmp-IsAntisymmetric}
+use Rattle.std.specs.FinMap.{nat_cmp-IsAntisymmetric}
 use Rattle.std.proofs.lemmas.Bool.Decides.{nat_tests}
 use Rattle.std.proofs.lemmas.Option.{none-some}
 use Rattle.tss_base.specs.declared.operand.OpName.{OpName}
 use Rattle.tss_base.specs.Names.{name_cmp, Named}
 use Rattle.tss_maps.specs.Ordered.{least}
-use Rattle.tss_maps.specs.Sums.{count_of}
 use Rattle.tss_maps.proofs.Keys.{name_order, below_from_less, decide_key}
 use Rattle.tss_maps.proofs.Sums.{counted}
 use Rattle.tss_maps.proofs.Entries.{absent_empty}

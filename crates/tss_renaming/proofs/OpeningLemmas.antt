@@ -1,15 +1,15 @@
 -- What each mode takes and sends, with its tokens.
-use Rattle.std.proofs.Common.{◌≡◌, false, true, true≢false, None, Some, refl, sym, ap, ◌∙◌}
+use Rattle.std.proofs.Common.{◌≡◌, true≢false, None, Some, refl, sym, ap, ◌∙◌}
 use Rattle.std.specs.FinMap.{insert}
 use Rattle.tss_base.specs.declared.operand.OpName.{OpName}
-use Rattle.tss_base.specs.declared.operand.Mode.TheVariants.{Input, Output, Inout}
+use Rattle.tss_base.specs.declared.operand.Mode.TheVariants.{Output, Inout}
 use Rattle.tss_base.specs.declared.operand.Operand.{Operand}
 use Rattle.tss_tokens.specs.Pool.{TokenState}
 use Rattle.tss_protocol.specs.State.{Entry}
-use Rattle.tss_protocol.specs.Renaming.{takes_place, takes_buffer, places_after_decode, buffers_after_decode}
+use Rattle.tss_protocol.specs.Renaming.{takes_place, takes_buffer}
 use Rattle.tss_events.specs.declared.message.Message.TheVariants as message
 use Rattle.tss_renaming.specs.Holding.{HeldState, IsFree}
-use Rattle.tss_renaming.specs.Decoding.{first_opening, over_opening, beside_opening, live_letter, decode_letter, token_at, held_after, IsOpened}
+use Rattle.tss_renaming.specs.Decoding.{first_opening, over_opening, beside_opening, live_letter, token_at, held_after, IsOpened}
 
 -- a token is its number and its place
 pub token_is : (t : TokenState) (number : _) → t.number ≡ number → t ≡ token_at number t.place
