@@ -9,16 +9,21 @@ use Rattle.tss_base.specs.declared.operand.Storage.TheVariants as storage
 use Rattle.tss_base.specs.declared.marks.How.TheVariants.{Beside, Over}
 use Rattle.tss_tokens.specs.Pool.{TokenState}
 use Rattle.tss_protocol.specs.State.{Entry, Outcome}
-use Rattle.tss_protocol.specs.Renaming.{entry_after_decode, takes_place, takes_buffer, places_after_decode, buffers_after_decode, follows_latest, Tables, decoded_by}
+use Rattle.tss_protocol.specs.Renaming.{Wait, bank_wait, entry_after_decode, takes_place, takes_buffer, places_after_decode, buffers_after_decode, follows_latest, Tables, decoded_by}
 use Rattle.tss_events.specs.declared.message.Opening.{Opening}
 use Rattle.tss_events.specs.declared.message.Message.{Message}
 use Rattle.tss_events.specs.declared.message.Message.TheVariants as message
 use Rattle.tss_renaming.specs.declared.renaming.Decoded.{Decoded}
 use Rattle.tss_renaming.specs.declared.renaming.Decoded.TheVariants as decoded
 use Rattle.tss_renaming.specs.Holding.{HeldState, IsFree}
-use Rattle.tss_renaming.specs.Bank.{RenamingState, tables_of}
+use Rattle.tss_renaming.specs.Bank.{RenamingState, tables_of, fill_in}
 
 -- ---- the answer
+
+-- the first wait that holds for an operand in this bank
+abbrev pub wait_here : RenamingState → OpName → Operand → Option Wait
+wait_here s o operand =
+    bank_wait s.sizes (fill_in s) s.line o (get s.entries operand.object.base) operand.mode
 
 -- the number of the wait, if it is one
 abbrev pub waited : Decoded → Option ℕ

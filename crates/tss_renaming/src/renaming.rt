@@ -11,7 +11,7 @@ ghost use Rattle.tss_events.specs.Events.{messages_of, gone_of};
 ghost use Rattle.tss_renaming.specs.Entries.{entry_of};
 ghost use Rattle.tss_renaming.specs.Bank.{no_tables, tables_of, fill_in, state_after_gone, answered, buffer_under};
 ghost use Rattle.tss_renaming.specs.Holding.{HoldsAlone};
-ghost use Rattle.tss_renaming.specs.Decoding.{waited, IfDone, OnWait, IsDecoded, decoded_in};
+ghost use Rattle.tss_renaming.specs.Decoding.{waited, wait_here, IfDone, OnWait, IsDecoded, decoded_in};
 
 use crate::entries::Entries;
 use crate::entry_view::{EntryView, next_entry};
@@ -117,8 +117,7 @@ impl Renaming {
         requires place { map.get self.old.places o ≡ None }
         requires buffer { map.get self.old.buffers o ≡ None }
         requires uses { ForSome (map.get self.old.entries operand.now.object.base) (λ e. e.sent < 2 ^ 32 - 1) }
-        ensures waits { waited result ≡ option_map wait_number (bank_wait self.old.sizes (fill_in self.old) self.old.line
-            o (map.get self.old.entries operand.now.object.base) operand.now.mode) }
+        ensures waits { waited result ≡ option_map wait_number (wait_here self.old o operand.now) }
         ensures unchanged { OnWait result (self.new ≡ self.old) }
         ensures exact { IfDone result (IsDecoded self.old self.new o operand.now) }
         ensures tables { IfDone result (λ sent. tables_of self.new ≡ (decoded_in self.old o operand.now).part) }
@@ -140,8 +139,7 @@ impl Renaming {
 
     /// The number of what a decode of an operand would wait for: none where it would be done.
     pub fn wait_of(&self, o: OpName, operand: &Operand) -> Option<u32>
-        ensures { result ≡ option_map wait_number (bank_wait self.now.sizes (fill_in self.now) self.now.line
-            o (map.get self.now.entries operand.now.object.base) operand.now.mode) }
+        ensures { result ≡ option_map wait_number (wait_here self.now o operand.now) }
     {
         self.wait_by(o, operand.mode, self.entry(operand.object.base))
     }
