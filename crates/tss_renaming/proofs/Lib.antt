@@ -4,3 +4,4 @@ pub mod EntryLemmas
 pub mod LineLemmas
 pub mod OpeningLemmas
 pub mod BankLemmas
+pub mod DecodedLemmas
