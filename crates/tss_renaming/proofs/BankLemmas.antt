@@ -20,7 +20,8 @@ of_bank_after bank places o place true = mapped-insert name_order (λ p. bank) p
 of_bank_after bank places o place false = refl
 
 buffers_of_bank_after : (bank : ℕ) (buffers : Named ℕ) (o : OpName) (place : ℕ) (takes : Bool)
-    → of_bank bank (buffers_after_decode buffers o place takes) ≡ buffers_after_decode (of_bank bank buffers) o bank takes
+    → of_bank bank (buffers_after_decode buffers o place takes)
+    ≡ buffers_after_decode (of_bank bank buffers) o bank takes
 buffers_of_bank_after bank buffers o place true = mapped-insert name_order (λ p. bank) buffers o place
 buffers_of_bank_after bank buffers o place false = refl
 

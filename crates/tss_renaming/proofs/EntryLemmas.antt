@@ -16,7 +16,8 @@ absent_of None e = refl
 absent_of (Some x) e = absurd (true≢false e)
 
 -- an empty table
-pub entries_of-empty : (size : ℕ) → entries_of (record { size = size; entries = empty }) ≡ record { size = size; entries = empty }
+pub entries_of-empty : (size : ℕ)
+    → entries_of (record { size = size; entries = empty }) ≡ record { size = size; entries = empty }
 entries_of-empty size = ap (λ m. record { size = size; entries = m }) (mapped-empty nat_order entry_of)
 
 module _ (t : TableState nat_cmp EntryView) where
@@ -44,4 +45,5 @@ module _ (t : TableState nat_cmp EntryView) where
   pub entries_of-remove : (base : ℕ)
       → entries_of (record t { entries = remove t.entries base })
       ≡ record (entries_of t) { entries = remove (entries_of t).entries base }
-  entries_of-remove base = ap (λ m. record { size = t.size; entries = m }) (mapped-remove nat_order entry_of t.entries base)
+  entries_of-remove base =
+      ap (λ m. record { size = t.size; entries = m }) (mapped-remove nat_order entry_of t.entries base)

@@ -1,4 +1,5 @@
--- The first operand of the line tells whether it has one of an earlier task, since names are ordered by their tasks first.
+-- The first operand of the line tells whether it has one of an earlier task, since names are ordered by their tasks
+-- first.
 use Rattle.std.proofs.Common.{◌≡◌, ℕ, ◌<◌, ◌≤◌, Bool, true, false, Some, None, refl, sym, ap, ◌∙◌, arith, inl, inr}
 use Rattle.std.specs.Prelude.{nat_lt}
 use Rattle.std.specs.declared.cmp.Ordering.{Ordering}

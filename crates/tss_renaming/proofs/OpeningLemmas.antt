@@ -20,7 +20,8 @@ module _ (places places_new buffers : HeldState) (o : OpName) (operand : Operand
     (holds : places_new ≡ record places { places = insert places.places o t.place })
     (free : IsFree places.places places.size t.place) where
   -- an object's first version takes a place
-  pub opened_first : IsOpened places places_new buffers buffers o operand None (message.Open (first_opening o operand t))
+  pub opened_first :
+      IsOpened places places_new buffers buffers o operand None (message.Open (first_opening o operand t))
   opened_first = record {
     place = t.place;
     buffer = 0;
@@ -51,7 +52,8 @@ module _ (places places_new buffers : HeldState) (o : OpName) (operand : Operand
       → (buffers_new : HeldState) (b : TokenState) → b.number ≡ buffers.number
       → buffers_new ≡ record buffers { places = insert buffers.places o b.place }
       → IsFree buffers.places buffers.size b.place
-      → IsOpened places places_new buffers buffers_new o operand (Some x) (message.Open (beside_opening o operand x t b))
+      → IsOpened places places_new buffers buffers_new o operand (Some x)
+      (message.Open (beside_opening o operand x t b))
   opened_beside x mode buffers_new b buffer_number buffer_holds buffer_free = record {
     place = t.place;
     buffer = b.place;

@@ -122,8 +122,8 @@ abbrev pub letters_by_decode : ℕ → OpName → Operand → Option Entry → �
 letters_by_decode bank o operand entry place buffer =
     decode_letter o operand entry (token_at (2 * bank) place) (token_at (2 * bank + 1) buffer) ∷ message.Ack o ∷ []
 
--- a decode that is done: the place and the buffer that it takes, as far as it takes one, each held by no name before, the
--- bank after it, and the messages
+-- a decode that is done: the place and the buffer that it takes, as far as it takes one, each held by no name before,
+-- the bank after it, and the messages
 pub record IsDecoded (old new : RenamingState) (o : OpName) (operand : Operand) (sent : List Message) : Type 0 where
   pub place : ℕ
   pub buffer : ℕ

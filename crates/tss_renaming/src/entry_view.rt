@@ -28,8 +28,8 @@ impl EntryView {
         }
     }
 
-    /// Whether a version that counted so many readers may retire: it is the latest, and no further reader was directed to
-    /// it.
+    /// Whether a version that counted so many readers may retire: it is the latest, and no further reader was directed
+    /// to it.
     pub(crate) fn may_retire(&self, v: OpName, count: u32) -> bool
         ensures { result ≡ may_retire v count (Some (entry_of self.now)) }
     {

@@ -10,8 +10,8 @@ use tss_base::{NoMemory, OpName};
 use tss_tables::NameTable;
 use tss_tokens::{Ended, Pool, Token};
 
-/// The places of a pool that are out, each under the one name that holds it. A contract sees the pool's number and size,
-/// and the place of each name.
+/// The places of a pool that are out, each under the one name that holds it. A contract sees the pool's number and
+/// size, and the place of each name.
 #[derive(Drop)]
 pub struct Held {
     pool: Pool,

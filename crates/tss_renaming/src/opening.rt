@@ -10,8 +10,8 @@ use crate::held::Held;
 use tss_base::{How, Mode, OpName, Operand, Storage};
 use tss_events::{Message, Opening};
 
-/// An object's first version follows nothing and lies at home. An input uses the latest version. An inout follows over it,
-/// and an output beside it, in a buffer of its own.
+/// An object's first version follows nothing and lies at home. An input uses the latest version. An inout follows over
+/// it, and an output beside it, in a buffer of its own.
 pub fn opened(
     places: &mut Held,
     buffers: &mut Held,

@@ -111,8 +111,8 @@ impl Renaming {
         self.line.add(o, ());
     }
 
-    /// Decodes an operand of the line, or waits for the first of: its turn, its object's entry to leave, an entry, a place
-    /// and a buffer. An operand of an earlier task goes first. Done takes the operand out of the line.
+    /// Decodes an operand of the line, or waits for the first of: its turn, its object's entry to leave, an entry, a
+    /// place and a buffer. An operand of an earlier task goes first. Done takes the operand out of the line.
     pub fn decode(&mut self, o: OpName, operand: &Operand) -> Decoded
         requires place { map.get self.old.places o ≡ None }
         requires buffer { map.get self.old.buffers o ≡ None }
@@ -184,8 +184,8 @@ impl Renaming {
         }
     }
 
-    /// Whether an operand of an earlier task is in the line. Names are ordered by their tasks first, so the least name of
-    /// the line tells.
+    /// Whether an operand of an earlier task is in the line. Names are ordered by their tasks first, so the least name
+    /// of the line tells.
     fn has_earlier(&self, o: OpName) -> bool
         ensures { result ≡ has_earlier o self.now.line }
     {
@@ -216,8 +216,8 @@ impl Renaming {
         self.buffers.is_full()
     }
 
-    /// Answers a version that asks whether it may retire, with the number of readers that it counted. It may where it is
-    /// the latest of its object and no further reader was directed to it: then its entry is about to leave.
+    /// Answers a version that asks whether it may retire, with the number of readers that it counted. It may where it
+    /// is the latest of its object and no further reader was directed to it: then its entry is about to leave.
     pub fn idle(&mut self, v: OpName, base: u32, count: u32) -> Sent
         ensures exact { self.new ≡ record self.old { entries = (after_idle self.old.entries v base count).part } }
         ensures messages { result ≡ answered v (may_retire v count (map.get self.old.entries base)) }
@@ -239,8 +239,8 @@ impl Renaming {
         sent
     }
 
-    /// A version is gone: its place is free, its buffer where that ends with it, and its object's entry where it was the
-    /// last of the object.
+    /// A version is gone: its place is free, its buffer where that ends with it, and its object's entry where it was
+    /// the last of the object.
     pub fn gone(&mut self, m: Gone)
         requires place_number { m.place.number ≡ 2 * self.old.bank }
         requires place { map.get self.old.places m.version ≡ Some m.place.place }

@@ -32,7 +32,8 @@ returns-in-Inout c =
     let operand = c.args.operand.now in
     let t = c.take-in-Inout in
     let x = entry_of c.in-Some.entry in
-    let over = opened_over p t.new.self b o operand t.result t.ensures.number t.ensures.exact t.ensures.free x c.in-Inout.is in
+    let over = opened_over p t.new.self b o operand t.result t.ensures.number t.ensures.exact
+    t.ensures.free x c.in-Inout.is in
     subst (λ e. IsOpened p t.new.self b b o operand (option_map entry_of e)
     (message.Open (record (over_opening o operand x t.result) { follows = Some c.follow.result })))
     (sym c.in-Some.is)
@@ -49,8 +50,8 @@ returns-in-Output c =
     let t = c.take-in-Output in
     let u = c.take-buffer in
     let x = entry_of c.in-Some.entry in
-    let beside = opened_beside p t.new.self b o operand t.result t.ensures.number t.ensures.exact t.ensures.free x c.in-Output.is
-    u.new.self u.result u.ensures.number u.ensures.exact u.ensures.free in
+    let beside = opened_beside p t.new.self b o operand t.result t.ensures.number t.ensures.exact
+    t.ensures.free x c.in-Output.is u.new.self u.result u.ensures.number u.ensures.exact u.ensures.free in
     subst (λ e. IsOpened p t.new.self b u.new.self o operand (option_map entry_of e)
     (message.Open (record (beside_opening o operand x t.result u.result) {
       storage = Some (storage.Buffer c.place.result o);

@@ -13,12 +13,15 @@ returns-clause-tables c =
     let o = c.args.o in
     let operand = c.args.operand.now in
     let opened = c.opened-message.ensures in
+    let p = opened.place in
+    let b = opened.buffer in
     let written =
     c.put.ensures
     ∙ ap (λ e. record (r.entries) { entries = insert r.entries.entries operand.object.base e }) c.next_entry.ensures in
     ap tables_of (
-    (λ i. renaming_of r.bank r.sizes (written i) (opened.places_are i) (opened.buffers_are i) (c.remove.ensures.others i))
-    ∙ ap (λ (s : RenamingState). state_after_decode s o operand (option_map entry_of c.entry-entry.result) opened.place opened.buffer)
+    (λ i. renaming_of r.bank r.sizes (written i) (opened.places_are i) (opened.buffers_are i)
+    (c.remove.ensures.others i))
+    ∙ ap (λ (s : RenamingState). state_after_decode s o operand (option_map entry_of c.entry-entry.result) p b)
     c.self.view_is
-    ∙ ap (λ e. state_after_decode c.args.self.now o operand e opened.place opened.buffer) c.entry-entry.ensures)
-    ∙ decoded_tables c.args.self.now o operand opened.place opened.buffer
+    ∙ ap (λ e. state_after_decode c.args.self.now o operand e p b) c.entry-entry.ensures)
+    ∙ decoded_tables c.args.self.now o operand p b
