@@ -56,4 +56,5 @@ module _ {F : Type 0} (g : Ghosts F) (old new : FileLog F) where
       subst (λ name. Stays (other_by g old) (held_beside name (g.held new.files.now))) (sym keeps.name)
       (beside_stays (g.held old.files.now) (g.held new.files.now) old.name.now (appends_beside result line h))
   others_stay false result line keeps h =
-      subst (Stays (other_by g old)) (λ i. held_beside (sym keeps.name i) (g.held (sym h.files i))) (stays_same (other_by g old))
+      subst (Stays (other_by g old)) (λ i. held_beside (sym keeps.name i) (g.held (sym h.files i)))
+      (stays_same (other_by g old))

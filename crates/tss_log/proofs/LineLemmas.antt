@@ -25,12 +25,14 @@ ended : (c : ℕ) (cs : List ℕ) → (c == line_feed) ≡ true → lines_of (c 
 unfolding lines_of
 ended c cs e = ap (λ b. cond b ([] ∷ lines_of cs) (onto_first c (lines_of cs))) e
 
+-- a byte that ends no line, alone
 alone : (c : ℕ) → (c == line_feed) ≡ false → lines_of (c ∷ []) ≡ (c ∷ []) ∷ []
 unfolding lines_of
 alone c e = ap (λ b. cond b ([] ∷ []) (onto_first c [])) e
 
 -- the first line ends at the first line feed
-pub lines_cut : (bytes : List ℕ) (i : ℕ) → i < length bytes → ((k : ℕ) → k < i → (get_or bytes k 0 == line_feed) ≡ false)
+pub lines_cut : (bytes : List ℕ) (i : ℕ) → i < length bytes
+    → ((k : ℕ) → k < i → (get_or bytes k 0 == line_feed) ≡ false)
     → (get_or bytes i 0 == line_feed) ≡ true → lines_of bytes ≡ take i bytes ∷ lines_of (drop (suc i) bytes)
 lines_cut [] i h before here = absurd (omega arith)
 lines_cut (c ∷ cs) zero h before here = ended c cs here
@@ -39,7 +41,8 @@ lines_cut (c ∷ cs) (suc i) h before here =
     (lines_cut cs i (omega arith) (λ k h. before (suc k) (omega arith)) here)
 
 -- with no line feed all is one line
-pub lines_whole : (bytes : List ℕ) → 0 < length bytes → ((k : ℕ) → k < length bytes → (get_or bytes k 0 == line_feed) ≡ false)
+pub lines_whole : (bytes : List ℕ) → 0 < length bytes
+    → ((k : ℕ) → k < length bytes → (get_or bytes k 0 == line_feed) ≡ false)
     → lines_of bytes ≡ bytes ∷ []
 lines_whole [] h before = absurd (omega arith)
 lines_whole (c ∷ []) h before = alone c (before 0 (omega arith))
@@ -66,12 +69,15 @@ none_passes bytes e k h =
         → cond b (Some (position_or_len (λ c. c == line_feed) bytes)) None ≡ None
         → k < position_or_len (λ c. c == line_feed) bytes
     by true is e = absurd (cc)
-    by false is e = let far : length bytes ≤ position_or_len (λ c. c == line_feed) bytes = grind (arith, nat_tests) in omega arith
+    by false is e =
+        let far : length bytes ≤ position_or_len (λ c. c == line_feed) bytes = grind (arith, nat_tests) in
+        omega arith
 
 -- the bytes from a place on, as the code takes them
 rest_from : (n : ℕ) (bytes : List ℕ) → take (length bytes - n) (drop n bytes) ≡ drop n bytes
 rest_from n bytes = let l = length-drop n bytes in take_all (length bytes - n) (drop n bytes) (omega (arith, l))
 
+-- the first line feed, as it is found
 pub lines_found : (bytes : List ℕ) (i : ℕ) → position (λ c. c == line_feed) bytes ≡ Some i
     → lines_of bytes ≡ take i bytes ∷ lines_of (take (length bytes - (i + 1)) (drop (i + 1) bytes))
 lines_found bytes i e =
@@ -80,6 +86,7 @@ lines_found bytes i e =
     ∙ ap (λ n. take i bytes ∷ lines_of (drop n bytes)) (sym (add-one i))
     ∙ ap (λ l. take i bytes ∷ lines_of l) (sym (rest_from (i + 1) bytes))
 
+-- none is found
 pub lines_unfound : (bytes : List ℕ) → 0 < length bytes → position (λ c. c == line_feed) bytes ≡ None
     → lines_of bytes ≡ bytes ∷ lines_of []
 lines_unfound bytes h e =
@@ -96,6 +103,7 @@ abbrev last_of : ℕ → List ℕ → ℕ
 last_of c [] = c
 last_of c (d ∷ ds) = last_of d ds
 
+-- by its place
 last_is : (c : ℕ) (cs : List ℕ) → last_of c cs ≡ get_or (c ∷ cs) (length cs) 0
 last_is c [] = refl
 last_is c (d ∷ ds) = last_is d ds
@@ -104,19 +112,22 @@ last_is c (d ∷ ds) = last_is d ds
 abbrev end_after : Bool → List ℕ
 end_after b = cond b [] (line_feed ∷ [])
 
+-- some bytes have a line
 some_lines : (c : ℕ) (cs : List ℕ) → (l : List ℕ) × (ls : List (List ℕ)) × (lines_of (c ∷ cs) ≡ l ∷ ls)
 unfolding lines_of
-some_lines c cs = elim (c == line_feed) as (λ b. (l : List ℕ) × (ls : List (List ℕ)) × (cond b ([] ∷ lines_of cs) (onto_first c (lines_of cs)) ≡ l ∷ ls)) [
-  | true ↦ ([], lines_of cs, refl)
-  | false ↦ onto_some (lines_of cs)
-]
+some_lines c cs = elim (c == line_feed) as (λ b. (l : List ℕ) × (ls : List (List ℕ))
+    × (cond b ([] ∷ lines_of cs) (onto_first c (lines_of cs)) ≡ l ∷ ls)) [
+      | true ↦ ([], lines_of cs, refl)
+      | false ↦ onto_some (lines_of cs)
+    ]
   where
     onto_some : (ls : List (List ℕ)) → (l : List ℕ) × (rest : List (List ℕ)) × (onto_first c ls ≡ l ∷ rest)
     onto_some [] = (c ∷ [], [], refl)
     onto_some (l ∷ ls) = (c ∷ l, ls, refl)
 
 -- the lines of bytes, each with its end, are these bytes again, with an end for the last line
-text_again : (c : ℕ) (cs : List ℕ) → text_of_lines (lines_of (c ∷ cs)) ≡ (c ∷ cs) ++ end_after (last_of c cs == line_feed)
+text_again : (c : ℕ) (cs : List ℕ)
+    → text_of_lines (lines_of (c ∷ cs)) ≡ (c ∷ cs) ++ end_after (last_of c cs == line_feed)
 text_again c [] = by (c == line_feed) refl
   where
     by : (b : Bool) → (c == line_feed) ≡ b → text_of_lines (lines_of (c ∷ [])) ≡ (c ∷ []) ++ end_after b
@@ -140,6 +151,7 @@ text_again c (d ∷ ds) = by (text_again d ds) (c == line_feed) refl
         ∙ ap (λ ls. c ∷ text_of_lines ls) (sym some.2)
         ∙ ap (λ t. c ∷ t) again
 
+-- by what the last byte is
 text_of-lines : (bytes : List ℕ) (last : ℕ) → slice_get bytes (length bytes - 1) ≡ Some last
     → bytes ++ end_after (last == line_feed) ≡ text_of_lines (lines_of bytes)
 text_of-lines [] last e = absurd (cc)
@@ -149,7 +161,9 @@ text_of-lines (c ∷ cs) last e =
     last_is c cs ∙ get_or_from_slice_get (c ∷ cs) (length cs) last 0 (ap (slice_get (c ∷ cs)) (sym at) ∙ e) in
     ap (λ d. (c ∷ cs) ++ end_after (d == line_feed)) (sym is) ∙ sym (text_again c cs)
 
-pub text_of-none : (bytes : List ℕ) → slice_get bytes (length bytes - 1) ≡ None → bytes ++ [] ≡ text_of_lines (lines_of bytes)
+-- no last byte, so no line
+pub text_of-none : (bytes : List ℕ) → slice_get bytes (length bytes - 1) ≡ None
+    → bytes ++ [] ≡ text_of_lines (lines_of bytes)
 text_of-none [] e = ap text_of_lines (sym (lines_none [] refl))
 text_of-none (c ∷ cs) e =
     let at : length (c ∷ cs) - 1 < length (c ∷ cs) = omega arith in

@@ -23,7 +23,8 @@ keeps_files_itself log = record {
 }
 
 -- what one step and the next keep, both together do
-pub keeps_files_then : {F : Type 0} {g : Ghosts F} {a b c : FileLog F} → KeepsFiles g a b → KeepsFiles g b c → KeepsFiles g a c
+pub keeps_files_then : {F : Type 0} {g : Ghosts F} {a b c : FileLog F}
+    → KeepsFiles g a b → KeepsFiles g b c → KeepsFiles g a c
 keeps_files_then first then = record {
   reference = then.reference ∙ first.reference;
   name = then.name ∙ first.name;

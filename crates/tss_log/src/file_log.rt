@@ -86,7 +86,8 @@ impl<'a, F: Files> Log for FileLog<'a, F> {
 
     fn line(&mut self, e: &Event) -> Result<(), Failed>
         requires { IsTrue (fits e.now) }
-        ensures ok { OnOk result (AppendsWhereTold (text_by F.Files self.old) (text_by F.Files self.new) (event_line e.now)) }
+        ensures ok { OnOk result
+            (AppendsWhereTold (text_by F.Files self.old) (text_by F.Files self.new) (event_line e.now)) }
         ensures prefix { OnErr result
             (HoldsPart (followed_by (event_line e.now) (text_by F.Files self.old)) (held_by F.Files self.new)) }
         ensures cause { OnErr result (Rose (faults_by F.Files self.old) (faults_by F.Files self.new)) }

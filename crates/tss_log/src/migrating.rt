@@ -58,13 +58,7 @@ fn last_end(bytes: &[u8]) -> &'static [u8]
     ensures { bytes.now ++ result.now ≡ text_of_lines (lines_of bytes.now) }
 {
     match bytes.last() {
-        Some(last) => {
-            if *last == b'\n' {
-                &[]
-            } else {
-                b"\n"
-            }
-        }
+        Some(last) => { if *last == b'\n' { &[] } else { b"\n" } }
         None => &[],
     }
 }

@@ -6,7 +6,7 @@ use Rattle.tss_log.proofs.lines.line_count.Given as goal
 abbrev pub invariant-loop-rest : goal.invariant-loop-rest
 invariant-loop-rest l = record {
   lines : l.count + length (lines_of l.rest) ≡ length (lines_of l.initial.rest);
-  within : l.count + length l.rest ≤ length l.initial.rest
+  within : l.count + length l.rest ≤ length l.initial.rest;
 }
 
 abbrev pub decreases-loop-rest : goal.decreases-loop-rest

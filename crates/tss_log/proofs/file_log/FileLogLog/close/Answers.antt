@@ -6,4 +6,5 @@ use Rattle.tss_log.proofs.file_log.FileLogLog.close.Goals as goal
 pub returns-clause-others : goal.returns-clause-others
 returns-clause-others g c =
     let put = c.put_last.ensures in
-    others_stay g.F.Files c.args.self.now c.put_last.new.self (keeps_any c.args.self.now.kept) c.put_last.result _ put.keeps put.puts
+    let old = c.args.self.now in
+    others_stay g.F.Files old c.put_last.new.self (keeps_any old.kept) c.put_last.result _ put.keeps put.puts
