@@ -1,8 +1,7 @@
 -- What the calls of a log in a file keep, one call after another.
-use Rattle.std.specs.Prelude.{◌≡◌, ℕ, ◌≤◌, List, refl}
-use Rattle.std.proofs.Common.{sym, ◌∙◌, subst, arith}
+use Rattle.std.specs.Prelude.{ℕ, ◌≤◌, refl}
+use Rattle.std.proofs.Common.{◌∙◌, arith}
 use Rattle.tss_outside.specs.declared.files.Files.{Ghosts}
-use Rattle.tss_outside.specs.Outside.{RaisesOnly}
 use Rattle.tss_log.specs.declared.file_log.FileLog.{FileLog}
 use Rattle.tss_log.specs.FileLogs.{KeepsFiles}
 

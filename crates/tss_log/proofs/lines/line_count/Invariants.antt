@@ -1,5 +1,5 @@
 -- The lines so far, and those that are left.
-use Rattle.std.proofs.Common.{◌≡◌, ℕ, ◌+◌, ◌≤◌, length}
+use Rattle.std.proofs.Common.{◌≡◌, ◌+◌, ◌≤◌, length}
 use Rattle.tss_protocol.specs.Text.{lines_of}
 use Rattle.tss_log.proofs.lines.line_count.Given as goal
 

@@ -1,5 +1,5 @@
 -- Each line so far is an event's text.
-use Rattle.std.proofs.Common.{◌≡◌, ℕ, suc, ◌+◌, ◌≤◌, length}
+use Rattle.std.proofs.Common.{◌≡◌, suc, ◌+◌, ◌≤◌, length}
 use Rattle.tss_protocol.specs.Text.{lines_of}
 use Rattle.tss_protocol.specs.Migration.{first_bad_line}
 use Rattle.tss_log.proofs.migrating.first_bad_line.Given as goal
