@@ -1,0 +1,3 @@
+pub mod LineLemmas
+pub mod LogLineLemmas
+pub mod FileLogLemmas

@@ -1,0 +1,4 @@
+pub mod Logs
+pub mod FileLogs
+pub mod KeptFiles
+pub mod LogLines
