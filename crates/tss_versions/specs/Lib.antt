@@ -1,0 +1,4 @@
+pub mod Known
+pub mod Places
+pub mod Rows
+pub mod Conditions
