@@ -165,9 +165,9 @@ module _ (seats : TableState nat_cmp Seat) (index : TableState name_cmp ℕ) (ar
     -- the versions have it under its name
     pub versions_written : versions_at written index.entries ≡ insert vs at.name y
     versions_written = same_by_get name_order _ _ (λ q. elim (decide_key name_order q at.name) [
-        | inl same ↦ ap (get (versions_at written index.entries)) same ∙ here ∙ sym (ap (get (insert vs at.name y)) same ∙ at_inserted name_order vs at.name y)
-        | inr apart ↦ other q apart ∙ sym (beside_inserted name_order vs at.name y q apart)
-      ])
+      | inl same ↦ ap (get (versions_at written index.entries)) same ∙ here ∙ sym (ap (get (insert vs at.name y)) same ∙ at_inserted name_order vs at.name y)
+      | inr apart ↦ other q apart ∙ sym (beside_inserted name_order vs at.name y q apart)
+    ])
       where
         indexed : get index.entries at.name ≡ Some at.place
         indexed = (placed at.name h.0 h.1).indexed ∙ ap Some h.2
@@ -232,8 +232,7 @@ module _ (seats : TableState nat_cmp Seat) (index : TableState name_cmp ℕ) (ar
       indexed = λ v p e. written_seat v p e (decide_key nat_order p at.place);
       seated = λ p t e. elim (from_inserted nat_order seats.entries at.place (record s { kept = y }) p t e) [
         | inl new ↦
-            let old = are.seated at.place s there in
-            (
+            let old = are.seated at.place s there in (
               ap (λ (t : Seat). get index.entries t.name) new.1 ∙ old.0 ∙ ap Some (sym new.0),
               subst (λ p. p < seats.size) (sym new.0) old.1,
             )
@@ -256,9 +255,9 @@ module _ (seats : TableState nat_cmp Seat) (index : TableState name_cmp ℕ) (ar
     -- none stands under its name
     pub versions_removed : versions_at rest (remove index.entries at.name) ≡ remove vs at.name
     versions_removed = same_by_get name_order _ _ (λ q. elim (decide_key name_order q at.name) [
-        | inl same ↦ ap (get (versions_at rest (remove index.entries at.name))) same ∙ gone ∙ sym (ap (get (remove vs at.name)) same ∙ at_removed name_order vs at.name)
-        | inr apart ↦ other q apart ∙ sym (beside_removed name_order vs at.name q apart)
-      ])
+      | inl same ↦ ap (get (versions_at rest (remove index.entries at.name))) same ∙ gone ∙ sym (ap (get (remove vs at.name)) same ∙ at_removed name_order vs at.name)
+      | inr apart ↦ other q apart ∙ sym (beside_removed name_order vs at.name q apart)
+    ])
       where
         gone : get (versions_at rest (remove index.entries at.name)) at.name ≡ None
         gone =
@@ -301,8 +300,7 @@ module _ (seats : TableState nat_cmp Seat) (index : TableState name_cmp ℕ) (ar
           };
       seated = λ p t e.
           let old = from_removed nat_order seats.entries at.place p t e in
-          let known = are.seated p t old.1 in
-          (
+          let known = are.seated p t old.1 in (
             beside_removed name_order index.entries at.name t.name
                 (λ same. old.0 (same_Some _ _ (sym known.0 ∙ ap (get index.entries) same ∙ (placed at.name h.0 h.1).indexed ∙ ap Some h.2)))
                 ∙ known.0,
@@ -346,9 +344,9 @@ module _ (seats : TableState nat_cmp Seat) (index : TableState name_cmp ℕ) (ar
     -- the versions have it under its name
     pub versions_added : versions_at more_seats more_index ≡ insert vs v x
     versions_added = same_by_get name_order _ _ (λ q. elim (decide_key name_order q v) [
-        | inl same ↦ ap (get (versions_at more_seats more_index)) same ∙ here ∙ sym (ap (get (insert vs v x)) same ∙ at_inserted name_order vs v x)
-        | inr apart ↦ other q apart ∙ sym (beside_inserted name_order vs v x q apart)
-      ])
+      | inl same ↦ ap (get (versions_at more_seats more_index)) same ∙ here ∙ sym (ap (get (insert vs v x)) same ∙ at_inserted name_order vs v x)
+      | inr apart ↦ other q apart ∙ sym (beside_inserted name_order vs v x q apart)
+    ])
       where
         here : get (versions_at more_seats more_index) v ≡ Some x
         here =
@@ -382,11 +380,11 @@ module _ (seats : TableState nat_cmp Seat) (index : TableState name_cmp ℕ) (ar
       room = are.room;
       indexed = λ w p e. elim (from_inserted name_order index.entries v x.place.place w p e) [
         | inl new ↦ record {
-            seat = record { name = v; kept = x };
-            there = ap (get more_seats) new.1 ∙ at_inserted nat_order seats.entries x.place.place (record { name = v; kept = x });
-            name = sym new.0;
-            place = sym new.1;
-          }
+          seat = record { name = v; kept = x };
+          there = ap (get more_seats) new.1 ∙ at_inserted nat_order seats.entries x.place.place (record { name = v; kept = x });
+          name = sym new.0;
+          place = sym new.1;
+        }
         | inr old ↦
             let seat = are.indexed w p old.1 in
             record {
@@ -401,14 +399,13 @@ module _ (seats : TableState nat_cmp Seat) (index : TableState name_cmp ℕ) (ar
       ];
       seated = λ p t e. elim (from_inserted nat_order seats.entries x.place.place (record { name = v; kept = x }) p t e) [
         | inl new ↦ (
-            ap (λ (t : Seat). get more_index t.name) new.1
-                ∙ at_inserted name_order index.entries v x.place.place
-                ∙ ap Some (sym new.0),
-            subst (λ p. p < seats.size) (sym new.0) within,
-          )
+          ap (λ (t : Seat). get more_index t.name) new.1
+              ∙ at_inserted name_order index.entries v x.place.place
+              ∙ ap Some (sym new.0),
+          subst (λ p. p < seats.size) (sym new.0) within,
+        )
         | inr old ↦
-            let known = are.seated p t old.1 in
-            (
+            let known = are.seated p t old.1 in (
               beside_inserted name_order index.entries v x.place.place t.name
                   (λ same. none-some p (sym name_free ∙ ap (get index.entries) (sym same) ∙ known.0))
                   ∙ known.0,

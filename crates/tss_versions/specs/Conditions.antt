@@ -48,10 +48,24 @@ pub record IsBetween (vs : Named Kept) (v next : Site) : Type 0 where
 abbrev pub IsUnstored : Named Kept → OpName → Type 0
 IsUnstored vs v = (y : Kept) → get vs v ≡ Some y → y.store ≡ None
 
--- a version may be settled: its neighbours, if any, are registered, an older one before it and a younger one after it
+-- the version after another one, as that is settled: another one than it and than the one before it
+pub record IsBehind (vs : Named Version) (v : OpName) (y : Version) (f : Follow) : Type 0 where
+  pub version : Version
+  pub there : get vs f.version ≡ Some version
+  pub apart : f.version ≢ v
+  pub after : y.predecessor ≡ Some f.version → ⊥
+  pub bare : f.how ≡ Over → version.storage ≡ None
+
+-- versions that stand where they stood, with the stores that they had
+abbrev pub Remain : Named Kept → Named Kept → Type 0
+Remain vs ws = (v : OpName) (x : Kept) → get vs v ≡ Some x
+    → (y : Kept) × (get ws v ≡ Some y) × (y.store ≡ x.store) × (y.place ≡ x.place)
+
+-- a version may be settled: its neighbours, if any, are registered and other ones than it
 pub record MaySettle (vs : Named Version) (v : OpName) : Type 0 where
-  pub before : (y : Version) (q : OpName) → get vs v ≡ Some y → y.predecessor ≡ Some q → IsBefore vs v q
-  pub after : (y : Version) (f : Follow) → get vs v ≡ Some y → y.successor ≡ Some f → IsNext vs v f
+  pub before : (y : Version) (q : OpName) → get vs v ≡ Some y → y.predecessor ≡ Some q
+      → ((z : Version) × (get vs q ≡ Some z)) × (q ≢ v)
+  pub after : (y : Version) (f : Follow) → get vs v ≡ Some y → y.successor ≡ Some f → IsBehind vs v y f
 
 -- no version has a link to this one
 pub record IsUnnamed (vs : Named Kept) (v : OpName) : Type 0 where

@@ -1,11 +1,11 @@
 // The calls of a bank of versions, each for a message.
-ghost use Rattle.std.specs.Prelude.{◌≡◌, ◌<◌, ◌^◌, ◌-◌, ◌↔◌, [], None, Some, true, false, IsErr, IsSome, IfOk, IfErr, OnOk, OnErr};
+ghost use Rattle.std.specs.Prelude.{◌≡◌, ◌<◌, ◌^◌, ◌-◌, ◌↔◌, None, Some, true, false, IsErr, IsSome, IfOk, IfErr, OnOk, OnErr};
 ghost use Rattle.std.specs.FinMap as map;
 ghost use Rattle.tss_protocol.specs.Versions.{after_open, can_open, after_use, can_use, after_release, after_nack, after_retire};
 ghost use Rattle.tss_base.specs.declared.marks.How.TheVariants.{Over};
 ghost use Rattle.tss_events.specs.Events.{messages_of, opening_of};
 ghost use Rattle.tss_versions.specs.Known.{IsAt, versions_of};
-ghost use Rattle.tss_versions.specs.Rows.{gone_by, first_kept, followed_kept, produced_kept, read_kept};
+ghost use Rattle.tss_versions.specs.Rows.{gone_by, first_kept, behind_kept, followed_kept, leaving_kept, produced_kept, read_kept};
 ghost use Rattle.tss_versions.specs.Rows.{kept_after_open, kept_after_use, kept_after_release, kept_after_nack};
 ghost use Rattle.tss_versions.specs.Conditions.{AreChained, MayOpen, OpensBare};
 
@@ -58,7 +58,14 @@ impl Versions {
             buffer,
         } = m;
         let status = Status::first(o, operand.object, operand.mode);
-        self.add(o, Kept { status, store: store_by(storage, buffer), place });
+        self.add(
+            o,
+            Kept {
+                status,
+                store: store_by(storage, buffer),
+                place,
+            },
+        );
         let mut sent = Sent::new();
         if let Some(storage) = storage {
             sent.push(Message::Ready(o, o, storage));
@@ -73,8 +80,26 @@ impl Versions {
         requires chained { AreChained (versions_of self.old.versions) }
         requires bare { follow.how ≡ Over → m.storage ≡ None }
         requires at { IsAt self.old.versions before }
+        requires name { before.name ≡ follow.version }
         ensures exact { self.new ≡ record self.old { versions = (followed_kept self.old.versions m follow before).part } }
         ensures messages { result ≡ (followed_kept self.old.versions m follow before).sent }
+    {
+        let mut sent = Sent::new();
+        if let (How::Beside, Some(storage)) = (follow.how, m.storage) {
+            sent.push(Message::Ready(m.o, m.o, storage));
+        }
+        self.link(m, before, follow);
+        self.settle(before, &mut sent);
+        sent
+    }
+
+    /// Puts a version behind another one, which knows it as its successor.
+    fn link(&mut self, m: Opening, before: Site, follow: Follow)
+        requires may_open { MayOpen self.old m }
+        requires chained { AreChained (versions_of self.old.versions) }
+        requires at { IsAt self.old.versions before }
+        ensures exact { self.new ≡ record self.old { versions = behind_kept self.old.versions m follow before } }
+        ensures at { IsAt self.new.versions before }
     {
         let Opening {
             o,
@@ -84,17 +109,32 @@ impl Versions {
             place,
             buffer,
         } = m;
-        let site = Site { name: o, place: place.place() };
+        let next = Next {
+            site: Site {
+                name: o,
+                place: place.place(),
+            },
+            how: follow.how,
+            last: follow.last,
+        };
         let status = Status::behind(operand.object, Some(before));
-        self.add(o, Kept { status, store: store_by(storage, buffer), place });
+        let store = store_by(storage, buffer);
+        self.add(
+            o,
+            Kept {
+                status,
+                store,
+                place,
+            },
+        );
         let known = self.get(before).status;
-        self.write(before, Status { successor: Some(Next { site, how: follow.how, last: follow.last }), ..known });
-        let mut sent = Sent::new();
-        if let (How::Beside, Some(storage)) = (follow.how, storage) {
-            sent.push(Message::Ready(o, o, storage));
-        }
-        self.settle(before, &mut sent);
-        sent
+        self.write(
+            before,
+            Status {
+                successor: Some(next),
+                ..known
+            },
+        );
     }
 
     /// Enlists a reader at the end of a version's chain. It is blocked where the version isn't registered yet.
@@ -129,7 +169,13 @@ impl Versions {
                         sent.push(Message::Ready(o, v, storage));
                     }
                 } else {
-                    self.write(at, Status { head: Some(o), ..status.enlisted(o) });
+                    self.write(
+                        at,
+                        Status {
+                            head: Some(o),
+                            ..status.enlisted(o)
+                        },
+                    );
                 }
             }
         }
@@ -154,48 +200,62 @@ impl Versions {
         let Some(at) = self.find(v) else {
             unreachable!();
         };
-        let mut sent = Sent::new();
-        if producer {
-            self.produce(at, o, &mut sent);
-        } else {
-            self.leave(at, o, &mut sent);
-        }
+        let mut sent = self.leave(at, o, producer);
         self.settle(at, &mut sent);
         sent
     }
 
-    /// A version is produced. Its head is told so, and its producer leaves.
-    fn produce(&mut self, at: Site, o: OpName, sent: &mut Sent)
+    /// A task leaves a version, which it produced or read.
+    fn leave(&mut self, at: Site, o: OpName, producer: bool) -> Sent
         requires at { IsAt self.old.versions at }
-        requires room { sent.old ≡ [] }
+        requires readers { (x : _) → map.get self.old.versions at.name ≡ Some x → producer ≡ false
+            → x.status.released < x.status.registered }
+        ensures exact { (x : _) → map.get self.old.versions at.name ≡ Some x →
+            self.new ≡ record self.old { versions = (leaving_kept self.old.versions o at.name x producer).part } }
+        ensures messages { (x : _) → map.get self.old.versions at.name ≡ Some x →
+            result ≡ (leaving_kept self.old.versions o at.name x producer).sent }
+    {
+        if producer {
+            self.produce(at, o)
+        } else {
+            self.part(at, o)
+        }
+    }
+
+    /// A version is produced. Its head is told so, and its producer leaves.
+    fn produce(&mut self, at: Site, o: OpName) -> Sent
+        requires at { IsAt self.old.versions at }
         ensures exact { (x : _) → map.get self.old.versions at.name ≡ Some x →
             self.new ≡ record self.old { versions = (produced_kept self.old.versions o at.name x).part } }
-        ensures sent { (x : _) → map.get self.old.versions at.name ≡ Some x →
-            sent.new ≡ (produced_kept self.old.versions o at.name x).sent }
+        ensures messages { (x : _) → map.get self.old.versions at.name ≡ Some x →
+            result ≡ (produced_kept self.old.versions o at.name x).sent }
     {
         let kept = self.get(at);
         let status = kept.status;
         let storage = storage_in(&kept.store);
         self.write(at, status.produced_now());
+        let mut sent = Sent::new();
         if let (Some(head), Some(storage)) = (status.head, storage) {
             sent.push(Message::Ready(head, at.name, storage));
         }
         sent.push(Message::Bye(o, false));
+        sent
     }
 
     /// A reader leaves a version. A link is promised, or has come, where it isn't the last of the chain.
-    fn leave(&mut self, at: Site, o: OpName, sent: &mut Sent)
+    fn part(&mut self, at: Site, o: OpName) -> Sent
         requires at { IsAt self.old.versions at }
         requires readers { (x : _) → map.get self.old.versions at.name ≡ Some x → x.status.released < x.status.registered }
-        requires room { sent.old ≡ [] }
         ensures exact { (x : _) → map.get self.old.versions at.name ≡ Some x →
             self.new ≡ record self.old { versions = (read_kept self.old.versions o at.name x).part } }
-        ensures sent { (x : _) → map.get self.old.versions at.name ≡ Some x →
-            sent.new ≡ (read_kept self.old.versions o at.name x).sent }
+        ensures messages { (x : _) → map.get self.old.versions at.name ≡ Some x →
+            result ≡ (read_kept self.old.versions o at.name x).sent }
     {
         let status = self.get(at).status;
         self.write(at, status.released_once(o));
+        let mut sent = Sent::new();
         sent.push(Message::Bye(o, !status.is_last(o)));
+        sent
     }
 
     /// A version may not retire. It asks again as soon as it has more readers.

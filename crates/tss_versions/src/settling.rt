@@ -2,8 +2,8 @@
 ghost use Rattle.std.specs.Prelude.{◌≡◌, ◌<◌, ◌≤◌, ◌++◌, None, Some, length};
 ghost use Rattle.std.specs.FinMap as map;
 ghost use Rattle.tss_versions.specs.Known.{IsAt, versions_of};
-ghost use Rattle.tss_versions.specs.Rows.{asking, unlinked_kept, passed_by, taken_over, settled_kept};
-ghost use Rattle.tss_versions.specs.Conditions.{IsBetween, IsUnstored, MaySettle};
+ghost use Rattle.tss_versions.specs.Rows.{change_site, bridged_kept, asking, unlinked_kept, passed_by, taken_over, settled_kept};
+ghost use Rattle.tss_versions.specs.Conditions.{IsBetween, IsUnstored, MaySettle, Remain};
 
 use crate::kept::{Kept, storage_in};
 use crate::status::{Site, Status};
@@ -50,11 +50,7 @@ impl Versions {
                     ..status
                 },
             );
-            sent.push(Message::Idle(
-                v.name,
-                status.object.base,
-                status.registered,
-            ));
+            sent.push(Message::Idle(v.name, status.object.base, status.registered));
         }
     }
 
@@ -113,10 +109,7 @@ impl Versions {
             × (map.get self.new.versions next.name ≡ Some z) × (z.store ≡ y.store) }
     {
         let kept = self.remove(v);
-        if let Some(before) = kept.status.predecessor {
-            let status = self.get(before).status;
-            self.write(before, status.followed_by(next));
-        }
+        self.bridge(kept.status.predecessor, next);
         let status = self.get(next).status;
         self.write(
             next,
@@ -126,5 +119,20 @@ impl Versions {
             },
         );
         kept
+    }
+
+    /// The version before one that is taken out, if any, is followed by the next.
+    fn bridge(&mut self, before: Option<Site>, next: Site)
+        requires before { (s : _) → before ≡ Some s → IsAt self.old.versions s }
+        requires next { IsAt self.old.versions next }
+        ensures exact { self.new ≡ record self.old {
+          versions = change_site self.old.versions before (bridged_kept next);
+        } }
+        ensures remain { Remain self.old.versions self.new.versions }
+    {
+        if let Some(before) = before {
+            let status = self.get(before).status;
+            self.write(before, status.followed_by(next));
+        }
     }
 }

@@ -165,7 +165,7 @@ impl Status {
 
     /// After one more reader has released it.
     pub fn released_once(self, o: OpName) -> Status
-        requires { self.released < 2 ^ 32 - 1 }
+        requires { self.released < self.registered }
         ensures { result ≡ record self { released = suc self.released; tail = tail_without o self.tail } }
     {
         let tail = if self.is_last(o) { None } else { self.tail };
