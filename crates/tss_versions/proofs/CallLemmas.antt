@@ -1,9 +1,8 @@
 -- What each call leaves of the versions with their tokens is what its row leaves of the definitions' versions.
-use Rattle.std.proofs.Common.{◌≡◌, ◌≢◌, ℕ, suc, Bool, true, false, List, [], ◌∷◌, ◌++◌, Option, Some, None, refl, sym, ap, subst, ◌∙◌, option_map}
+use Rattle.std.proofs.Common.{◌≡◌, suc, Bool, true, false, [], ◌∷◌, ◌++◌, Option, Some, None, refl, sym, ap, subst, ◌∙◌, option_map}
 use Rattle.std.specs.Prelude.{not}
-use Rattle.std.specs.FinMap.{get, insert, remove}
+use Rattle.std.specs.FinMap.{get, insert}
 use Rattle.std.proofs.lemmas.List.{map-append}
-use Rattle.std.proofs.lemmas.Option.{none-some, same_Some}
 use Rattle.tss_base.specs.declared.operand.OpName.{OpName}
 use Rattle.tss_base.specs.declared.operand.Mode.{Mode}
 use Rattle.tss_base.specs.declared.operand.Mode.TheVariants.{Input, Output, Inout}
@@ -15,19 +14,17 @@ use Rattle.tss_base.specs.declared.marks.Follow.{Follow}
 use Rattle.tss_base.specs.Names.{Named}
 use Rattle.tss_maps.proofs.Keys.{name_order}
 use Rattle.tss_maps.proofs.Changes.{at_inserted, beside_inserted, apart_absent}
-use Rattle.tss_maps.proofs.MappedLemmas.{mapped-remove}
 use Rattle.tss_tokens.specs.Pool.{TokenState}
 use Rattle.tss_protocol.specs.State.{Version}
 use Rattle.tss_protocol.specs.Mail as mail
-use Rattle.tss_protocol.specs.Versions.{sending, change_version, new_version, first_version, opened_first, opened_how, opened_by, followed, after_open, can_open, enlisted, used_alone, used_behind, used_at, after_use, can_use, head_ready, produced_now, released_once, released_by, released_at, after_release, refused_once, nacked_at, after_nack, after_retire, is_last, tail_without, settled}
-use Rattle.tss_protocol.proofs.SettleCases.{OthersSettled, at_changed}
+use Rattle.tss_protocol.specs.Versions.{sending, change_version, new_version, first_version, opened_first, opened_how, followed, enlisted, used_alone, used_behind, used_at, after_use, head_ready, released_by, released_at, after_release, nacked_at, after_nack, is_last, tail_without, settled}
+use Rattle.tss_protocol.proofs.SettleCases.{OthersSettled}
 use Rattle.tss_events.specs.Events.{storage_name, opening_of, message_of, messages_of}
 use Rattle.tss_events.specs.declared.message.Opening.{Opening}
 use Rattle.tss_events.specs.declared.message.Message.TheVariants as message
 use Rattle.tss_versions.specs.declared.kept.Kept.{Kept}
 use Rattle.tss_versions.specs.declared.status.Site.{Site}
 use Rattle.tss_versions.specs.declared.status.Status.{Status}
-use Rattle.tss_versions.specs.Known as known
 use Rattle.tss_versions.specs.Known.{storage_in, store_by, IsHeld, version_by, version_of, versions_of, first_status, behind_status}
 use Rattle.tss_versions.specs.Rows as rows
 use Rattle.tss_versions.specs.Rows.{row_of, sending_first, with_status, changed_kept, ready_by, settled_kept, opened_kept, first_kept, next_of, linked_kept, behind_kept, ready_beside, followed_kept, followed_at, kept_after_open, enlisted_kept, alone_kept, used_kept, used_by, kept_after_use, head_by, produced_kept, read_kept, leaving_kept, settling_after, kept_after_release, refused_kept, nacked_by, kept_after_nack}

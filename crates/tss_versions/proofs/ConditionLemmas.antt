@@ -1,27 +1,26 @@
 -- What the calls ask holds where a version is written or opened, and at each step of a settle.
-use Rattle.std.proofs.Common.{◌≡◌, ◌≢◌, ℕ, ◌<◌, true, false, Option, Some, None, refl, sym, ap, subst, ◌∙◌, inl, inr, arith, option_map}
-use Rattle.std.specs.FinMap.{get, insert, remove}
+use Rattle.std.proofs.Common.{◌≡◌, ◌≢◌, ◌<◌, false, Option, Some, None, refl, sym, ap, subst, ◌∙◌, inl, inr, arith, option_map}
+use Rattle.std.specs.FinMap.{get, insert}
 use Rattle.std.proofs.lemmas.Option.{none-some, same_Some}
 use Rattle.tss_base.specs.declared.operand.OpName.{OpName}
 use Rattle.tss_base.specs.declared.marks.How.TheVariants.{Over}
 use Rattle.tss_base.specs.declared.marks.Follow.{Follow}
 use Rattle.tss_base.specs.Names.{Named}
 use Rattle.tss_maps.proofs.Keys.{name_order, decide_key}
-use Rattle.tss_maps.proofs.Changes.{at_inserted, beside_inserted, from_inserted, apart_absent}
+use Rattle.tss_maps.proofs.Changes.{at_inserted, beside_inserted, apart_absent}
 use Rattle.tss_protocol.specs.State.{Version}
 use Rattle.tss_protocol.specs.Mail.{OpenContents}
-use Rattle.tss_protocol.specs.Versions.{change_version, version_changed, followed}
+use Rattle.tss_protocol.specs.Versions.{followed}
 use Rattle.tss_protocol.specs.Settled.{IsSettled}
 use Rattle.tss_protocol.proofs.SettleCases.{OthersSettled, at_changed, beside_changed}
 use Rattle.tss_events.specs.Events.{storage_name}
 use Rattle.tss_versions.specs.declared.kept.Kept.{Kept}
 use Rattle.tss_versions.specs.declared.kept.Store.{Store}
-use Rattle.tss_versions.specs.declared.kept.Store.TheVariants as store
 use Rattle.tss_versions.specs.declared.status.Site.{Site}
 use Rattle.tss_versions.specs.declared.status.Next.{Next}
 use Rattle.tss_versions.specs.Known.{storage_of, storage_in, follow_of, version_of, versions_of, IsAt, HaveSites}
 use Rattle.tss_versions.specs.Conditions.{AreChained, IsBehind, IsBetween, IsUnstored, MaySettle, IsUnnamed}
-use Rattle.tss_versions.proofs.RowLemmas.{get-versions_of, version_there}
+use Rattle.tss_versions.proofs.RowLemmas.{version_there}
 use Rattle.tss_versions.proofs.SettleLemmas.{kept_there}
 
 -- an older version is another one

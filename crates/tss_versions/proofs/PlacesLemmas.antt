@@ -18,7 +18,6 @@ use Rattle.tss_versions.specs.declared.kept.Kept.{Kept}
 use Rattle.tss_versions.specs.declared.kept.Seat.{Seat}
 use Rattle.tss_versions.specs.declared.kept.Store.{Store}
 use Rattle.tss_versions.specs.declared.status.Site.{Site}
-use Rattle.tss_versions.specs.declared.status.Next.{Next}
 use Rattle.tss_versions.specs.declared.status.Status.{Status}
 use Rattle.tss_versions.specs.Known.{IsAt, IsRight, HaveSites, site_of}
 use Rattle.tss_versions.specs.Places.{kept_in, versions_at, IsSeated, AreVersions}

@@ -1,12 +1,11 @@
 -- The changes and messages of the rows, without their tokens, are those of the definitions.
-use Rattle.std.proofs.Common.{◌≡◌, ℕ, zero, suc, ◌<◌, Bool, true, false, if◌then◌else◌, List, [], ◌∷◌, ◌++◌, Option, Some, None, refl, sym, ap, ◌∙◌, arith, option_map}
-use Rattle.std.specs.FinMap.{get, insert, remove, len}
+use Rattle.std.proofs.Common.{◌≡◌, ℕ, suc, Bool, true, false, if◌then◌else◌, List, ◌∷◌, Option, Some, None, refl, sym, ap, ◌∙◌, option_map}
+use Rattle.std.specs.FinMap.{get, insert, remove}
 use Rattle.std.proofs.lemmas.List.{map-append}
 use Rattle.tss_base.specs.declared.operand.OpName.{OpName}
 use Rattle.tss_base.specs.declared.operand.Storage.{Storage}
 use Rattle.tss_base.specs.Names.{Named}
 use Rattle.tss_maps.proofs.Keys.{name_order}
-use Rattle.tss_maps.proofs.Entries.{len_there}
 use Rattle.tss_maps.proofs.MappedLemmas.{get-mapped, mapped-insert, mapped-remove}
 use Rattle.tss_protocol.specs.State.{Version}
 use Rattle.tss_protocol.specs.Versions.{Versioned, Settling, sending, version_changed, change_version, change_named, ready_with, buffer_of, died, may_ask, may_die, followed_by, unlinked, settle_over, settle_how, settle_asking, unchanged, settle_by, settle_at, settle}

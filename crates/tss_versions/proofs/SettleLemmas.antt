@@ -1,5 +1,5 @@
 -- A settle of the versions with their tokens is that of the definitions, where all other versions are settled.
-use Rattle.std.proofs.Common.{◌≡◌, ℕ, zero, suc, Bool, true, false, if◌then◌else◌, List, [], ◌∷◌, ◌++◌, Option, Some, None, refl, sym, ap, subst, ◌∙◌, arith, option_map}
+use Rattle.std.proofs.Common.{◌≡◌, ℕ, zero, suc, Bool, true, false, if◌then◌else◌, [], ◌∷◌, Option, Some, None, refl, sym, ap, ◌∙◌, arith, option_map}
 use Rattle.std.specs.FinMap.{get, len}
 use Rattle.std.proofs.lemmas.Option.{none-some, same_Some}
 use Rattle.tss_base.specs.declared.operand.OpName.{OpName}
@@ -8,16 +8,15 @@ use Rattle.tss_base.specs.declared.marks.How.TheVariants.{Beside, Over}
 use Rattle.tss_base.specs.Names.{Named}
 use Rattle.tss_maps.proofs.Entries.{len_there}
 use Rattle.tss_protocol.specs.State.{Version}
-use Rattle.tss_protocol.specs.Versions.{Versioned, sending, buffer_of, died, may_die, unlinked, settle_how, settle_by, unchanged, settle, settled}
+use Rattle.tss_protocol.specs.Versions.{sending, may_die, settle_how, settle_by, unchanged, settle, settled}
 use Rattle.tss_protocol.proofs.SettleCases.{OthersSettled, moved_up, at_unlinked}
 use Rattle.tss_events.specs.declared.message.Message.TheVariants as message
 use Rattle.tss_versions.specs.declared.kept.Kept.{Kept}
-use Rattle.tss_versions.specs.declared.status.Site.{Site}
 use Rattle.tss_versions.specs.declared.status.Next.{Next}
 use Rattle.tss_versions.specs.Known.{follow_of, version_of, versions_of}
 use Rattle.tss_versions.specs.Rows.{row_of, same, gone_by, asking, unlinked_kept, passed_by, gives_way, settled_by, settled_at, settled_kept}
 use Rattle.tss_versions.specs.Conditions.{IsBehind, MaySettle}
-use Rattle.tss_versions.proofs.RowLemmas.{get-versions_of, version_there, unlinked_row, gone_row, sending_row, asking_last, settle_there, settle_absent, asking_settled, over_row}
+use Rattle.tss_versions.proofs.RowLemmas.{get-versions_of, version_there, unlinked_row, gone_row, sending_row, asking_last, settle_there, asking_settled, over_row}
 
 -- the version of a name has one with its tokens
 pub kept_there : (vs : Named Kept) (v : OpName) (y : Version) → get (versions_of vs) v ≡ Some y →

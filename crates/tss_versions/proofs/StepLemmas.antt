@@ -1,5 +1,5 @@
 -- What the steps of a call leave together.
-use Rattle.std.proofs.Common.{◌≡◌, suc, ◌≤◌, Bool, true, false, [], ◌∷◌, ◌++◌, length, Option, Some, None, refl, sym, ap, subst, ◌∙◌, arith, option_map}
+use Rattle.std.proofs.Common.{◌≡◌, suc, ◌≤◌, Bool, true, false, [], ◌∷◌, ◌++◌, length, Option, Some, None, refl, sym, ap, ◌∙◌, arith, option_map}
 use Rattle.std.specs.Prelude.{is_some}
 use Rattle.std.specs.FinMap.{get}
 use Rattle.std.proofs.lemmas.Option.{none-some, same_Some}

@@ -13,7 +13,7 @@ use Rattle.tss_versions.specs.declared.status.Next.{Next}
 use Rattle.tss_versions.specs.declared.status.Status.{Status}
 use Rattle.tss_versions.specs.Known.{behind_status, linked_to, followed_status, IsAt, IsRight, HaveSites}
 use Rattle.tss_versions.specs.Rows.{with_status}
-use Rattle.tss_versions.specs.Conditions.{IsBetween, Remain}
+use Rattle.tss_versions.specs.Conditions.{Remain}
 
 -- nothing has changed
 pub remain_same : (vs : Named Kept) → Remain vs vs

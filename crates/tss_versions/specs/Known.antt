@@ -1,5 +1,5 @@
 -- What contracts see of a bank of versions, and the definitions' versions.
-use Rattle.std.specs.Prelude.{◌≡◌, ℕ, suc, true, false, Option, Some, None, option_map, refl}
+use Rattle.std.specs.Prelude.{◌≡◌, ℕ, true, false, Option, Some, None, option_map, refl}
 use Rattle.std.specs.Coded.{Coded, code_by, coded×, coded_ℕ}
 use Rattle.std.specs.FinMap.{get}
 use Rattle.tss_base.specs.declared.range.Range.{Range}
@@ -13,7 +13,7 @@ use Rattle.tss_base.specs.Names.{Named}
 use Rattle.tss_maps.specs.Mapped.{mapped}
 use Rattle.tss_tokens.specs.Pool.{TokenState}
 use Rattle.tss_protocol.specs.Codes.{named}
-use Rattle.tss_protocol.specs.Mail.{StorageName, Home, Buffer}
+use Rattle.tss_protocol.specs.Mail.{StorageName}
 use Rattle.tss_protocol.specs.State.{Version}
 use Rattle.tss_events.specs.Events.{storage_name}
 use Rattle.tss_events.specs.declared.message.HeldBuffer.{HeldBuffer}

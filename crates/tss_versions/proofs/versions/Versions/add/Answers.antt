@@ -1,5 +1,5 @@
 -- A version more, at its place.
-use Rattle.std.proofs.Common.{◌≡◌, ◌<◌, None, sym, ap, subst, ◌∙◌}
+use Rattle.std.proofs.Common.{◌<◌, sym, ap, subst, ◌∙◌}
 use Rattle.std.specs.FinMap.{get, insert}
 use Rattle.tss_tables.specs.Table.{TableState}
 use Rattle.tss_versions.specs.Known.{VersionsState, HaveSites}

@@ -2,7 +2,7 @@
 use Rattle.std.proofs.Common.{sym, subst}
 use Rattle.tss_versions.specs.Known.{HaveSites}
 use Rattle.tss_versions.specs.Conditions.{Remain}
-use Rattle.tss_versions.proofs.UnlinkLemmas.{remain_same, remain_written, sites_followed}
+use Rattle.tss_versions.proofs.UnlinkLemmas.{remain_written, sites_followed}
 use Rattle.tss_versions.proofs.versions.Versions.bridge.Goals as goal
 
 pub write-requires-clause-sites : goal.write-requires-clause-sites

@@ -1,12 +1,9 @@
 -- A version with a store, at the same place.
-use Rattle.std.proofs.Common.{◌≡◌, Some, refl, sym, ap, subst, ◌∙◌}
+use Rattle.std.proofs.Common.{◌≡◌, refl, sym, ap, subst, ◌∙◌}
 use Rattle.std.specs.FinMap.{get, insert}
 use Rattle.std.proofs.lemmas.Option.{none-some, same_Some}
-use Rattle.tss_versions.specs.declared.kept.Kept.{Kept}
-use Rattle.tss_versions.specs.declared.kept.Seat.{Seat}
-use Rattle.tss_versions.specs.Known.{VersionsState, IsAt, HaveSites}
-use Rattle.tss_versions.specs.Places.{AreVersions, versions_at}
-use Rattle.tss_versions.proofs.PlacesLemmas.{at_site, site_read, are_written, versions_written, with_store, with_places}
+use Rattle.tss_versions.specs.Known.{VersionsState, IsAt}
+use Rattle.tss_versions.proofs.PlacesLemmas.{at_site, site_read, are_written, versions_written, with_store}
 use Rattle.tss_versions.proofs.versions.Versions.fill.Goals as goal
 
 pub unreachable-requires : goal.unreachable-requires

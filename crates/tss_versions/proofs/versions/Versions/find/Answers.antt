@@ -1,5 +1,5 @@
 -- A name with a place is that of the version there.
-use Rattle.std.proofs.Common.{None, Some, sym, ap, ◌∙◌, option_map}
+use Rattle.std.proofs.Common.{sym, ap, ◌∙◌, option_map}
 use Rattle.std.specs.FinMap.{get}
 use Rattle.tss_versions.specs.Known.{site_of}
 use Rattle.tss_versions.proofs.PlacesLemmas.{found_none, found_some}

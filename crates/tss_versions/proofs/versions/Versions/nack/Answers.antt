@@ -1,6 +1,5 @@
 -- A version that was refused is settled.
 use Rattle.std.proofs.Common.{rules, sym, ap, subst, ◌∙◌}
-use Rattle.std.specs.FinMap.{get}
 use Rattle.tss_versions.specs.Known.{version_of, versions_of}
 use Rattle.tss_versions.specs.Rows.{with_status}
 use Rattle.tss_versions.specs.Conditions.{MaySettle, Remain}

@@ -1,6 +1,5 @@
 -- No version has a link to a new one.
 use Rattle.tss_versions.proofs.ConditionLemmas.{unnamed_fresh}
-use Rattle.tss_versions.proofs.CallLemmas.{first_row}
 use Rattle.tss_versions.proofs.versions.Versions.open_first.Goals as goal
 
 pub add-requires-clause-unnamed : goal.add-requires-clause-unnamed

@@ -1,7 +1,7 @@
 -- A version less.
-use Rattle.std.proofs.Common.{◌≡◌, ◌<◌, Some, refl, sym, ap, subst, ◌∙◌}
-use Rattle.std.specs.FinMap.{get, insert, remove}
-use Rattle.std.proofs.lemmas.Option.{none-some, same_Some}
+use Rattle.std.proofs.Common.{sym, ap, subst, ◌∙◌}
+use Rattle.std.specs.FinMap.{get, remove}
+use Rattle.std.proofs.lemmas.Option.{none-some}
 use Rattle.tss_tables.specs.Table.{TableState}
 use Rattle.tss_versions.specs.Known.{VersionsState, IsAt}
 use Rattle.tss_versions.specs.Places.{AreVersions, versions_at}

@@ -1,8 +1,7 @@
 -- A version known as something else, at the same place.
-use Rattle.std.proofs.Common.{◌≡◌, Some, refl, sym, ap, subst, ◌∙◌}
+use Rattle.std.proofs.Common.{◌≡◌, refl, sym, ap, subst, ◌∙◌}
 use Rattle.std.specs.FinMap.{get, insert}
 use Rattle.std.proofs.lemmas.Option.{none-some, same_Some}
-use Rattle.tss_versions.specs.declared.kept.Kept.{Kept}
 use Rattle.tss_versions.specs.Known.{VersionsState, IsAt, HaveSites}
 use Rattle.tss_versions.specs.Rows.{with_status}
 use Rattle.tss_versions.proofs.PlacesLemmas.{at_site, site_read, are_written, versions_written}
