@@ -5,3 +5,4 @@ pub mod ConditionLemmas
 pub mod UnlinkLemmas
 pub mod CallLemmas
 pub mod StepLemmas
+pub mod NumberLemmas

@@ -34,6 +34,12 @@ pub record AreChained (vs : Named Version) : Type 0 where
   pub before : (v q : OpName) (y : Version) → get vs v ≡ Some y → y.predecessor ≡ Some q → IsBefore vs v q
   pub after : (v : OpName) (y : Version) (f : Follow) → get vs v ≡ Some y → y.successor ≡ Some f → IsNext vs v f
 
+-- the same of one version
+pub record IsChainedAt (vs : Named Version) (v : OpName) : Type 0 where
+  pub settled : (y : Version) → get vs v ≡ Some y → IsSettled y
+  pub before : (q : OpName) (y : Version) → get vs v ≡ Some y → y.predecessor ≡ Some q → IsBefore vs v q
+  pub after : (y : Version) (f : Follow) → get vs v ≡ Some y → y.successor ≡ Some f → IsNext vs v f
+
 -- ---- of the versions with their tokens, as the steps of a settle ask it
 
 -- a version stands between the one before it, if any, and the next

@@ -74,6 +74,10 @@ pub record HasNumbers (places buffers : ℕ) (x : Kept) : Type 0 where
   pub place : x.place.number ≡ places
   pub buffer : (held : HeldBuffer) → buffer_in x.store ≡ Some held → held.token.number ≡ buffers
 
+-- those of all versions have
+abbrev pub AreNumbered : ℕ → ℕ → Named Kept → Type 0
+AreNumbered places buffers vs = (v : OpName) (x : Kept) → get vs v ≡ Some x → HasNumbers places buffers x
+
 -- ---- the definitions' versions, which know storages by their names alone
 
 -- the link to the version that follows

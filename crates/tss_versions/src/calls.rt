@@ -4,7 +4,8 @@ ghost use Rattle.std.specs.FinMap as map;
 ghost use Rattle.tss_protocol.specs.Versions.{after_open, can_open, after_use, can_use, after_release, after_nack, after_retire};
 ghost use Rattle.tss_base.specs.declared.marks.How.TheVariants.{Over};
 ghost use Rattle.tss_events.specs.Events.{messages_of, opening_of};
-ghost use Rattle.tss_versions.specs.Known.{IsAt, versions_of};
+ghost use Rattle.tss_versions.specs.Known.{IsAt, AreNumbered, versions_of};
+ghost use Rattle.tss_versions.specs.Numbers.{OpensNumbered, GoneNumbered, AreSentNumbered};
 ghost use Rattle.tss_versions.specs.Rows.{gone_by, first_kept, behind_kept, followed_kept, leaving_kept, produced_kept, read_kept};
 ghost use Rattle.tss_versions.specs.Rows.{kept_after_open, kept_after_use, kept_after_release, kept_after_nack};
 ghost use Rattle.tss_versions.specs.Conditions.{AreChained, MayOpen, OpensBare};
@@ -30,6 +31,8 @@ impl Versions {
         ensures messages { IfOk result (λ s. s ≡ (kept_after_open self.old.versions m).sent) }
         ensures sent { IfOk result (λ s. messages_of s
             ≡ (after_open (versions_of self.old.versions) m.o (opening_of m)).sent) }
+        ensures numbers { (p b : _) → AreNumbered p b self.old.versions → OpensNumbered p b m
+            → AreNumbered p b self.new.versions × IfOk result (AreSentNumbered p b) }
         ensures handed_back { IfErr result (λ e. e.1 ≡ m) }
         ensures unchanged { OnErr result (self.new ≡ self.old) }
     {
@@ -148,6 +151,8 @@ impl Versions {
             ≡ (after_use (versions_of self.old.versions) o v).part) }
         ensures messages { IfOk result (λ s. s ≡ (kept_after_use self.old.versions o v).sent) }
         ensures sent { IfOk result (λ s. messages_of s ≡ (after_use (versions_of self.old.versions) o v).sent) }
+        ensures numbers { (p b : _) → AreNumbered p b self.old.versions
+            → AreNumbered p b self.new.versions × IfOk result (AreSentNumbered p b) }
         ensures unchanged { OnErr result (self.new ≡ self.old) }
     {
         let Some(at) = self.find(v) else {
@@ -196,6 +201,8 @@ impl Versions {
         ensures messages { result ≡ (kept_after_release self.old.versions o v producer).sent }
         ensures sent { messages_of result
             ≡ (after_release (versions_of self.old.versions) o (record { version = v; producer = producer })).sent }
+        ensures numbers { (p b : _) → AreNumbered p b self.old.versions
+            → AreNumbered p b self.new.versions × AreSentNumbered p b result }
     {
         let Some(at) = self.find(v) else {
             unreachable!();
@@ -266,6 +273,8 @@ impl Versions {
         ensures versions { versions_of self.new.versions ≡ (after_nack (versions_of self.old.versions) v).part }
         ensures messages { result ≡ (kept_after_nack self.old.versions v).sent }
         ensures sent { messages_of result ≡ (after_nack (versions_of self.old.versions) v).sent }
+        ensures numbers { (p b : _) → AreNumbered p b self.old.versions
+            → AreNumbered p b self.new.versions × AreSentNumbered p b result }
     {
         let Some(at) = self.find(v) else {
             unreachable!();
@@ -283,6 +292,8 @@ impl Versions {
         ensures exact { self.new ≡ record self.old { versions = map.remove self.old.versions v } }
         ensures versions { versions_of self.new.versions ≡ after_retire (versions_of self.old.versions) v }
         ensures gone { (x : _) → map.get self.old.versions v ≡ Some x → result ≡ gone_by v x true }
+        ensures numbers { (p b : _) → AreNumbered p b self.old.versions
+            → AreNumbered p b self.new.versions × GoneNumbered p b result }
     {
         match self.find(v) {
             Some(at) => self.remove(at).gone(v, true),

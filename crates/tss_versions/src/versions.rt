@@ -4,7 +4,7 @@ ghost use Rattle.std.specs.FinMap as map;
 ghost use Rattle.tss_base.specs.declared.machine.Key.TheVariants as key;
 ghost use Rattle.tss_base.specs.Machine.{IsInRange};
 ghost use Rattle.tss_maps.specs.Ordered.{key_at};
-ghost use Rattle.tss_versions.specs.Known.{IsAt, HaveSites, HasNumbers, site_of};
+ghost use Rattle.tss_versions.specs.Known.{IsAt, HaveSites, AreNumbered, site_of};
 ghost use Rattle.tss_versions.specs.Conditions.{IsFree, IsUnnamed};
 
 use crate::kept::{Kept, Seat, Store};
@@ -52,6 +52,13 @@ impl Versions {
         ensures { result ≡ is_some (map.get self.now.versions v) }
     {
         self.index.has(v)
+    }
+
+    /// How many places there are.
+    pub fn size(&self) -> u32
+        ensures { result ≡ self.now.size }
+    {
+        self.seats.size()
     }
 
     /// How many versions are registered.
@@ -149,7 +156,7 @@ impl Versions {
 
     /// Ends the bank, with the versions that are registered. The pools of its places and buffers have ended.
     pub fn close(self, places: &Ended, buffers: &Ended)
-        requires { (v : _) (x : _) → map.get self.versions v ≡ Some x → HasNumbers places.now buffers.now x }
+        requires { AreNumbered places.now buffers.now self.versions }
     {
         let mut rest = self;
         while let Some(v) = rest.name_at(0) {

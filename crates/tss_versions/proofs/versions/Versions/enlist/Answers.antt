@@ -1,9 +1,12 @@
 -- A reader is enlisted where the version is registered.
-use Rattle.std.proofs.Common.{rules, refl, sym, ap, ◌∙◌}
+use Rattle.std.proofs.Common.{rules, refl, sym, ap, subst, ◌∙◌}
 use Rattle.tss_events.specs.Events.{messages_of}
 use Rattle.tss_versions.specs.Known.{versions_of}
 use Rattle.tss_versions.proofs.CallLemmas.{used_row}
 use Rattle.tss_versions.proofs.StepLemmas.{found_site, absent_site, registered_row, unregistered_row}
+use Rattle.tss_versions.specs.Known.{AreNumbered}
+use Rattle.tss_versions.specs.Numbers.{AreSentNumbered}
+use Rattle.tss_versions.proofs.NumberLemmas.{use_numbers}
 use Rattle.tss_versions.proofs.versions.Versions.enlist.Goals as goal
 
 pub returns-in_default-clause-blocked : goal.returns-in_default-clause-blocked
@@ -31,3 +34,10 @@ returns-clause-versions c =
 pub returns-clause-sent : goal.returns-clause-sent
 returns-clause-sent c =
     ap messages_of (returns-clause-messages c) ∙ ap (λ d. d.sent) (used_row c.args.self.now.versions c.args.o c.args.v)
+
+pub returns-clause-numbers : goal.returns-clause-numbers
+returns-clause-numbers c = λ p b n.
+    let d = use_numbers p b c.args.self.now.versions c.args.o c.args.v n in (
+      subst (λ s. AreNumbered p b s.versions) (sym (returns-clause-exact c)) d.part,
+      subst (AreSentNumbered p b) (sym (returns-clause-messages c)) d.sent,
+    )

@@ -1,8 +1,7 @@
 -- The new version is linked to the one before it, and that one to the new.
-use Rattle.std.proofs.Common.{Some, sym, subst}
+use Rattle.std.proofs.Common.{sym, subst}
 use Rattle.std.specs.FinMap.{insert}
 use Rattle.tss_versions.specs.declared.kept.Kept.{Kept}
-use Rattle.tss_versions.specs.declared.status.Next.{Next}
 use Rattle.tss_versions.specs.Known.{IsAt, HaveSites}
 use Rattle.tss_versions.specs.Conditions.{Remain}
 use Rattle.tss_versions.proofs.ConditionLemmas.{unnamed_fresh}
@@ -36,29 +35,18 @@ write-requires-clause-at c =
 
 pub write-requires-clause-sites : goal.write-requires-clause-sites
 write-requires-clause-sites c =
-    sites_linked c.add.new.self.versions c.get.result.now.status
-    (record {
-      site = record { name = c.args.m.o; place = c.place.result };
-      how = c.args.follow.how;
-      last = c.args.follow.last;
-    })
-    c.get.ensures.sites
+    sites_linked c.add.new.self.versions c.get.result.now.status _ c.get.ensures.sites
     (subst (λ s. IsAt s.versions (record { name = c.args.m.o; place = c.place.result })) (sym c.add.ensures)
     (at_new c.args.self.now.versions c.args.m.o
-    (record { status = c.behind-status.result; store = c.store_by-store.result; place = c.args.m.place }) c.place.result
-    c.place.ensures))
+    (record { status = c.behind-status.result; store = c.store_by-store.result; place = c.args.m.place })
+    c.place.result c.place.ensures))
 
 pub returns-clause-at : goal.returns-clause-at
 returns-clause-at c =
-    let next : Next = record {
-      site = record { name = c.args.m.o; place = c.place.result };
-      how = c.args.follow.how;
-      last = c.args.follow.last;
-    } in
     at_remaining c.add.new.self.versions c.write.new.self.versions c.args.before
-    (subst (λ s. Remain c.add.new.self.versions s.versions) (sym (c.write.ensures c.get.result.now c.get.ensures.exact))
-    (remain_written c.add.new.self.versions c.args.before.name c.get.result.now c.get.ensures.exact
-    (record (c.get.result.now.status) { successor = Some next })))
+    (subst (λ s. Remain c.add.new.self.versions s.versions)
+    (sym (c.write.ensures c.get.result.now c.get.ensures.exact))
+    (remain_written c.add.new.self.versions c.args.before.name c.get.result.now c.get.ensures.exact _))
     (subst (λ s. IsAt s.versions c.args.before) (sym c.add.ensures)
     (at_added c.args.self.now.versions c.args.m.o
     (record { status = c.behind-status.result; store = c.store_by-store.result; place = c.args.m.place })

@@ -7,6 +7,9 @@ use Rattle.tss_events.specs.Events.{messages_of}
 use Rattle.tss_versions.proofs.UnlinkLemmas.{at_remaining, remain_written}
 use Rattle.tss_versions.proofs.CallLemmas.{may_settle_put, nacked_row}
 use Rattle.tss_versions.proofs.StepLemmas.{found_site, found_at}
+use Rattle.tss_versions.specs.Known.{AreNumbered}
+use Rattle.tss_versions.specs.Numbers.{AreSentNumbered}
+use Rattle.tss_versions.proofs.NumberLemmas.{nack_numbers}
 use Rattle.tss_versions.proofs.versions.Versions.nack.Goals as goal
 
 pub settle-requires-clause-at : goal.settle-requires-clause-at
@@ -42,3 +45,10 @@ returns-clause-sent c =
     let f = found_site c.args.self.now.versions c.args.v c.in-Some.at (sym c.find.ensures ∙ c.in-Some.is) in
     ap messages_of (returns-clause-messages c)
     ∙ ap (λ d. d.sent) (nacked_row c.args.self.now.versions c.args.v c.args.v f.kept f.there c.requires.chained)
+
+pub returns-clause-numbers : goal.returns-clause-numbers
+returns-clause-numbers c = λ p b n.
+    let d = nack_numbers p b c.args.self.now.versions c.args.v c.args.v n in (
+      subst (λ s. AreNumbered p b s.versions) (sym (returns-clause-exact c)) d.part,
+      subst (AreSentNumbered p b) (sym (returns-clause-messages c)) d.sent,
+    )

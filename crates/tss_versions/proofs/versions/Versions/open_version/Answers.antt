@@ -1,11 +1,14 @@
 -- A version is opened where the one that it follows is registered.
-use Rattle.std.proofs.Common.{refl, sym, ap, ◌∙◌}
+use Rattle.std.proofs.Common.{refl, sym, ap, subst, ◌∙◌}
 use Rattle.std.specs.FinMap.{get}
 use Rattle.tss_protocol.specs.Versions.{is_followable, opened_by}
 use Rattle.tss_events.specs.Events.{opening_of, messages_of}
 use Rattle.tss_versions.specs.Known.{versions_of}
 use Rattle.tss_versions.proofs.CallLemmas.{first_row, followed_row}
 use Rattle.tss_versions.proofs.StepLemmas.{found_site, found_at, absent_site, registered_row, unregistered_row}
+use Rattle.tss_versions.specs.Known.{AreNumbered}
+use Rattle.tss_versions.specs.Numbers.{AreSentNumbered}
+use Rattle.tss_versions.proofs.NumberLemmas.{opens_first, opens_behind}
 use Rattle.tss_versions.proofs.versions.Versions.open_version.Goals as goal
 
 pub returns-in_default-clause-versions : goal.returns-in_default-clause-versions
@@ -67,3 +70,17 @@ returns-in-None-clause-blocked c =
     let v = c.in-Some.follow.version in
     let none = absent_site vs v (sym c.find.ensures ∙ c.in-None.is) in
     (λ e. ap (is_followable (versions_of vs)) c.in-Some.is ∙ unregistered_row vs v none, λ e. refl)
+
+pub returns-in_default-clause-numbers : goal.returns-in_default-clause-numbers
+returns-in_default-clause-numbers c = λ p b n h.
+    let d = opens_first p b c.args.self.now.versions c.args.m n h in (
+      subst (λ s. AreNumbered p b s.versions) (sym c.open_first.ensures.exact) d.part,
+      subst (AreSentNumbered p b) (sym c.open_first.ensures.messages) d.sent,
+    )
+
+pub returns-in-Some-find-clause-numbers : goal.returns-in-Some-find-clause-numbers
+returns-in-Some-find-clause-numbers c = λ p b n h.
+    let d = opens_behind p b c.args.self.now.versions c.args.m n h c.in-Some.follow c.in-Some-find.before in (
+      subst (λ s. AreNumbered p b s.versions) (sym c.open_behind.ensures.exact) d.part,
+      subst (AreSentNumbered p b) (sym c.open_behind.ensures.messages) d.sent,
+    )

@@ -7,6 +7,9 @@ use Rattle.tss_versions.specs.Conditions.{MaySettle, Remain}
 use Rattle.tss_versions.proofs.UnlinkLemmas.{at_remaining}
 use Rattle.tss_versions.proofs.CallLemmas.{may_settle_left, released_row}
 use Rattle.tss_versions.proofs.StepLemmas.{found_site, found_at, few_sent, remain_leaving}
+use Rattle.tss_versions.specs.Known.{AreNumbered}
+use Rattle.tss_versions.specs.Numbers.{AreSentNumbered}
+use Rattle.tss_versions.proofs.NumberLemmas.{release_numbers}
 use Rattle.tss_versions.proofs.versions.Versions.release.Goals as goal
 
 pub leave-sent-requires-clause-readers : goal.leave-sent-requires-clause-readers
@@ -55,3 +58,10 @@ returns-clause-sent c =
     let f = found_site c.args.self.now.versions c.args.v c.in-Some.at (sym c.find.ensures ∙ c.in-Some.is) in
     ap messages_of (returns-clause-messages c)
     ∙ ap (λ d. d.sent) (released_row c.args.self.now.versions c.args.o c.args.v f.kept f.there c.requires.chained c.args.producer)
+
+pub returns-clause-numbers : goal.returns-clause-numbers
+returns-clause-numbers c = λ p b n.
+    let d = release_numbers p b c.args.self.now.versions c.args.o c.args.v n c.args.producer in (
+      subst (λ s. AreNumbered p b s.versions) (sym (returns-clause-exact c)) d.part,
+      subst (AreSentNumbered p b) (sym (returns-clause-messages c)) d.sent,
+    )

@@ -1,1 +1,0 @@
-// The calls of a bank on their own.
