@@ -1,0 +1,5 @@
+pub mod Known
+pub mod Places
+pub mod Rows
+pub mod Conditions
+pub mod Numbers
