@@ -1,3 +1,4 @@
 pub mod RowsLemmas
 pub mod TableLemmas
+pub mod StoreLemmas
 pub mod SeatsLemmas
