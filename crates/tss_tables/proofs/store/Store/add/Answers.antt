@@ -4,7 +4,8 @@ use Rattle.std.specs.Ordering.{nat_cmp}
 use Rattle.tss_tables.specs.Rows.{RowsState}
 use Rattle.tss_tables.specs.Table.{TableState}
 use Rattle.tss_tables.specs.Store.{AreFree, AreStored, stored_of}
-use Rattle.tss_tables.proofs.StoreLemmas.{size-seen, length-seen, sorted-seen, fresh-seen, AreFree-pop, AreStored-added, added-seen}
+use Rattle.tss_tables.proofs.FreeLemmas.{AreFree-pop}
+use Rattle.tss_tables.proofs.StoreLemmas.{size-seen, length-seen, sorted-seen, fresh-seen, AreStored-added, added-seen}
 use Rattle.tss_tables.proofs.store.Store.add.Goals as goal
 
 pub unreachable-requires : goal.unreachable-requires

@@ -1,6 +1,7 @@
 -- What stands at the place of a row.
 use Rattle.std.proofs.Common.{ap, ◌∙◌, sym}
-use Rattle.tss_tables.proofs.StoreLemmas.{at_place, sorted-seen, find-seen}
+use Rattle.tss_tables.proofs.PickedLemmas.{at_place}
+use Rattle.tss_tables.proofs.StoreLemmas.{sorted-seen, find-seen}
 use Rattle.tss_tables.proofs.store.Store.get.Goals as goal
 
 pub get-requires : goal.get-requires

@@ -3,7 +3,8 @@ use Rattle.std.proofs.Common.{inr, ap, ◌∙◌, sym}
 use Rattle.std.specs.FinMap.{insert}
 use Rattle.tss_tables.specs.Store.{stored_of}
 use Rattle.tss_tables.proofs.RowsLemmas.{lends_alike}
-use Rattle.tss_tables.proofs.StoreLemmas.{at_place, sorted-seen, find-seen, AreStored-written, written-seen}
+use Rattle.tss_tables.proofs.PickedLemmas.{at_place}
+use Rattle.tss_tables.proofs.StoreLemmas.{sorted-seen, find-seen, AreStored-written, written-seen}
 use Rattle.tss_tables.proofs.store.Store.get_mut.Goals as goal
 
 pub get-requires : goal.get-requires

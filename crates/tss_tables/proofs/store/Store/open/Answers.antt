@@ -3,7 +3,8 @@ use Rattle.std.proofs.Common.{◌-◌, ◌∙◌, sym, arith, subst}
 use Rattle.std.specs.Ordering.{nat_cmp}
 use Rattle.std.specs.FinMap.{empty, get-empty}
 use Rattle.tss_tables.specs.Store.{AreFree}
-use Rattle.tss_tables.proofs.StoreLemmas.{AreFrom, AreFrom-push, AreFree-push, below_from, AreStored-open}
+use Rattle.tss_tables.proofs.FreeLemmas.{AreFrom, AreFrom-push, AreFree-push, below_from}
+use Rattle.tss_tables.proofs.StoreLemmas.{AreStored-open}
 use Rattle.tss_tables.proofs.store.Store.open.Goals as goal
 
 pub unreachable-requires : goal.unreachable-requires

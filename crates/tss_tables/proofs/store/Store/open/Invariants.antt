@@ -2,7 +2,7 @@
 use Rattle.std.proofs.Common.{◌≡◌, ◌+◌, ◌≤◌, vec_len, vec_capacity}
 use Rattle.std.specs.FinMap.{empty}
 use Rattle.tss_tables.specs.Store.{AreFree}
-use Rattle.tss_tables.proofs.StoreLemmas.{AreFrom}
+use Rattle.tss_tables.proofs.FreeLemmas.{AreFrom}
 use Rattle.tss_tables.proofs.store.Store.open.Given as goal
 
 abbrev pub invariant-loop-place : goal.invariant-loop-place

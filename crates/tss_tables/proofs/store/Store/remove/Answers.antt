@@ -4,7 +4,8 @@ use Rattle.std.specs.Ordering.{nat_cmp}
 use Rattle.tss_tables.specs.Rows.{RowsState}
 use Rattle.tss_tables.specs.Table.{TableState}
 use Rattle.tss_tables.specs.Store.{AreStored, stored_of}
-use Rattle.tss_tables.proofs.StoreLemmas.{at_place, sorted-seen, find-seen, found_there, AreStored-removed, removed-seen, without_none, gone-seen}
+use Rattle.tss_tables.proofs.PickedLemmas.{at_place, found_there}
+use Rattle.tss_tables.proofs.StoreLemmas.{sorted-seen, find-seen, AreStored-removed, removed-seen, without_none, gone-seen}
 use Rattle.tss_tables.proofs.store.Store.remove.Goals as goal
 
 pub remove-requires : goal.remove-requires

@@ -2,7 +2,8 @@
 use Rattle.std.proofs.Common.{sym, ap, ◌∙◌, subst}
 use Rattle.std.specs.Prelude.{is_some, IsSome}
 use Rattle.tss_tables.specs.Store.{AreStored, stored_of}
-use Rattle.tss_tables.proofs.StoreLemmas.{at_place, sorted-seen, find-seen, AreStored-written, written-seen}
+use Rattle.tss_tables.proofs.PickedLemmas.{at_place}
+use Rattle.tss_tables.proofs.StoreLemmas.{sorted-seen, find-seen, AreStored-written, written-seen}
 use Rattle.tss_tables.proofs.store.Store.replace.Goals as goal
 
 pub get-requires : goal.get-requires
