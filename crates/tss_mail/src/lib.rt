@@ -5,5 +5,7 @@
 
 mod kind;
 mod mail;
+#[cfg(test)]
+mod tests;
 
 pub use mail::Mail;

@@ -4,4 +4,5 @@ pub mod Table
 pub mod TableLends
 pub mod NameTableLends
 pub mod Seats
+pub mod Store
 pub mod SeatsLends

@@ -7,7 +7,7 @@ ghost use Rattle.tss_tables.specs.NameTableLends.{lends_entry};
 ghost use Rattle.tss_base.specs.Names.{name_cmp};
 ghost use Rattle.tss_maps.specs.Ordered.{key_at, least, least_above};
 
-use crate::rows::Rows;
+use crate::store::Store;
 use std::alloc::Global;
 use std::marker::Model;
 use tss_base::{NoMemory, OpName};
@@ -15,7 +15,7 @@ use tss_base::{NoMemory, OpName};
 /// What stands under operands' names, for a fixed count of entries. A contract sees its size and the map of its entries.
 #[derive(Drop)]
 pub struct NameTable<V> {
-    rows: Rows<OpName, V>,
+    rows: Store<OpName, V>,
 }
 
 impl<V> Model for NameTable<V> {
@@ -40,7 +40,7 @@ impl<V> NameTable<V> {
         ensures { IfOk result (λ t. t ≡ record { size = size; entries = map.empty }) }
     {
         Ok(NameTable {
-            rows: Rows::open(alloc, size)?,
+            rows: Store::open(alloc, size)?,
         })
     }
 

@@ -1,16 +1,12 @@
-// Rows in the order of their keys, on which the tables stand.
-ghost use Rattle.std.specs.Prelude.{◌≡◌, ◌<◌, ◌≤◌, [], None, Some, IfOk, IsSome, length, map, option_map, slice_get, T};
+// Rows in the order of their keys, each with its value beside its key.
+ghost use Rattle.std.specs.Prelude.{◌≡◌, ◌<◌, ◌≤◌, [], None, Some, IfOk, length, map, slice_get, T};
 ghost use Rattle.std.specs.List.{find as find_if};
 ghost use Rattle.std.specs.Ordering.{is_lt};
 ghost use Rattle.std.specs.FinMap.Entries.{find, put, is_sorted};
-ghost use Rattle.std.specs.Borrow.{sem};
-ghost use Rattle.std.specs.Option.{option_copied_mut};
-ghost use Rattle.tss_tables.specs.Lends.{lends_value};
 ghost use Rattle.tss_tables.specs.Rows.{without, Rises, MatchSearch};
 
 use std::alloc::Global;
 use std::marker::Model;
-use std::mem;
 use tss_base::NoMemory;
 
 /// Keys in their order, each once, and beside each its value.
@@ -48,7 +44,7 @@ fn key_in<K: Copy>(keys: &[K], place: usize) -> Option<K>
     keys.get(place).copied()
 }
 
-impl<K: Ord + Copy, V> Rows<K, V> {
+impl<K: Ord + Copy, V: Copy> Rows<K, V> {
     /// No rows, and room for `size` of them.
     pub fn open(alloc: Global, size: u32) -> Result<Rows<K, V>, NoMemory>
         ensures { IfOk result (λ r. r ≡ record { size = size; entries = [] }) }
@@ -78,27 +74,14 @@ impl<K: Ord + Copy, V> Rows<K, V> {
     }
 
     /// The value of a key.
-    pub fn get(&self, key: &K) -> Option<&V>
+    pub fn get(&self, key: &K) -> Option<V>
         requires { T (is_sorted K.cmp self.now.entries) }
-        ensures { option_map (λ x. x.now) result ≡ find K.cmp key.now self.now.entries }
+        ensures { result ≡ find K.cmp key.now self.now.entries }
     {
         match place_of(self.keys.as_slice(), key) {
-            Ok(place) => Some(&self.values[place]),
+            Ok(place) => Some(self.values[place]),
             Err(_) => None,
         }
-    }
-
-    /// The value of a key for writing.
-    pub fn get_mut(&mut self, key: &K) -> Option<&mut V>
-        requires { T (is_sorted K.cmp self.old.entries) }
-        ensures* writes_back { sem 𝓛 (lends_value K.row V.row K.cmp self.entry key.now result) }
-        ensures value { option_copied_mut result ≡ find K.cmp key.now self.old.entries }
-    {
-        let place = match place_of(self.keys.as_slice(), key) {
-            Ok(place) => place,
-            Err(_) => self.values.len(),
-        };
-        self.values.get_mut(place)
     }
 
     /// Adds a row under a new key.
@@ -117,19 +100,6 @@ impl<K: Ord + Copy, V> Rows<K, V> {
         }
         match self.values.insert(place, value) {
             Ok(()) => {}
-            Err(_) => unreachable!(),
-        }
-    }
-
-    /// Puts a value in the place of a key's value, which it hands back.
-    pub fn replace(&mut self, key: &K, value: V) -> V
-        requires sorted { T (is_sorted K.cmp self.old.entries) }
-        requires there { IsSome (find K.cmp key.now self.old.entries) }
-        ensures old { find K.cmp key.now self.old.entries ≡ Some result }
-        ensures new { self.new ≡ record { size = self.old.size; entries = put K.cmp key.now value self.old.entries } }
-    {
-        match place_of(self.keys.as_slice(), key) {
-            Ok(place) => mem::replace(&mut self.values[place], value),
             Err(_) => unreachable!(),
         }
     }

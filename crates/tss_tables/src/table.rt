@@ -7,7 +7,7 @@ ghost use Rattle.std.specs.Option.{option_copied_mut};
 ghost use Rattle.tss_tables.specs.TableLends.{lends_entry};
 ghost use Rattle.tss_maps.specs.Ordered.{key_at, least, least_above};
 
-use crate::rows::Rows;
+use crate::store::Store;
 use std::alloc::Global;
 use std::marker::Model;
 use tss_base::NoMemory;
@@ -15,7 +15,7 @@ use tss_base::NoMemory;
 /// What stands under numbers, for a fixed count of entries. A contract sees its size and the map of its entries.
 #[derive(Drop)]
 pub struct Table<V> {
-    rows: Rows<u32, V>,
+    rows: Store<u32, V>,
 }
 
 impl<V> Model for Table<V> {
@@ -40,7 +40,7 @@ impl<V> Table<V> {
         ensures { IfOk result (λ t. t ≡ record { size = size; entries = map.empty }) }
     {
         Ok(Table {
-            rows: Rows::open(alloc, size)?,
+            rows: Store::open(alloc, size)?,
         })
     }
 
