@@ -1,10 +1,10 @@
 // The inbox and the gateway.
-ghost use Rattle.std.specs.Prelude.{◌≡◌, ◌≢◌, ◌<◌, ◌≤◌, ◌↔◌, ◌⊎◌, None, Some, IsErr, OnOk, OnErr, IfOk, length, option_map, slice_get};
+ghost use Rattle.std.specs.Prelude.{◌≡◌, ◌≢◌, ◌<◌, ◌≤◌, ◌↔◌, ◌⊎◌, None, Some, IsErr, OnOk, OnErr, IfOk, length, nat_lt, option_map, slice_get};
 ghost use Rattle.std.specs.FinMap as map;
 ghost use Rattle.tss_base.specs.declared.bounds.TheConstants.{MAX_OPERANDS, MAX_WINDOW};
 ghost use Rattle.tss_base.specs.declared.operand.OpName.{OpName};
 ghost use Rattle.tss_base.specs.declared.operand.Task.{Task as SpawnedTask};
-ghost use Rattle.tss_protocol.specs.Gateway.{held_tasks, gateway_after_take, gateway_after_ack};
+ghost use Rattle.tss_protocol.specs.Gateway.{held_tasks, gateway_after_take, gateway_after_ack, is_idle};
 ghost use Rattle.tss_gateway.specs.Seen.{told_at};
 
 use crate::names::{Held, ROOM, place_of, run_length};
@@ -115,6 +115,20 @@ impl Gateway {
             }
             None => Err(Blocked),
         }
+    }
+
+    /// Whether the gateway holds fewer tasks than it may.
+    pub fn has_window(&self) -> bool
+        ensures { result ≡ nat_lt (length (held_tasks self.now.gateway)) self.now.window }
+    {
+        self.tasks() < self.window
+    }
+
+    /// Whether the gateway holds no task.
+    pub fn is_idle(&self) -> bool
+        ensures { result ≡ is_idle self.now.gateway }
+    {
+        self.held.is_empty()
     }
 
     /// The task in the inbox.

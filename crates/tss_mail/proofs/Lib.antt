@@ -2,3 +2,4 @@ mod Naming
 mod NamingLemmas
 mod TableLemmas
 mod KeptLemmas
+mod KindLemmas

@@ -1,4 +1,5 @@
 pub mod Letters
 pub mod Codes
 pub mod Kinds
+pub mod KindNames
 pub mod Kept

@@ -8,4 +8,5 @@ mod mail;
 #[cfg(test)]
 mod tests;
 
+pub use kind::Kind;
 pub use mail::Mail;

@@ -4,8 +4,9 @@ ghost use Rattle.std.specs.FinMap as map;
 ghost use Rattle.tss_protocol.specs.Mail.{posted, taken, message_at, message_count, message_names, name_of};
 ghost use Rattle.tss_events.specs.Events.{message_of};
 ghost use Rattle.tss_mail.specs.Letters.{mail_of, no_letters, letter_at, with_letter, without_letter};
+ghost use Rattle.tss_mail.specs.KindNames.{names_of_kind};
 
-use crate::kind::{KINDS, address_of, kind_at};
+use crate::kind::{KINDS, Kind, address_of, kind_at};
 use std::alloc::Global;
 use std::marker::Model;
 use tss_base::{Event, NoMemory};
@@ -143,6 +144,23 @@ impl Mail {
             }
         }
         None
+    }
+
+    /// How many messages of a kind there are.
+    pub fn count_of(&self, kind: Kind) -> u32
+        ensures { result ≡ length (names_of_kind (mail_of self.now) kind) }
+    {
+        self.tables[kind.number()].len()
+    }
+
+    /// The name of the message of a kind at a place, from 0, in order.
+    pub fn at_kind(&self, kind: Kind, i: u32) -> Option<Event>
+        ensures { result ≡ slice_get (names_of_kind (mail_of self.now) kind) i }
+    {
+        match self.tables[kind.number()].key_at(i) {
+            Some(o) => Some(kind.event(o)),
+            None => None,
+        }
     }
 
     /// Ends the mail, once there is no message.
