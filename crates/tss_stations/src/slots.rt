@@ -5,7 +5,7 @@ ghost use Rattle.tss_base.specs.declared.machine.Key.TheVariants as key;
 ghost use Rattle.tss_base.specs.Machine.{IsInRange};
 ghost use Rattle.tss_maps.specs.Ordered.{key_at};
 ghost use Rattle.tss_protocol.specs.Names.{station_of};
-ghost use Rattle.tss_protocol.specs.Stations.{has_slot, is_complete};
+ghost use Rattle.tss_protocol.specs.Stations.{has_slot, is_complete, tasks_in};
 ghost use Rattle.tss_stations.specs.Views.{flying_of, flight_of, view_in, with_view};
 ghost use Rattle.tss_stations.specs.Slots.{awaited_slot, remaining_slots};
 
@@ -66,6 +66,21 @@ impl Slots {
         ensures { result ≡ has_slot self.now.sizes (flight_of self.now.slots) task }
     {
         self.counts[station_of(&self.sizes, task)] < self.sizes.slots
+    }
+
+    /// How many slots of a station are taken.
+    pub fn taken(&self, station: u32) -> u32
+        requires { station < self.now.sizes.stations }
+        ensures { result ≡ tasks_in self.now.sizes station (flight_of self.now.slots) }
+    {
+        self.counts[station as usize]
+    }
+
+    /// How many slots are taken in all.
+    pub fn len(&self) -> u32
+        ensures { result ≡ map.len self.now.slots }
+    {
+        self.table.len()
     }
 
     /// Takes a slot for a task.

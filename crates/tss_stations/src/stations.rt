@@ -1,10 +1,10 @@
 // The reservation stations.
-ghost use Rattle.std.specs.Prelude.{◌≡◌, ◌≤◌, IfOk, IsTrue, None, is_some, option_and_then, option_map};
+ghost use Rattle.std.specs.Prelude.{◌≡◌, ◌<◌, ◌≤◌, IfOk, IsTrue, None, is_some, option_and_then, option_map};
 ghost use Rattle.std.specs.FinMap as map;
 ghost use Rattle.tss_base.specs.declared.machine.Key.TheVariants as key;
 ghost use Rattle.tss_base.specs.Machine.{IsInRange};
 ghost use Rattle.tss_maps.specs.Ordered.{key_at};
-ghost use Rattle.tss_protocol.specs.Stations.{has_slot, flight_after_take, after_ready, after_link, flight_after_finish, after_bye, operand_at};
+ghost use Rattle.tss_protocol.specs.Stations.{has_slot, tasks_in, flight_after_take, after_ready, after_link, flight_after_finish, after_bye, operand_at};
 ghost use Rattle.tss_events.specs.Events.{source_of, messages_of};
 ghost use Rattle.tss_stations.specs.Views.{flight_of, state_of, new_slot, view_in};
 ghost use Rattle.tss_stations.specs.Slots.{slots_after_ready, slots_after_link, slots_after_bye, slots_after_start, slots_after_finish};
@@ -54,6 +54,21 @@ impl Stations {
         ensures { result ≡ has_slot self.now.sizes (flight_of self.now.slots) task }
     {
         self.slots.room(task)
+    }
+
+    /// How many tasks in flight have a station.
+    pub fn taken(&self, station: u32) -> u32
+        requires { station < self.now.sizes.stations }
+        ensures { result ≡ tasks_in self.now.sizes station (flight_of self.now.slots) }
+    {
+        self.slots.taken(station)
+    }
+
+    /// How many tasks are in flight.
+    pub fn count(&self) -> u32
+        ensures { result ≡ map.len (flight_of self.now.slots) }
+    {
+        self.slots.len()
     }
 
     /// Lets a task into a slot of its station. A task without operands is queued.

@@ -13,6 +13,6 @@ returns c =
     let items = c.self.inside.held.items in
     let names = names_in items in
     let count = len-entries (set_of names) ∙ sym (length-map (entries (set_of names)) (λ e. e.0))
-        ∙ ap length (keys-set_of names c.self.invariant.rises) ∙ length-names_in items
+    ∙ ap length (keys-set_of names c.self.invariant.rises) ∙ length-names_in items
     in
     c.is_empty.ensures ∙ ap (λ n. n == 0) (sym count) ∙ ap (λ g. is_idle g.gateway) c.self.view_is
