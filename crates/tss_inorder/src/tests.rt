@@ -1,11 +1,10 @@
-// What no clause says: that memory is found for a run. And programs of the rows, whose endings, tasks and output were
+// What no clause says: that memory is found for a run. And programs with names, whose endings, tasks and output were
 // worked out apart.
-ghost use Rattle.std.specs.Prelude.{◌≡◌, vec_len, IfOk};
 
 mod awaits;
-mod epochs;
 mod events;
 mod exits;
+mod many;
 mod refusals;
 mod traps;
 
@@ -13,51 +12,70 @@ use crate::run_in_order;
 use std::alloc::Global;
 use std::process::Abort;
 use std::test::Fail;
-use tss_base::{Ending, Image, Limits, Segment};
+use tss_asm::AsmFault;
+use tss_base::{Ending, Limits};
+use tss_elf::read_image;
+use tss_isa::{Instr, LoadKind, StoreKind};
+use tss_programs::Source;
 
-const LIMITS: Limits = Limits {
-    main_budget: 1000,
-    task_budget: 100,
-    max_tasks: 16,
-    max_operands: 7,
-    object_bytes: 128,
-    epoch_objects: 16,
-    output_bytes: 64,
+/// Where the data of a program stands.
+const X: u32 = 0x20000;
+
+/// Checks what a program comes to in program order: its ending, its tasks and its output.
+fn expect(
+    rt: &impl Abort,
+    alloc: Global,
+    name: &str,
+    program: Vec<u8>,
+    limits: &Limits,
+    ending: Ending,
+    tasks: u32,
+    output: &[u8],
+) -> Result<(), Fail> {
+    assert!(rt; limits.max_operands <= 7);
+    let image = read_image(alloc, program.as_slice())?;
+    let reference = run_in_order(alloc, &image, limits)?;
+    assert_eq!(rt; reference.ending(), ending, "{name}");
+    assert_eq!(rt; reference.tasks(), tasks, "{name}");
+    assert_eq!(rt; reference.output(), output, "{name}");
+    Ok(())
+}
+
+/// Main exits.
+fn exits_with(alloc: Global, status: u32) -> Result<Vec<u8>, AsmFault> {
+    let mut main = Source::open(alloc)?;
+    main.exit(status)?;
+    main.image()
+}
+
+/// Main prints so many bytes at an address, and exits.
+fn prints(alloc: Global, at: u32, len: u32) -> Result<Vec<u8>, AsmFault> {
+    let mut main = Source::open(alloc)?;
+    main.print(at, len)?;
+    main.exit(0)?;
+    main.image()
+}
+
+/// A load of a word by main.
+const LOAD: Instr = Instr::Load {
+    kind: LoadKind::Lw,
+    rd: 6,
+    rs1: 5,
+    offset: 0,
 };
 
-/// A program in words, what its limits are beside `LIMITS`, and what it comes to: its ending, its tasks, its output.
-type Row<'a> = (&'a [u32], Limits, Ending, u32, &'a [u8]);
+/// A store of a word by main.
+const STORE: Instr = Instr::Store {
+    kind: StoreKind::Sw,
+    rs2: 6,
+    rs1: 5,
+    offset: 0,
+};
 
-/// 512 bytes of code, which begin with the program.
-fn code_of(alloc: Global, text: &[u32]) -> Result<Vec<u8>, Fail>
-    ensures { IfOk result (λ code. vec_len code ≡ 512) }
-{
-    let mut code = Vec::new(alloc);
-    for word in text {
-        code.extend_from_slice(&word.to_le_bytes())?;
-    }
-    code.resize(512, 0)?;
-    Ok(code)
-}
-
-/// The code, and 4,096 bytes that can be written, all zeros.
-fn image(alloc: Global, text: &[u32]) -> Result<Image, Fail> {
-    let code = code_of(alloc, text)?;
-    let data = vec![in alloc; 0; 4096]?;
-    let mut segments = Vec::new(alloc);
-    segments.push(Segment::new(0x10000, code, false, true))?;
-    segments.push(Segment::new(0x20000, data, true, false))?;
-    Ok(Image::new(0x10000, segments))
-}
-
-/// Runs a row.
-fn run(rt: &impl Abort, alloc: Global, row: &Row) -> Result<(), Fail> {
-    let (text, limits, ending, tasks, output) = row;
-    assert!(rt; limits.max_operands <= 7);
-    let image = image(alloc, text)?;
-    let reference = run_in_order(alloc, &image, limits)?;
-    assert_eq!(rt; reference.ending(), *ending);
-    assert_eq!(rt; reference.tasks(), *tasks);
-    assert_eq!(rt; reference.output(), *output);
-    Ok(())
+/// Main executes an instruction that takes its address from x5.
+fn executes(alloc: Global, at: u32, i: Instr) -> Result<Vec<u8>, AsmFault> {
+    let mut main = Source::open(alloc)?;
+    main.li(5, at)?;
+    main.instr(i)?;
+    main.image()
 }

@@ -3,11 +3,12 @@ use Rattle.std.specs.Prelude.{◌≡◌, ℕ, ◌≤◌, List, [], ◌∷◌, �
 use Rattle.tss_outside.specs.declared.files.Failed.{Failed}
 use Rattle.tss_outside.specs.declared.sink.Sink.{Ghosts}
 use Rattle.tss_outside.specs.Outside.{Rose, AppendsWhereTold, PutsPrefix}
+use Rattle.tss_report.specs.declared.piece.TheConstants.{PIECE}
 use Rattle.tss_report.specs.declared.writer.PieceWriter.{PieceWriter}
 
 -- how many bytes a piece has, but for the last
 abbrev pub piece_len : ℕ
-piece_len = 4096
+piece_len = PIECE
 
 -- lists of bytes one after another
 abbrev pub joined : List (List ℕ) → List ℕ

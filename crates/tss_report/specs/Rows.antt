@@ -4,12 +4,13 @@ use Rattle.std.specs.List.{range_with_len}
 use Rattle.hex.specs.Hex.{encode_lower}
 use Rattle.tss_base.specs.declared.range.Range.{Range}
 use Rattle.tss_model.specs.Memory.{MemoryRange, Memory, bytes_of}
+use Rattle.tss_report.specs.declared.rows.TheConstants.{ROW}
 use Rattle.tss_report.specs.Pieces.{joined}
 use Rattle.tss_report.specs.Digits.{hex_word}
 
 -- how many bytes a row has, but for the last of a range
 abbrev pub row_len : ℕ
-row_len = 16
+row_len = ROW
 
 -- the row at a place of a range, from its first byte on
 abbrev pub row_at : Range → ℕ → Range
@@ -17,7 +18,7 @@ row_at r k = record { base = r.base + row_len * k; len = min row_len (r.len - ro
 
 -- how many rows a range has
 abbrev pub row_count : Range → ℕ
-row_count r = (r.len + 15) / row_len
+row_count r = (r.len + (row_len - 1)) / row_len
 
 -- the line of a row: its address and its bytes
 abbrev pub row_line : ℕ → List ℕ → List ℕ

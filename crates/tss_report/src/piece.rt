@@ -1,6 +1,7 @@
 // What is kept for the next piece of a text.
 ghost use Rattle.std.specs.Prelude.{◌≡◌, ◌≤◌, ◌<◌, ◌+◌, ◌++◌, [], OnOk, OnErr, length, take};
 ghost use Rattle.tss_outside.specs.Outside.{Rose, AppendsWhereTold, PutsPrefix};
+ghost use Rattle.tss_report.specs.declared.piece.TheConstants.{PIECE};
 
 use std::marker::Model;
 use tss_outside::{Failed, Sink};
@@ -17,12 +18,13 @@ pub struct Piece {
 
 impl Model for Piece {
     ghost use Rattle.std.specs.Prelude.{ℕ, List, take, ◌<◌};
+    ghost use Rattle.tss_report.specs.declared.piece.TheConstants.{PIECE};
 
     ghost Value = { List ℕ };
 
     ghost view = { λ p. take p.used p.buffer };
 
-    ghost invariant = { λ p. p.used < 4096 };
+    ghost invariant = { λ p. p.used < PIECE };
 }
 
 // Puts bytes in the place of all from a place on.
@@ -46,7 +48,7 @@ impl Piece {
 
     /// How many bytes the piece lacks: at least one.
     pub(crate) fn room(&self) -> usize
-        ensures room { result + length self.now ≡ 4096 }
+        ensures room { result + length self.now ≡ PIECE }
         ensures some { 0 < result }
     {
         PIECE - self.used
@@ -54,7 +56,7 @@ impl Piece {
 
     /// Keeps bytes that don't fill the piece.
     pub(crate) fn keep(&mut self, bytes: &[u8])
-        requires { length self.old + length bytes.now < 4096 }
+        requires { length self.old + length bytes.now < PIECE }
         ensures { self.new ≡ self.old ++ bytes.now }
     {
         let end = self.used + bytes.len();
@@ -64,7 +66,7 @@ impl Piece {
 
     /// Fills the piece with these bytes and writes it.
     pub(crate) fn write_full<K: Sink>(&mut self, out: &mut K, bytes: &[u8]) -> Result<(), Failed>
-        requires { length self.old + length bytes.now ≡ 4096 }
+        requires { length self.old + length bytes.now ≡ PIECE }
         ensures ok { OnOk result (AppendsWhereTold (K.written out.old) (K.written out.new) (self.old ++ bytes.now)) }
         ensures kept { OnOk result (self.new ≡ []) }
         ensures err { OnErr result (PutsPrefix (K.written out.old) (K.written out.new) (self.old ++ bytes.now)) }

@@ -3,6 +3,7 @@ ghost use Rattle.std.specs.Prelude.{◌≡◌, ◌<◌, ◌≤◌, Some, length,
 ghost use Rattle.tss_base.specs.Range.{end_of};
 ghost use Rattle.tss_model.specs.Memory.{MemoryRange, loaded};
 ghost use Rattle.tss_memory.specs.Ranges.{IsInside, memory_end};
+ghost use Rattle.tss_report.specs.declared.rows.TheConstants.{ROW};
 ghost use Rattle.tss_report.specs.Pieces.{Emits};
 ghost use Rattle.tss_report.specs.Rows.{row_line, row_text, rows_text, range_text, changed_text};
 
@@ -17,10 +18,10 @@ const ROW: u32 = 16;
 
 /// Puts the line of a row.
 fn put_line<K: Sink>(to: &mut PieceWriter<'_, K>, at: u32, bytes: &[u8]) -> Result<(), Failed>
-    requires { length bytes.now ≤ 16 }
+    requires { length bytes.now ≤ ROW }
     ensures { Emits K.Sink to.old to.new result (row_line at bytes.now) }
 {
-    let mut digits = [0; 32];
+    let mut digits = [0; 2 * ROW as usize];
     let text = &mut digits[..2 * bytes.len()];
     write_hex(bytes, text);
     to.put_all(&[b"row ", &hex_word(at), b" ", text, b"\n"])
@@ -36,10 +37,10 @@ fn put_row<K: Sink>(
 ) -> Result<(), Failed>
     requires ranges { space.now.ranges ≡ (loaded image.now).ranges }
     requires inside { IsInside space.now.ranges i row.now }
-    requires len { row.now.len ≤ 16 }
+    requires len { row.now.len ≤ ROW }
     ensures { Emits K.Sink to.old to.new result (row_text (loaded image.now) space.now row.now) }
 {
-    let mut bytes = [0; 16];
+    let mut bytes = [0; ROW as usize];
     let before = &mut bytes[..row.len as usize];
     copy_as_loaded(image, i, row, before);
     let now = space.bytes(row);
@@ -62,7 +63,7 @@ fn put_rows<K: Sink>(
     requires end { end_of r.now ≤ memory_end }
     ensures { Emits K.Sink to.old to.new result (rows_text (loaded image.now) space.now r.now) }
 {
-    for k in 0..(r.len + 15) / ROW {
+    for k in 0..(r.len + (ROW - 1)) / ROW {
         let row = Range {
             base: r.base + ROW * k,
             len: ROW.min(r.len - ROW * k),

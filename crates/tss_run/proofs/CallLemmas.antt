@@ -2,7 +2,7 @@
 use Rattle.std.proofs.Common.{◌≡◌, ◌⊎◌, inl, inr, ℕ, Option, Some, None, IfSome, All, List, Ok, Err, sym, ap, ◌∙◌, subst, arith}
 use Rattle.tss_base.specs.declared.ending.Ending.{Ending}
 use Rattle.tss_base.specs.declared.ending.Ending.TheVariants as ending
-use Rattle.tss_outside.specs.Outside.{Held, AppendsWhereTold, PutsPrefix}
+use Rattle.tss_outside.specs.Outside.{Held, PutsPrefix}
 use Rattle.tss_run.specs.declared.outcome.Refusal.TheVariants as refusal
 use Rattle.tss_run.specs.declared.outcome.Report.TheVariants as report
 use Rattle.tss_run.specs.Words.{Command, command_of}

@@ -14,37 +14,34 @@ use Rattle.tss_run.specs.declared.outcome.Refusal.TheVariants as refusal
 use Rattle.tss_run.specs.declared.outcome.Run.{Run}
 use Rattle.tss_run.specs.declared.outcome.Report.{Report}
 use Rattle.tss_run.specs.declared.outcome.Report.TheVariants as report
+use Rattle.tss_run.specs.declared.statuses.TheConstants.{EXITED, TRAPPED, REFUSED, BAD_IMAGE, BAD_MACHINE, BAD_WORDS, READ_FAILED, NO_MEMORY}
 use Rattle.tss_run.specs.Work.{Outcome}
 
 -- ---- statuses
 
 -- the status of an ending
 abbrev pub ending_status : Ending → ℕ
-ending_status (ending.Exit status) = 0
-ending_status (ending.MainTrap trap) = 1
-ending_status (ending.TaskTrap task trap) = 1
-ending_status (ending.Refused n pc) = 2
+ending_status (ending.Exit status) = EXITED
+ending_status (ending.MainTrap trap) = TRAPPED
+ending_status (ending.TaskTrap task trap) = TRAPPED
+ending_status (ending.Refused n pc) = REFUSED
 
 -- the status of a report, and of a refusal
 abbrev pub report_status : Report → ℕ
 report_status (report.InOrder run) = ending_status run.reference.ending
 
 abbrev pub refusal_status : Refusal → ℕ
-refusal_status (refusal.Image n) = 3
-refusal_status (refusal.Machine bad) = 4
-refusal_status refusal.Usage = 6
-refusal_status (refusal.ReadFault which) = 7
-refusal_status (refusal.TooLong which) = 7
-refusal_status refusal.NoMemory = 9
+refusal_status (refusal.Image n) = BAD_IMAGE
+refusal_status (refusal.Machine bad) = BAD_MACHINE
+refusal_status refusal.Usage = BAD_WORDS
+refusal_status (refusal.ReadFault which) = READ_FAILED
+refusal_status (refusal.TooLong which) = READ_FAILED
+refusal_status refusal.NoMemory = NO_MEMORY
 
 -- the status of an outcome
 abbrev pub status_of : Outcome → ℕ
 status_of (Ok r) = report_status r
 status_of (Err e) = refusal_status e
-
--- the status of a failed write
-abbrev pub write_failed : ℕ
-write_failed = 8
 
 -- ---- texts
 

@@ -7,7 +7,8 @@ use Rattle.tss_outside.specs.declared.sink.Sink.{Ghosts as SinkMeaning}
 use Rattle.tss_outside.specs.Outside.{Held, Rose, AppendsWhereTold, PutsPrefix}
 use Rattle.tss_run.specs.Words.{Command, words_of, command_of}
 use Rattle.tss_run.specs.Work.{Outcome, work_of, outcome_on, names_read, IsDue}
-use Rattle.tss_run.specs.Answer.{status_of, write_failed, text_of}
+use Rattle.tss_run.specs.declared.statuses.TheConstants.{WRITE_FAILED, NO_MEMORY}
+use Rattle.tss_run.specs.Answer.{status_of, text_of}
 
 -- what the files and the sink tell at a moment: what is held and what was written, where that is told, and how often
 -- reading and appending have failed under each name, and writing
@@ -61,12 +62,12 @@ Tells c o = (c.status ≡ status_of o) × AppendsWhereTold c.before.written c.af
 
 -- unless a write failed, it answers an outcome of its words
 abbrev pub IsAnswered : Call → Type 0
-IsAnswered c = c.status ≢ write_failed → (o : Outcome) × IsOutcome c o × Tells c o
+IsAnswered c = c.status ≢ WRITE_FAILED → (o : Outcome) × IsOutcome c o × Tells c o
 
 -- where it answers that a write failed one did, and a prefix of the text of an outcome was written
 abbrev pub IsCutShort : Call → Type 0
 IsCutShort c =
-    c.status ≡ write_failed
+    c.status ≡ WRITE_FAILED
     → FailedToWrite c × ((o : Outcome) × IsOutcome c o × PutsPrefix c.before.written c.after.written (text_of o))
 
 -- no read that a command's work makes over what is held has failed, and no write
@@ -78,7 +79,7 @@ pub record HasNoFault (c : Call) (held : Held) (command : Command) : Type 0 wher
 abbrev pub IsComplete : Call → Type 0
 IsComplete c =
     IfSome c.before.held (λ held. (command : Command) (o : Outcome) → command_of c.words ≡ Some command
-    → outcome_on held (work_of command) ≡ Some o → HasNoFault c held command → Tells c o ⊎ (c.status ≡ 9))
+    → outcome_on held (work_of command) ≡ Some o → HasNoFault c held command → Tells c o ⊎ (c.status ≡ NO_MEMORY))
 
 -- no file is changed
 abbrev pub KeepsFiles : Call → Type 0

@@ -8,13 +8,11 @@ ghost use Rattle.tss_run.specs.Call.{called, IsAnswered, IsCutShort, IsComplete,
 use crate::command::{Command, parse};
 use crate::inputs::{image_in, machine_in};
 use crate::outcome::{Refusal, Report, Run};
+use crate::statuses::WRITE_FAILED;
 use crate::texts::{status, write_outcome};
 use std::alloc::Global;
 use tss_inorder::run_in_order;
 use tss_outside::{Failed, Files, Sink};
-
-/// The status of a failed write.
-const WRITE_FAILED: u8 = 8;
 
 /// Runs the image of a file under the machine of another, in program order. No file is changed.
 fn in_order<F: Files>(

@@ -3,10 +3,12 @@ ghost use Rattle.std.specs.Prelude.{◌≡◌, ◌≢◌, [], All, IsTrue, IfSom
 ghost use Rattle.std.specs.IoError.{error_kind};
 ghost use Rattle.std.specs.Process.{exit_status};
 ghost use Rattle.std.specs.Vec.Iter.{into_iter_items};
+ghost use Rattle.tss_run.specs.declared.statuses.TheConstants.{NO_MEMORY};
 ghost use Rattle.tss_run.specs.Words.{words_of};
 ghost use Rattle.tss_run.specs.Call.{called, IsProgramCall};
 
 use crate::answering::tss_main;
+use crate::statuses::NO_MEMORY;
 use std::alloc::Global;
 use std::env::Args;
 use std::io;
@@ -14,9 +16,6 @@ use std::io::ErrorKind;
 use std::process::ExitCode;
 use tss_base::NoMemory;
 use tss_outside::{Files, Sink};
-
-/// The status where the words can't be had, since memory ran out.
-const NO_MEMORY: u8 = 9;
 
 /// All that is left of arguments.
 fn rest(alloc: Global, args: Args) -> Result<Vec<String>, NoMemory>
@@ -63,7 +62,7 @@ pub fn exit_code<F: Files, K: Sink>(
     requires { IfSome words (λ w. All (λ name. IsTrue (F.knows files.old name)) (take 8 (words_of w.now))) }
     ensures answer { IfSome words.entry (λ w.
         IsProgramCall (called F.Files K.Sink w.now files.old out.old files.new out.new (exit_status result))) }
-    ensures no_words { IsNone words.entry → (exit_status result ≡ 9) × (files.new ≡ files.old) × (out.new ≡ out.old) }
+    ensures no_words { IsNone words.entry → (exit_status result ≡ NO_MEMORY) × (files.new ≡ files.old) × (out.new ≡ out.old) }
 {
     match words {
         Some(words) => ExitCode::from(tss_main(alloc, words, files, out)),

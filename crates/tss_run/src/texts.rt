@@ -6,6 +6,9 @@ ghost use Rattle.tss_model.specs.Memory.{loaded};
 ghost use Rattle.tss_run.specs.Work.{HasItsRanges};
 
 use crate::outcome::{Input, Refusal, Report, Run};
+use crate::statuses::{
+    BAD_IMAGE, BAD_MACHINE, BAD_WORDS, EXITED, NO_MEMORY, READ_FAILED, REFUSED, TRAPPED,
+};
 use itoa::Buffer;
 use tss_base::Ending;
 use tss_outside::{Failed, Sink};
@@ -107,9 +110,9 @@ fn ending_status(ending: Ending) -> u8
     ensures { result ≡ ending_status ending }
 {
     match ending {
-        Ending::Exit(_) => 0,
-        Ending::MainTrap(_) | Ending::TaskTrap(..) => 1,
-        Ending::Refused(..) => 2,
+        Ending::Exit(_) => EXITED,
+        Ending::MainTrap(_) | Ending::TaskTrap(..) => TRAPPED,
+        Ending::Refused(..) => REFUSED,
     }
 }
 
@@ -127,11 +130,11 @@ fn refusal_status(refusal: &Refusal) -> u8
     ensures { result ≡ refusal_status refusal.now }
 {
     match refusal {
-        Refusal::Image(_) => 3,
-        Refusal::Machine(_) => 4,
-        Refusal::Usage => 6,
-        Refusal::ReadFault(_) | Refusal::TooLong(_) => 7,
-        Refusal::NoMemory => 9,
+        Refusal::Image(_) => BAD_IMAGE,
+        Refusal::Machine(_) => BAD_MACHINE,
+        Refusal::Usage => BAD_WORDS,
+        Refusal::ReadFault(_) | Refusal::TooLong(_) => READ_FAILED,
+        Refusal::NoMemory => NO_MEMORY,
     }
 }
 

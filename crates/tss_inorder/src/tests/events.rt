@@ -1,24 +1,17 @@
 // The flat machine an event of main at a time.
-use super::{LIMITS, image};
 use crate::{Did, Flat};
 use std::process::Abort;
 use std::test::Fail;
 use tss_base::Ending;
+use tss_elf::read_image;
+use tss_programs::{M0, hi};
 
-/// Main spawns a task that stores one byte, waits, prints it and exits: an event a call, and a stretch before each. The
+/// Main spawns a task that stores a word, waits, prints it and exits: an event a call, and a stretch before each. The
 /// end stays.
 #[test]
 fn one_task_event_by_event(rt: HostRuntime) -> Result<(), Fail> {
-    // spawn W, (0x20000, 4 inout), 1, 0x61; barrier; print 0x20000, 1; exit 0; W: sw x11, 0(x10); ret; the list
-    let text = [
-        0x00010537, 0x07450513, 0x000105B7, 0x07C58593, 0x00000637, 0x00160613, 0x000006B7,
-        0x06168693, 0x000008B7, 0x00288893, 0x00000073, 0x000008B7, 0x00388893, 0x00000073,
-        0x00020537, 0x00050513, 0x000005B7, 0x00158593, 0x000008B7, 0x00488893, 0x00000073,
-        0x00000537, 0x00050513, 0x000008B7, 0x00188893, 0x00000073, 0x00000013, 0x00000013,
-        0x00000013, 0x00B52023, 0x00008067, 0x00020000, 0x00000004, 0x00000003,
-    ];
-    let image = image(rt.alloc(), &text)?;
-    let mut flat = Flat::open(rt.alloc(), &image, &LIMITS)?;
+    let image = read_image(rt.alloc(), hi(rt.alloc())?.as_slice())?;
+    let mut flat = Flat::open(rt.alloc(), &image, &M0.limits)?;
     assert_eq!(rt; flat.next_call(), None);
     assert_eq!(rt; flat.stretch(4), Did::Steps);
     assert_eq!(rt; flat.main().pc(), 0x10010);
@@ -30,7 +23,7 @@ fn one_task_event_by_event(rt: HostRuntime) -> Result<(), Fail> {
     assert_eq!(rt; flat.stretch(100), Did::Barrier);
     assert_eq!(rt; flat.stretch(100), Did::Steps);
     assert_eq!(rt; flat.stretch(100), Did::Printed);
-    assert_eq!(rt; flat.output(), b"a".as_slice());
+    assert_eq!(rt; flat.output(), b"Hi!?".as_slice());
     assert_eq!(rt; flat.stretch(100), Did::Steps);
     assert_eq!(rt; flat.stretch(100), Did::Over(Ending::Exit(0)));
     assert_eq!(rt; flat.tasks(), 1);

@@ -1,227 +1,260 @@
 // Programs that exit.
-use super::{LIMITS, Row, run};
+use super::{X, exits_with, expect, prints};
+use std::alloc::Global;
 use std::test::Fail;
-use tss_base::{Ending, Limits};
+use tss_asm::AsmFault;
+use tss_base::Ending::Exit;
+use tss_base::Limits;
+use tss_programs::{
+    Code, M0, Source, exit_seven, full_tables, hi, idle_race, inout, input,
+    main_touch_after_barrier, many_readers, merged_operands, output, output_alone, partial_overlap,
+    renamed_output,
+};
 
 #[test]
-fn programs_that_exit(rt: HostRuntime) -> Result<(), Fail> {
-    let rows: [Row; 15] = [
-        // Exit with 7.
-        (
-            &[0x00700513, 0x00100893, 0x00000073],
-            LIMITS,
-            Ending::Exit(7),
-            0,
-            b"",
-        ),
-        // A word is printed.
-        (
-            &[
-                0x00010537, 0x06850513, 0x000105B7, 0x07058593, 0x00000637, 0x00160613, 0x3F2176B7,
-                0x94868693, 0x000008B7, 0x00288893, 0x00000073, 0x000008B7, 0x00388893, 0x00000073,
-                0x00020537, 0x00050513, 0x000005B7, 0x00458593, 0x000008B7, 0x00488893, 0x00000073,
-                0x00000537, 0x00050513, 0x000008B7, 0x00188893, 0x00000073, 0x00B52023, 0x00008067,
-                0x00020000, 0x00000004, 0x00000003,
-            ],
-            LIMITS,
-            Ending::Exit(0),
-            1,
-            b"Hi!?",
-        ),
-        // Renamed output.
-        (
-            &[
-                0x00010537, 0x0DC50513, 0x000105B7, 0x0F058593, 0x00000637, 0x00160613, 0x000006B7,
-                0x06168693, 0x000008B7, 0x00288893, 0x00000073, 0x00010537, 0x0E450513, 0x000105B7,
-                0x0FC58593, 0x00000637, 0x00260613, 0x000006B7, 0x00068693, 0x000008B7, 0x00288893,
-                0x00000073, 0x00010537, 0x0DC50513, 0x000105B7, 0x11458593, 0x00000637, 0x00160613,
-                0x000006B7, 0x06368693, 0x000008B7, 0x00288893, 0x00000073, 0x000008B7, 0x00388893,
-                0x00000073, 0x00020537, 0x04050513, 0x000005B7, 0x00158593, 0x000008B7, 0x00488893,
-                0x00000073, 0x00020537, 0x00050513, 0x000005B7, 0x00158593, 0x000008B7, 0x00488893,
-                0x00000073, 0x00000537, 0x00050513, 0x000008B7, 0x00188893, 0x00000073, 0x00B52023,
-                0x00008067, 0x00052283, 0x0055A023, 0x00008067, 0x00020000, 0x00000004, 0x00000002,
-                0x00020000, 0x00000004, 0x00000001, 0x00020040, 0x00000004, 0x00000002, 0x00020000,
-                0x00000004, 0x00000002,
-            ],
-            LIMITS,
-            Ending::Exit(0),
-            3,
-            b"ac",
-        ),
-        // Objects side by side.
-        (
-            &[
-                0x00010537, 0x04C50513, 0x000105B7, 0x05058593, 0x00000637, 0x00260613, 0x000006B7,
-                0x00068693, 0x000008B7, 0x00288893, 0x00000073, 0x000008B7, 0x00388893, 0x00000073,
-                0x00000537, 0x00050513, 0x000008B7, 0x00188893, 0x00000073, 0x00008067, 0x00020000,
-                0x00000004, 0x00000001, 0x00020004, 0x00000004, 0x00000001,
-            ],
-            LIMITS,
-            Ending::Exit(0),
-            1,
-            b"",
-        ),
-        // A barrier ends the epoch.
-        (
-            &[
-                0x00010537, 0x07450513, 0x000105B7, 0x07C58593, 0x00000637, 0x00160613, 0x000006B7,
-                0x06168693, 0x000008B7, 0x00288893, 0x00000073, 0x000008B7, 0x00388893, 0x00000073,
-                0x000202B7, 0x00028293, 0x0002A303, 0x00020537, 0x00050513, 0x000005B7, 0x00158593,
-                0x000008B7, 0x00488893, 0x00000073, 0x00000537, 0x00050513, 0x000008B7, 0x00188893,
-                0x00000073, 0x00B52023, 0x00008067, 0x00020000, 0x00000004, 0x00000003,
-            ],
-            LIMITS,
-            Ending::Exit(0),
-            1,
-            b"a",
-        ),
-        // Input and output are an inout.
-        (
-            &[
-                0x000202B7, 0x00028293, 0x00000337, 0x04130313, 0x0062A023, 0x00010537, 0x07C50513,
-                0x000105B7, 0x08C58593, 0x00000637, 0x00260613, 0x000006B7, 0x00068693, 0x000008B7,
-                0x00288893, 0x00000073, 0x000008B7, 0x00388893, 0x00000073, 0x00020537, 0x00050513,
-                0x000005B7, 0x00158593, 0x000008B7, 0x00488893, 0x00000073, 0x00000537, 0x00050513,
-                0x000008B7, 0x00188893, 0x00000073, 0x00052283, 0x00128293, 0x00552023, 0x00008067,
-                0x00020000, 0x00000004, 0x00000001, 0x00020000, 0x00000004, 0x00000002,
-            ],
-            LIMITS,
-            Ending::Exit(0),
-            1,
-            b"B",
-        ),
-        // An output begins with zeros.
-        (
-            &[
-                0x000202B7, 0x00028293, 0x00000337, 0x04130313, 0x0062A023, 0x00010537, 0x07C50513,
-                0x000105B7, 0x08C58593, 0x00000637, 0x00160613, 0x000006B7, 0x00068693, 0x000008B7,
-                0x00288893, 0x00000073, 0x000008B7, 0x00388893, 0x00000073, 0x00020537, 0x00050513,
-                0x000005B7, 0x00158593, 0x000008B7, 0x00488893, 0x00000073, 0x00000537, 0x00050513,
-                0x000008B7, 0x00188893, 0x00000073, 0x00052283, 0x00128293, 0x00552023, 0x00008067,
-                0x00020000, 0x00000004, 0x00000002,
-            ],
-            LIMITS,
-            Ending::Exit(0),
-            1,
-            b"\x01",
-        ),
-        // A budget that suffices.
-        (
-            &[
-                0x00010537, 0x06850513, 0x000105B7, 0x07058593, 0x00000637, 0x00160613, 0x3F2176B7,
-                0x94868693, 0x000008B7, 0x00288893, 0x00000073, 0x000008B7, 0x00388893, 0x00000073,
-                0x00020537, 0x00050513, 0x000005B7, 0x00458593, 0x000008B7, 0x00488893, 0x00000073,
-                0x00000537, 0x00050513, 0x000008B7, 0x00188893, 0x00000073, 0x00B52023, 0x00008067,
-                0x00020000, 0x00000004, 0x00000003,
-            ],
-            Limits {
-                task_budget: 2,
-                ..LIMITS
-            },
-            Ending::Exit(0),
-            1,
-            b"Hi!?",
-        ),
-        // Main's budget suffices.
-        (
-            &[0x00000537, 0x00350513, 0x000008B7, 0x00188893, 0x00000073],
-            Limits {
-                main_budget: 5,
-                ..LIMITS
-            },
-            Ending::Exit(3),
-            0,
-            b"",
-        ),
-        // As much is printed as may be.
-        (
-            &[
-                0x00020537, 0x00050513, 0x000005B7, 0x00158593, 0x000008B7, 0x00488893, 0x00000073,
-                0x00000537, 0x00050513, 0x000008B7, 0x00188893, 0x00000073,
-            ],
-            Limits {
-                output_bytes: 1,
-                ..LIMITS
-            },
-            Ending::Exit(0),
-            0,
-            b"\x00",
-        ),
-        // A print of no byte.
-        (
-            &[
-                0x00030537, 0x00050513, 0x000005B7, 0x00058593, 0x000008B7, 0x00488893, 0x00000073,
-                0x00000537, 0x00050513, 0x000008B7, 0x00188893, 0x00000073,
-            ],
-            LIMITS,
-            Ending::Exit(0),
-            0,
-            b"",
-        ),
-        // A task has the bases as listed.
-        (
-            &[
-                0x00010537, 0x06850513, 0x000105B7, 0x07058593, 0x00000637, 0x00360613, 0x000006B7,
-                0x07A68693, 0x000008B7, 0x00288893, 0x00000073, 0x000008B7, 0x00388893, 0x00000073,
-                0x00020537, 0x04050513, 0x000005B7, 0x00158593, 0x000008B7, 0x00488893, 0x00000073,
-                0x00000537, 0x00050513, 0x000008B7, 0x00188893, 0x00000073, 0x00D62023, 0x00008067,
-                0x00020000, 0x00000004, 0x00000001, 0x00020000, 0x00000004, 0x00000002, 0x00020040,
-                0x00000004, 0x00000002,
-            ],
-            LIMITS,
-            Ending::Exit(0),
-            1,
-            b"z",
-        ),
-        // A scratch begins with zeros.
-        (
-            &[
-                0x00010537, 0x0B050513, 0x000105B7, 0x0C058593, 0x00000637, 0x00160613, 0x000006B7,
-                0x07968693, 0x000008B7, 0x00288893, 0x00000073, 0x00010537, 0x0B050513, 0x000105B7,
-                0x0CC58593, 0x00000637, 0x00160613, 0x000006B7, 0x07A68693, 0x000008B7, 0x00288893,
-                0x00000073, 0x000008B7, 0x00388893, 0x00000073, 0x00020537, 0x00050513, 0x000005B7,
-                0x00158593, 0x000008B7, 0x00488893, 0x00000073, 0x00020537, 0x04050513, 0x000005B7,
-                0x00158593, 0x000008B7, 0x00488893, 0x00000073, 0x00000537, 0x00050513, 0x000008B7,
-                0x00188893, 0x00000073, 0xFFC12283, 0x00552023, 0xFEB12E23, 0x00008067, 0x00020000,
-                0x00000004, 0x00000002, 0x00020040, 0x00000004, 0x00000002,
-            ],
-            LIMITS,
-            Ending::Exit(0),
-            2,
-            b"\x00\x00",
-        ),
-        // An object at the end of its segment.
-        (
-            &[
-                0x00010537, 0x06850513, 0x000105B7, 0x07058593, 0x00000637, 0x00160613, 0x000006B7,
-                0x06168693, 0x000008B7, 0x00288893, 0x00000073, 0x000008B7, 0x00388893, 0x00000073,
-                0x00021537, 0xFFC50513, 0x000005B7, 0x00458593, 0x000008B7, 0x00488893, 0x00000073,
-                0x00000537, 0x00050513, 0x000008B7, 0x00188893, 0x00000073, 0x00B52023, 0x00008067,
-                0x00020FFC, 0x00000004, 0x00000003,
-            ],
-            LIMITS,
-            Ending::Exit(0),
-            1,
-            b"a\x00\x00\x00",
-        ),
-        // The most tasks that a run may have, in a loop.
-        (
-            &[
-                0x000102B7, 0x00010537, 0x02C50513, 0x00000613, 0x00200893, 0x00000073, 0xFFF28293,
-                0xFE0294E3, 0x00000513, 0x00100893, 0x00000073, 0x00008067,
-            ],
-            Limits {
-                main_budget: 1_000_000,
-                max_tasks: 65_536,
-                ..LIMITS
-            },
-            Ending::Exit(0),
-            65_536,
-            b"",
-        ),
-    ];
-    for row in &rows {
-        run(&rt, rt.alloc(), row)?;
-    }
-    Ok(())
+fn main_alone(rt: HostRuntime) -> Result<(), Fail> {
+    let alloc = rt.alloc();
+    expect(
+        &rt,
+        alloc,
+        "exit 7",
+        exit_seven(alloc)?,
+        &M0.limits,
+        Exit(7),
+        0,
+        b"",
+    )?;
+    let five = Limits {
+        main_budget: 5,
+        ..M0.limits
+    };
+    expect(
+        &rt,
+        alloc,
+        "a budget that suffices",
+        exits_with(alloc, 3)?,
+        &five,
+        Exit(3),
+        0,
+        b"",
+    )?;
+    let one = Limits {
+        output_bytes: 1,
+        ..M0.limits
+    };
+    expect(
+        &rt,
+        alloc,
+        "all that may be printed",
+        prints(alloc, X, 1)?,
+        &one,
+        Exit(0),
+        0,
+        b"\x00",
+    )?;
+    expect(
+        &rt,
+        alloc,
+        "a print of no byte",
+        prints(alloc, 0x30000, 0)?,
+        &M0.limits,
+        Exit(0),
+        0,
+        b"",
+    )
+}
+
+#[test]
+fn tasks_write_and_read(rt: HostRuntime) -> Result<(), Fail> {
+    let alloc = rt.alloc();
+    expect(
+        &rt,
+        alloc,
+        "hi",
+        hi(alloc)?,
+        &M0.limits,
+        Exit(0),
+        1,
+        b"Hi!?",
+    )?;
+    let two = Limits {
+        task_budget: 2,
+        ..M0.limits
+    };
+    expect(
+        &rt,
+        alloc,
+        "a budget that suffices",
+        hi(alloc)?,
+        &two,
+        Exit(0),
+        1,
+        b"Hi!?",
+    )?;
+    expect(
+        &rt,
+        alloc,
+        "renamed output",
+        renamed_output(alloc)?,
+        &M0.limits,
+        Exit(0),
+        3,
+        b"ac",
+    )?;
+    expect(
+        &rt,
+        alloc,
+        "many readers",
+        many_readers(alloc)?,
+        &M0.limits,
+        Exit(0),
+        9,
+        b"b",
+    )?;
+    expect(
+        &rt,
+        alloc,
+        "seven operands",
+        full_tables(alloc)?,
+        &M0.limits,
+        Exit(0),
+        2,
+        b"",
+    )?;
+    expect(
+        &rt,
+        alloc,
+        "two readers",
+        idle_race(alloc)?,
+        &M0.limits,
+        Exit(0),
+        2,
+        b"",
+    )
+}
+
+#[test]
+fn operands_are_merged(rt: HostRuntime) -> Result<(), Fail> {
+    let alloc = rt.alloc();
+    let merged = merged_operands(alloc)?;
+    expect(
+        &rt,
+        alloc,
+        "input and output",
+        merged,
+        &M0.limits,
+        Exit(0),
+        1,
+        b"B",
+    )?;
+    expect(
+        &rt,
+        alloc,
+        "an output alone",
+        output_alone(alloc)?,
+        &M0.limits,
+        Exit(0),
+        1,
+        b"\x01",
+    )?;
+    expect(
+        &rt,
+        alloc,
+        "three as listed",
+        listed(alloc)?,
+        &M0.limits,
+        Exit(0),
+        1,
+        b"z",
+    )
+}
+
+#[test]
+fn objects_lie_side_by_side(rt: HostRuntime) -> Result<(), Fail> {
+    let alloc = rt.alloc();
+    expect(
+        &rt,
+        alloc,
+        "side by side",
+        partial_overlap(alloc, 4)?,
+        &M0.limits,
+        Exit(0),
+        1,
+        b"",
+    )?;
+    expect(
+        &rt,
+        alloc,
+        "at the end",
+        last_word(alloc)?,
+        &M0.limits,
+        Exit(0),
+        1,
+        b"a\x00\x00\x00",
+    )
+}
+
+#[test]
+fn an_epoch_and_a_scratch_begin_anew(rt: HostRuntime) -> Result<(), Fail> {
+    let alloc = rt.alloc();
+    let touched = main_touch_after_barrier(alloc)?;
+    expect(
+        &rt,
+        alloc,
+        "after a barrier",
+        touched,
+        &M0.limits,
+        Exit(0),
+        1,
+        b"",
+    )?;
+    expect(
+        &rt,
+        alloc,
+        "zeros in a scratch",
+        scratches(alloc)?,
+        &M0.limits,
+        Exit(0),
+        2,
+        b"\x00\x00",
+    )
+}
+
+/// A task has the bases of its operands as listed, before two of them are merged: it writes to the third.
+fn listed(alloc: Global) -> Result<Vec<u8>, AsmFault> {
+    let mut main = Source::open(alloc)?;
+    let y = X + 0x40;
+    main.spawn(
+        Code::Third,
+        &[input(X, 4), output(X, 4), output(y, 4)],
+        0x7A,
+    )?;
+    main.barrier()?;
+    main.print(y, 1)?;
+    main.exit(0)?;
+    main.image()
+}
+
+/// An object at the end of its segment.
+fn last_word(alloc: Global) -> Result<Vec<u8>, AsmFault> {
+    let mut main = Source::open(alloc)?;
+    let last = X + 0xFFC;
+    main.spawn(Code::W, &[inout(last, 4)], 0x61)?;
+    main.barrier()?;
+    main.print(last, 4)?;
+    main.exit(0)?;
+    main.image()
+}
+
+/// Two tasks that tell what stands last in their scratch, and then write there.
+fn scratches(alloc: Global) -> Result<Vec<u8>, AsmFault> {
+    let mut main = Source::open(alloc)?;
+    let y = X + 0x40;
+    main.spawn(Code::Scratch, &[output(X, 4)], 0x79)?;
+    main.spawn(Code::Scratch, &[output(y, 4)], 0x7A)?;
+    main.barrier()?;
+    main.print(X, 1)?;
+    main.print(y, 1)?;
+    main.exit(0)?;
+    main.image()
 }

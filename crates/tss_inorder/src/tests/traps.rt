@@ -1,257 +1,249 @@
 // Each trap.
-use super::{LIMITS, Row, run};
+use super::{LOAD, STORE, X, executes, expect, prints};
+use std::alloc::Global;
 use std::test::Fail;
-use tss_base::{Ending, Limits, Trap};
+use tss_asm::AsmFault;
+use tss_base::Ending::{MainTrap, TaskTrap};
+use tss_base::{Limits, Trap};
+use tss_isa::Instr;
+use tss_programs::{
+    Code, Entry, M0, Source, hi, input, late_trap, no_instruction, spinning_reader,
+};
+
+/// A jump to the address in x5.
+const JUMP: Instr = Instr::Jalr {
+    rd: 0,
+    rs1: 5,
+    offset: 0,
+};
+
+/// A trap.
+fn trap(pc: u32, cause: u32, value: u32) -> Trap {
+    Trap { pc, cause, value }
+}
 
 #[test]
-fn each_trap(rt: HostRuntime) -> Result<(), Fail> {
-    let rows: [Row; 16] = [
-        // A task spends its budget.
+fn main_jumps_to_no_instruction(rt: HostRuntime) -> Result<(), Fail> {
+    let alloc = rt.alloc();
+    let rows: [(&str, u32, Trap); 3] = [
+        ("at no multiple of 4", 0x10002, trap(0x10008, 0, 0x10002)),
+        ("in no segment", 0x30000, trap(0x30000, 1, 0x30000)),
         (
-            &[
-                0x00010537, 0x06850513, 0x000105B7, 0x07058593, 0x00000637, 0x00160613, 0x3F2176B7,
-                0x94868693, 0x000008B7, 0x00288893, 0x00000073, 0x000008B7, 0x00388893, 0x00000073,
-                0x00020537, 0x00050513, 0x000005B7, 0x00458593, 0x000008B7, 0x00488893, 0x00000073,
-                0x00000537, 0x00050513, 0x000008B7, 0x00188893, 0x00000073, 0x00B52023, 0x00008067,
-                0x00020000, 0x00000004, 0x00000003,
-            ],
-            Limits {
-                task_budget: 1,
-                ..LIMITS
-            },
-            Ending::TaskTrap(
-                1,
-                Trap {
-                    pc: 0x1006C,
-                    cause: 9,
-                    value: 0x0,
-                },
-            ),
-            1,
-            b"",
-        ),
-        // The first task's trap in program order.
-        (
-            &[
-                0x00010537, 0x14050513, 0x000005B7, 0x00058593, 0x00000637, 0x00060613, 0x000006B7,
-                0x00068693, 0x000008B7, 0x00288893, 0x00000073, 0x00010537, 0x14850513, 0x000005B7,
-                0x00158593, 0x000008B7, 0x00488893, 0x00000073, 0x00010537, 0x14450513, 0x000005B7,
-                0x00058593, 0x00000637, 0x00060613, 0x000006B7, 0x00068693, 0x000008B7, 0x00288893,
-                0x00000073, 0x00010537, 0x14950513, 0x000005B7, 0x00158593, 0x000008B7, 0x00488893,
-                0x00000073, 0x00010537, 0x14050513, 0x000005B7, 0x00058593, 0x00000637, 0x00060613,
-                0x000006B7, 0x00068693, 0x000008B7, 0x00288893, 0x00000073, 0x00010537, 0x14A50513,
-                0x000005B7, 0x00158593, 0x000008B7, 0x00488893, 0x00000073, 0x00010537, 0x14450513,
-                0x000005B7, 0x00058593, 0x00000637, 0x00060613, 0x000006B7, 0x00068693, 0x000008B7,
-                0x00288893, 0x00000073, 0x00010537, 0x14B50513, 0x000005B7, 0x00158593, 0x000008B7,
-                0x00488893, 0x00000073, 0x000008B7, 0x00388893, 0x00000073, 0x00000537, 0x00050513,
-                0x000008B7, 0x00188893, 0x00000073, 0x00008067, 0x00100073, 0x64636261,
-            ],
-            LIMITS,
-            Ending::TaskTrap(
-                2,
-                Trap {
-                    pc: 0x10144,
-                    cause: 3,
-                    value: 0x10144,
-                },
-            ),
-            2,
-            b"a",
-        ),
-        // A jump to no multiple of 4.
-        (
-            &[0x000102B7, 0x00228293, 0x00028067],
-            LIMITS,
-            Ending::MainTrap(Trap {
-                pc: 0x10008,
-                cause: 0,
-                value: 0x10002,
-            }),
-            0,
-            b"",
-        ),
-        // No word at the pc.
-        (
-            &[0x000302B7, 0x00028293, 0x00028067],
-            LIMITS,
-            Ending::MainTrap(Trap {
-                pc: 0x30000,
-                cause: 1,
-                value: 0x30000,
-            }),
-            0,
-            b"",
-        ),
-        // Main stands where a task ends.
-        (
-            &[0x000002B7, 0xFF028293, 0x00028067],
-            LIMITS,
-            Ending::MainTrap(Trap {
-                pc: 0xFFFFFFF0,
-                cause: 1,
-                value: 0xFFFFFFF0,
-            }),
-            0,
-            b"",
-        ),
-        // No instruction.
-        (
-            &[0x00000000],
-            LIMITS,
-            Ending::MainTrap(Trap {
-                pc: 0x10000,
-                cause: 2,
-                value: 0x0,
-            }),
-            0,
-            b"",
-        ),
-        // Ebreak.
-        (
-            &[0x00100073],
-            LIMITS,
-            Ending::MainTrap(Trap {
-                pc: 0x10000,
-                cause: 3,
-                value: 0x10000,
-            }),
-            0,
-            b"",
-        ),
-        // A load at no multiple of 4.
-        (
-            &[0x000202B7, 0x00228293, 0x0002A303],
-            LIMITS,
-            Ending::MainTrap(Trap {
-                pc: 0x10008,
-                cause: 4,
-                value: 0x20002,
-            }),
-            0,
-            b"",
-        ),
-        // A load past the data.
-        (
-            &[0x000212B7, 0x00028293, 0x0002A303],
-            LIMITS,
-            Ending::MainTrap(Trap {
-                pc: 0x10008,
-                cause: 5,
-                value: 0x21000,
-            }),
-            0,
-            b"",
-        ),
-        // A store at no multiple of 4.
-        (
-            &[0x000202B7, 0x00128293, 0x0062A023],
-            LIMITS,
-            Ending::MainTrap(Trap {
-                pc: 0x10008,
-                cause: 6,
-                value: 0x20001,
-            }),
-            0,
-            b"",
-        ),
-        // A store in the text.
-        (
-            &[0x000102B7, 0x00028293, 0x0062A023],
-            LIMITS,
-            Ending::MainTrap(Trap {
-                pc: 0x10008,
-                cause: 7,
-                value: 0x10000,
-            }),
-            0,
-            b"",
-        ),
-        // An unknown call.
-        (
-            &[0x00900893, 0x00000073],
-            LIMITS,
-            Ending::MainTrap(Trap {
-                pc: 0x10004,
-                cause: 10,
-                value: 0x9,
-            }),
-            0,
-            b"",
-        ),
-        // A print past the data.
-        (
-            &[
-                0x00021537, 0xFFE50513, 0x000005B7, 0x00358593, 0x000008B7, 0x00488893, 0x00000073,
-            ],
-            LIMITS,
-            Ending::MainTrap(Trap {
-                pc: 0x10018,
-                cause: 5,
-                value: 0x20FFE,
-            }),
-            0,
-            b"",
-        ),
-        // A call in a task.
-        (
-            &[
-                0x00010537, 0x04050513, 0x000005B7, 0x00058593, 0x00000637, 0x00060613, 0x000006B7,
-                0x00068693, 0x000008B7, 0x00288893, 0x00000073, 0x00000537, 0x00050513, 0x000008B7,
-                0x00188893, 0x00000073, 0x04D00893, 0x00000073,
-            ],
-            LIMITS,
-            Ending::TaskTrap(
-                1,
-                Trap {
-                    pc: 0x10044,
-                    cause: 8,
-                    value: 0x4D,
-                },
-            ),
-            1,
-            b"",
-        ),
-        // A task loads what it did not name.
-        (
-            &[
-                0x00010537, 0x04050513, 0x000105B7, 0x04858593, 0x00000637, 0x00160613, 0x000006B7,
-                0x00068693, 0x000008B7, 0x00288893, 0x00000073, 0x00000537, 0x00050513, 0x000008B7,
-                0x00188893, 0x00000073, 0x00452283, 0x00008067, 0x00020000, 0x00000004, 0x00000001,
-            ],
-            LIMITS,
-            Ending::TaskTrap(
-                1,
-                Trap {
-                    pc: 0x10040,
-                    cause: 5,
-                    value: 0x20004,
-                },
-            ),
-            1,
-            b"",
-        ),
-        // A task stores in an input.
-        (
-            &[
-                0x00010537, 0x04050513, 0x000105B7, 0x04858593, 0x00000637, 0x00160613, 0x000006B7,
-                0x00068693, 0x000008B7, 0x00288893, 0x00000073, 0x00000537, 0x00050513, 0x000008B7,
-                0x00188893, 0x00000073, 0x00552023, 0x00008067, 0x00020000, 0x00000004, 0x00000001,
-            ],
-            LIMITS,
-            Ending::TaskTrap(
-                1,
-                Trap {
-                    pc: 0x10040,
-                    cause: 7,
-                    value: 0x20000,
-                },
-            ),
-            1,
-            b"",
+            "where a task ends",
+            0xFFFF_FFF0,
+            trap(0xFFFF_FFF0, 1, 0xFFFF_FFF0),
         ),
     ];
-    for row in &rows {
-        run(&rt, rt.alloc(), row)?;
+    for (name, at, trapped) in &rows {
+        let program = executes(alloc, *at, JUMP)?;
+        expect(
+            &rt,
+            alloc,
+            name,
+            program,
+            &M0.limits,
+            MainTrap(*trapped),
+            0,
+            b"",
+        )?;
     }
     Ok(())
+}
+
+#[test]
+fn main_executes_what_traps(rt: HostRuntime) -> Result<(), Fail> {
+    let alloc = rt.alloc();
+    let illegal = MainTrap(trap(0x10000, 2, 0));
+    expect(
+        &rt,
+        alloc,
+        "a zero",
+        word(alloc, 0)?,
+        &M0.limits,
+        illegal,
+        0,
+        b"",
+    )?;
+    let breakpoint = MainTrap(trap(0x10000, 3, 0x10000));
+    expect(
+        &rt,
+        alloc,
+        "EBREAK",
+        word(alloc, 0x0010_0073)?,
+        &M0.limits,
+        breakpoint,
+        0,
+        b"",
+    )?;
+    let unknown = MainTrap(trap(0x10004, 10, 9));
+    expect(
+        &rt,
+        alloc,
+        "call 9",
+        ninth_call(alloc)?,
+        &M0.limits,
+        unknown,
+        0,
+        b"",
+    )
+}
+
+#[test]
+fn main_accesses_what_it_may_not(rt: HostRuntime) -> Result<(), Fail> {
+    let alloc = rt.alloc();
+    let rows: [(&str, u32, Instr, Trap); 4] = [
+        (
+            "a load at no multiple of 4",
+            X + 2,
+            LOAD,
+            trap(0x10008, 4, X + 2),
+        ),
+        (
+            "a load past the data",
+            X + 0x1000,
+            LOAD,
+            trap(0x10008, 5, X + 0x1000),
+        ),
+        (
+            "a store at no multiple of 4",
+            X + 1,
+            STORE,
+            trap(0x10008, 6, X + 1),
+        ),
+        (
+            "a store in the text",
+            0x10000,
+            STORE,
+            trap(0x10008, 7, 0x10000),
+        ),
+    ];
+    for (name, at, i, trapped) in &rows {
+        let program = executes(alloc, *at, *i)?;
+        expect(
+            &rt,
+            alloc,
+            name,
+            program,
+            &M0.limits,
+            MainTrap(*trapped),
+            0,
+            b"",
+        )?;
+    }
+    let past = MainTrap(trap(0x10018, 5, X + 0xFFE));
+    expect(
+        &rt,
+        alloc,
+        "a print past the data",
+        prints(alloc, X + 0xFFE, 3)?,
+        &M0.limits,
+        past,
+        0,
+        b"",
+    )
+}
+
+#[test]
+fn a_task_traps(rt: HostRuntime) -> Result<(), Fail> {
+    let alloc = rt.alloc();
+    let x = [input(X, 4)];
+    let rows: [(&str, Code, &[Entry], Trap); 3] = [
+        ("a call", Code::Call, &[], trap(0x10044, 8, 77)),
+        (
+            "a load past its operand",
+            Code::Beyond,
+            &x,
+            trap(0x10040, 5, X + 4),
+        ),
+        ("a store in an input", Code::Stores, &x, trap(0x10040, 7, X)),
+    ];
+    for (name, code, entries, trapped) in &rows {
+        let program = spawns(alloc, *code, entries)?;
+        expect(
+            &rt,
+            alloc,
+            name,
+            program,
+            &M0.limits,
+            TaskTrap(1, *trapped),
+            1,
+            b"",
+        )?;
+    }
+    let none = TaskTrap(1, trap(0x1004C, 2, 0));
+    expect(
+        &rt,
+        alloc,
+        "no instruction",
+        no_instruction(alloc)?,
+        &M0.limits,
+        none,
+        1,
+        b"",
+    )?;
+    let one = Limits {
+        task_budget: 1,
+        ..M0.limits
+    };
+    let spent = TaskTrap(1, trap(0x1006C, 9, 0));
+    expect(
+        &rt,
+        alloc,
+        "a spent budget",
+        hi(alloc)?,
+        &one,
+        spent,
+        1,
+        b"",
+    )
+}
+
+#[test]
+fn the_first_trap_in_program_order(rt: HostRuntime) -> Result<(), Fail> {
+    let alloc = rt.alloc();
+    let second = TaskTrap(2, trap(0x10144, 3, 0x10144));
+    expect(
+        &rt,
+        alloc,
+        "late trap",
+        late_trap(alloc)?,
+        &M0.limits,
+        second,
+        2,
+        b"a",
+    )?;
+    let first = TaskTrap(1, trap(0x10078, 3, 0x10078));
+    expect(
+        &rt,
+        alloc,
+        "spinning reader",
+        spinning_reader(alloc)?,
+        &M0.limits,
+        first,
+        1,
+        b"",
+    )
+}
+
+/// Main is one word.
+fn word(alloc: Global, value: u32) -> Result<Vec<u8>, AsmFault> {
+    let mut main = Source::open(alloc)?;
+    main.word(value)?;
+    main.image()
+}
+
+/// Main makes a call of a number that isn't one.
+fn ninth_call(alloc: Global) -> Result<Vec<u8>, AsmFault> {
+    let mut main = Source::open(alloc)?;
+    main.addi(17, 0, 9)?;
+    main.instr(Instr::Ecall)?;
+    main.image()
+}
+
+/// Main spawns a task with these operands, and exits.
+fn spawns(alloc: Global, code: Code, entries: &[Entry]) -> Result<Vec<u8>, AsmFault> {
+    let mut main = Source::open(alloc)?;
+    main.spawn(code, entries, 0)?;
+    main.exit(0)?;
+    main.image()
 }

@@ -1,5 +1,5 @@
 -- The machine is read, then the image, and then it is run.
-use Rattle.std.proofs.Common.{◌≡◌, Ok, Err, inr, refl, ap, subst}
+use Rattle.std.proofs.Common.{Ok, Err, inr, refl, ap, subst}
 use Rattle.tss_base.specs.declared.machine.Key.TheVariants.{MaxOperands}
 use Rattle.tss_outside.specs.Outside.{Rose}
 use Rattle.tss_report.proofs.PieceLemmas.{rises_since}

@@ -1,5 +1,5 @@
 -- What came before the rest was put.
-use Rattle.std.proofs.Common.{ℕ, length}
+use Rattle.std.proofs.Common.{length}
 use Rattle.tss_report.proofs.PieceLemmas.{HasPut}
 use Rattle.tss_report.proofs.writer.PieceWriter.put.Given as goal
 

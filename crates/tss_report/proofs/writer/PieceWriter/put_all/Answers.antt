@@ -1,5 +1,5 @@
 -- The parts go out one after another.
-use Rattle.std.proofs.Common.{refl, ap, ◌∙◌, arith}
+use Rattle.std.proofs.Common.{refl}
 use Rattle.tss_report.proofs.PieceLemmas.{none_put, more_put, failed_put, joined_from}
 use Rattle.tss_report.proofs.writer.PieceWriter.put_all.Goals as goal
 
