@@ -5,7 +5,6 @@ use Rattle.std.proofs.lemmas.Nat.{div-add-mod', column_fits}
 use Rattle.std.proofs.lemmas.List.{length-take-le, length-replicate, length-set, drop-drop}
 use Rattle.std.specs.FinMap.{get, insert, remove, empty, get-empty}
 use Rattle.tss_base.specs.declared.operand.OpName.{OpName}
-use Rattle.tss_base.specs.Names.{Named}
 use Rattle.tss_maps.proofs.Keys.{name_order}
 use Rattle.tss_maps.proofs.Changes.{at_inserted, beside_inserted, insert_again, insert_apart, absent_removed, remove_inserted, remove_apart}
 use Rattle.tss_model.specs.Memory.{zeros, list_put}

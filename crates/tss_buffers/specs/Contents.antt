@@ -1,7 +1,6 @@
 -- What a contract sees of the buffers: how many there are, how many bytes each has, and the bytes of those that are set.
-use Rattle.std.specs.Prelude.{ℕ, ◌<◌, ◌==◌, Bool, ◌||◌, List, Option, Some, None, refl}
+use Rattle.std.specs.Prelude.{ℕ, ◌<◌, ◌==◌, Bool, ◌||◌, List, refl}
 use Rattle.std.specs.Coded.{Coded, code_by, coded×, coded_ℕ, coded_list}
-use Rattle.std.specs.FinMap.{get, insert}
 use Rattle.tss_base.specs.declared.operand.OpName.{OpName}
 use Rattle.tss_base.specs.Names.{Named}
 use Rattle.tss_protocol.specs.Codes.{named}

@@ -11,25 +11,35 @@ use Rattle.tss_buffers.specs.declared.copying.Moved.{Moved}
 abbrev pub copy_of : OpName → OpName → Copying → CopyState
 copy_of v b c = record { version = v; object = c.object; buffer = b; moved = c.moved }
 
+-- its next piece, and whether that is the last, which depend on no name
+abbrev pub no_name : OpName
+no_name = record { task = 0; place = 0 }
+
+abbrev pub next_len : Copying → ℕ
+next_len c = piece_len (copy_of no_name no_name c)
+
+abbrev pub is_last : Copying → Bool
+is_last c = is_last_piece (copy_of no_name no_name c)
+
 -- the token after the last piece, and none before
 abbrev pub token_after : Copying → Bool → Option TokenState
 token_after c true = Some c.buffer
 token_after c false = None
 
 -- what the engine has after a piece: nothing after the last, and else the copy with the piece moved
-abbrev pub copying_after : Copying → ℕ → Bool → Option Copying
-copying_after c len true = None
-copying_after c len false = Some (record c { moved = c.moved + len })
+abbrev pub copying_after : Copying → Bool → Option Copying
+copying_after c true = None
+copying_after c false = Some (record c { moved = c.moved + next_len c })
 
 -- the next piece of a copy, and what the engine has after it
-pub record AdvancesFrom (v b : OpName) (c : Copying) (m : Moved) (after : Option Copying) : Type 0 where
+pub record AdvancesFrom (c : Copying) (m : Moved) (after : Option Copying) : Type 0 where
   pub place : m.place ≡ c.buffer.place
   pub at : m.at ≡ c.moved
-  pub len : m.len ≡ piece_len (copy_of v b c)
-  pub last : m.last ≡ token_after c (is_last_piece (copy_of v b c))
-  pub left : after ≡ copying_after c (piece_len (copy_of v b c)) (is_last_piece (copy_of v b c))
+  pub len : m.len ≡ next_len c
+  pub last : m.last ≡ token_after c (is_last c)
+  pub left : after ≡ copying_after c (is_last c)
 
 -- of an engine that is busy
-abbrev pub Advances : OpName → OpName → Option Copying → Moved → Option Copying → Type 0
-Advances v b None m after = ⊥
-Advances v b (Some c) m after = AdvancesFrom v b c m after
+abbrev pub Advances : Option Copying → Moved → Option Copying → Type 0
+Advances None m after = ⊥
+Advances (Some c) m after = AdvancesFrom c m after

@@ -1,7 +1,6 @@
 // The engine with which a bank brings the bytes of a retired version home.
 ghost use Rattle.std.specs.Prelude.{◌≡◌, ◌+◌, ◌↔◌, ◌≤◌, None, Some, IfOk, IfErr, IsErr, IsSome, IsNone, OnOk, OnErr, option_map};
 ghost use Rattle.tss_tokens.specs.Pool.{TokenState};
-ghost use Rattle.tss_base.specs.declared.operand.OpName.{OpName};
 ghost use Rattle.tss_buffers.specs.Copies.{Advances};
 
 use std::marker::Model;
@@ -74,7 +73,7 @@ impl CopyEngine {
     /// The next piece of the copy. Blocked exactly where the engine is idle.
     pub fn advance(&mut self) -> Result<Moved, Blocked>
         ensures blocked { IsErr result ↔ IsNone self.old }
-        ensures exact { IfOk result (λ m. (v b : OpName) → Advances v b self.old m self.new) }
+        ensures exact { IfOk result (λ m. Advances self.old m self.new) }
         ensures unchanged { OnErr result (self.new ≡ self.old) }
     {
         match self.copy.take() {

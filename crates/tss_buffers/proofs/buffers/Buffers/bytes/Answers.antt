@@ -1,5 +1,5 @@
 -- The part of a buffer.
-use Rattle.std.proofs.Common.{◌≡◌, ◌*◌, Bool, true, false, List, ℕ, Option, length, take, drop, ap, sym, subst, ◌∙◌, arith, refl}
+use Rattle.std.proofs.Common.{◌≡◌, ◌*◌, Bool, true, false, List, ℕ, Option, length, take, drop, ap, sym, subst, ◌∙◌, arith}
 use Rattle.std.specs.Prelude.{IfSome}
 use Rattle.tss_buffers.specs.Block.{where_set}
 use Rattle.tss_buffers.proofs.SeenLemmas.{seen_get, part_fits, length-part}

@@ -1,7 +1,7 @@
 -- No mark is set.
-use Rattle.std.proofs.Common.{◌≡◌, ◌*◌, List, ℕ, Bool, length, replicate, false, ap, ◌∙◌, arith}
+use Rattle.std.proofs.Common.{◌*◌, List, ℕ, Bool, length, false, ap, ◌∙◌}
 use Rattle.std.proofs.lemmas.List.{length-replicate}
-use Rattle.tss_buffers.specs.Block.{contents_of, seat_of, seated, parts_of}
+use Rattle.tss_buffers.specs.Block.{seat_of}
 use Rattle.tss_buffers.proofs.BlockLemmas.{unset_parts, length-zeros}
 use Rattle.tss_buffers.proofs.SeenLemmas.{seen_block}
 use Rattle.tss_buffers.proofs.buffers.Buffers.open.Goals as goal

@@ -1,11 +1,10 @@
 -- The part of a buffer is written.
-use Rattle.std.proofs.Common.{◌≡◌, ◌*◌, ◌+◌, ◌++◌, List, [], ℕ, length, take, drop, ap, sym, subst, ◌∙◌, arith}
-use Rattle.std.specs.Prelude.{unwrap_or, IsSome}
+use Rattle.std.proofs.Common.{◌≡◌, ◌*◌, ◌++◌, List, ℕ, length, take, drop, ap, sym, ◌∙◌, arith}
 use Rattle.std.specs.FinMap.{insert}
 use Rattle.tss_model.specs.Memory.{list_put}
 use Rattle.tss_model.specs.Core.{low_bytes}
 use Rattle.tss_buffers.specs.Contents.{seat}
-use Rattle.tss_buffers.specs.Block.{with_part, where_set}
+use Rattle.tss_buffers.specs.Block.{with_part}
 use Rattle.tss_buffers.proofs.BlockLemmas.{length-with_part, length-list_put}
 use Rattle.tss_buffers.proofs.SeenLemmas.{seen_written, seen_part, seen_long, seen_mark, part_fits, refilled, length-part, seen_block}
 use Rattle.tss_buffers.proofs.buffers.Buffers.put.Goals as goal

@@ -1,5 +1,5 @@
 -- The part of a buffer is cleared, and its mark set.
-use Rattle.std.proofs.Common.{◌≡◌, ◌*◌, List, ℕ, length, ap, sym, ◌∙◌, arith}
+use Rattle.std.proofs.Common.{◌≡◌, ◌*◌, List, ℕ, length, ap, ◌∙◌, arith}
 use Rattle.std.specs.FinMap.{insert}
 use Rattle.tss_model.specs.Memory.{zeros}
 use Rattle.tss_buffers.specs.Contents.{seat}
