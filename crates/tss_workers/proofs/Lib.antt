@@ -6,3 +6,4 @@ pub mod StartLemmas
 pub mod SeatLemmas
 pub mod SightLemmas
 pub mod RunLemmas
+pub mod ScratchLemmas

@@ -1,6 +1,5 @@
 -- What a contract sees of the workers, beside the definitions' busy workers, and what their calls make of them.
-use Rattle.std.specs.Prelude.{◌≡◌, ℕ, ◌+◌, ◌≤◌, List, length, Option, Some, None, map, take, vec_capacity}
-use Rattle.std.specs.Global.{Vec}
+use Rattle.std.specs.Prelude.{◌≡◌, ℕ, ◌<◌, ◌≤◌, List, Option, Some, None, is_none, is_some, map, take}
 use Rattle.std.specs.FinMap.{get, insert, len}
 use Rattle.std.specs.Ordering.{nat_cmp}
 use Rattle.tss_base.specs.declared.bounds.TheConstants.{MAX_OPERANDS}
@@ -126,7 +125,7 @@ ExecutesAt w code budget quantum old new m n b c =
 
 -- ---- as they are kept. No public clause speaks of it
 
--- there is a scratch for each idle worker, and room for those of all
-pub record HasScratches (t : WorkersState) (idle : Vec (List ℕ)) : Type 0 where
-  pub each : length idle.items + len t.entries ≡ t.size
-  pub room : t.size ≤ vec_capacity idle
+-- a scratch stands among the idle ones exactly where the worker is idle
+pub record HasScratches (t : WorkersState) (idle : TableState nat_cmp (List ℕ)) : Type 0 where
+  pub size : idle.size ≡ t.size
+  pub each : (w : ℕ) → w < t.size → is_some (get idle.entries w) ≡ is_none (get t.entries w)

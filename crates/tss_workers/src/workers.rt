@@ -1,5 +1,5 @@
 // The worker cores.
-ghost use Rattle.std.specs.Prelude.{◌≡◌, ◌↔◌, ◌<◌, ◌≤◌, false, IfOk, IsErr, IsSome, OnErr, OnOk, Some, is_none, option_map};
+ghost use Rattle.std.specs.Prelude.{◌≡◌, ◌↔◌, ◌<◌, ◌≤◌, false, IfOk, IsErr, IsSome, IsTrue, OnErr, OnOk, Some, is_none, option_map};
 ghost use Rattle.std.specs.FinMap.{empty, get, insert, len, remove};
 ghost use Rattle.tss_base.specs.declared.bounds.TheConstants.{MAX_OPERANDS};
 ghost use Rattle.tss_base.specs.declared.machine.Key.TheVariants as key;
@@ -26,12 +26,12 @@ pub struct Finished {
     pub trap: Option<Trap>,
 }
 
-/// The worker cores, each idle or busy with a task. All memory is taken when they are opened: there is a scratch for
-/// each, which an idle worker hands on.
+/// The worker cores, each idle or busy with a task. All memory is taken when they are opened: each worker has a scratch,
+/// which stands among the idle ones while it is idle.
 #[derive(Drop)]
 pub struct Workers {
     busy: Seats<Worker>,
-    idle: Vec<Scratch>,
+    idle: Seats<Scratch>,
 }
 
 impl Model for Workers {
@@ -49,15 +49,36 @@ impl Model for Workers {
     ghost invariant = { λ w. HasScratches w.busy w.idle };
 }
 
+/// A stretch of the worker with a number, which is busy with a task that isn't over.
+fn run_in(
+    busy: &mut Seats<Worker>,
+    w: u32,
+    code: &Code,
+    space: &mut Space,
+    buffers: &mut Buffers,
+    budget: u64,
+    quantum: u32,
+)
+    requires banks { 0 < buffers.old.banks }
+    requires going { WhereBusy (CanGoOn space.old.ranges buffers.old) (get busy.old.entries w) }
+    requires further { IsTrue (can_exec (option_map busy_of (get busy.old.entries w))) }
+    ensures { ExecutesAt w code.now budget quantum busy.old busy.new space.old space.new buffers.old buffers.new }
+{
+    match busy.get_mut(w) {
+        Some(worker) => run(worker, code, space, buffers, budget, quantum),
+        None => unreachable!(),
+    }
+}
+
 impl Workers {
     /// As many idle workers as the machine has.
     pub fn open(alloc: Global, sizes: &Sizes) -> Result<Workers, NoMemory>
         requires { IsInRange key.Workers sizes.now.workers }
         ensures { IfOk result (λ w. w ≡ record { size = sizes.now.workers; entries = empty }) }
     {
-        let mut idle = Vec::with_capacity(alloc, sizes.workers as usize)?;
-        for _ in 0..sizes.workers {
-            idle.push(Scratch::open(alloc)?)?;
+        let mut idle = Seats::open(alloc, sizes.workers)?;
+        for w in 0..sizes.workers {
+            idle.add(w, Scratch::open(alloc)?);
         }
         Ok(Workers {
             busy: Seats::open(alloc, sizes.workers)?,
@@ -90,7 +111,7 @@ impl Workers {
             return Err(Blocked);
         }
         zero_task(task, storages, space, buffers);
-        let mut scratch = match self.idle.pop() {
+        let mut scratch = match self.idle.remove(w) {
             Some(scratch) => scratch,
             None => unreachable!(),
         };
@@ -128,13 +149,8 @@ impl Workers {
         if !self.can_exec(w) {
             return Err(Blocked);
         }
-        match self.busy.get_mut(w) {
-            Some(worker) => {
-                run(worker, code, space, buffers, budget, quantum);
-                Ok(())
-            }
-            None => Err(Blocked),
-        }
+        run_in(&mut self.busy, w, code, space, buffers, budget, quantum);
+        Ok(())
     }
 
     /// A worker whose task is over becomes idle. Blocked exactly where it is idle or its task isn't over.
@@ -155,10 +171,8 @@ impl Workers {
                     task: worker.task.number,
                     trap: worker.trap,
                 };
-                match self.idle.push(worker.scratch) {
-                    Ok(()) => Ok(finished),
-                    Err(_) => unreachable!(),
-                }
+                self.idle.add(w, worker.scratch);
+                Ok(finished)
             }
             None => unreachable!(),
         }
