@@ -21,7 +21,7 @@ use Rattle.tss_model.specs.TaskRun.{TaskState, repeated, is_over, task_byte, tas
 use Rattle.tss_protocol.specs.Mail.{StorageName, Home, Buffer}
 use Rattle.tss_protocol.specs.State.{Busy}
 use Rattle.tss_protocol.specs.Buffers.{buffer_bytes}
-use Rattle.tss_protocol.specs.Workers.{Stores, Placed, placed_in, placed_at, storage_byte, byte_in, worker_byte, storage_write, write_in, worker_write, storage_zeroed, output_zeroed, outputs_zeroed, exec_stretch, task_state_of}
+use Rattle.tss_protocol.specs.Workers.{Stores, Placed, placed_in, placed_at, storage_byte, byte_in, worker_byte, storage_write, write_in, worker_write, storage_zeroed, outputs_zeroed, exec_stretch, task_state_of}
 use Rattle.tss_workers.specs.Agreement.{Agree, StoresAgree, StandsFor, StandFor, TasksAgree}
 
 module _ (place_of : OpName → Option OpName) where
@@ -221,8 +221,8 @@ module _ (place_of : OpName → Option OpName) where
     unfolding task_step
     step_agrees budget code a b e s t h =
         let same : core_step b (task_byte (worker_byte (placed_in operands places)) t) (code_word code) t.registers
-            ≡ core_step a (task_byte (worker_byte (placed_in operands names)) s) (code_word code) s.registers =
-            λ i. core_step (e i) (λ x. sees_same s t h x i) (code_word code) (h.registers i) in
+        ≡ core_step a (task_byte (worker_byte (placed_in operands names)) s) (code_word code) s.registers =
+        λ i. core_step (e i) (λ x. sees_same s t h x i) (code_word code) (h.registers i) in
         either (is_over s) (is_over t) (λ i. is_some (h.trap i) || ((h.registers i).pc == END_PC)) s t _ _ h
         (either (nat_le budget s.registers.done) (nat_le budget t.registers.done) (λ i. nat_le budget (h.registers i).done) _ _ _ _
         (trapped_agrees s t h BUDGET_SPENT 0 0 refl)

@@ -1,21 +1,15 @@
 -- What the rule of access says of an access beside a task's scratch, by the spot in which it lies.
-use Rattle.std.proofs.Common.{◌≡◌, ℕ, zero, suc, ◌+◌, ◌<◌, ◌≤◌, ◌⊎◌, inl, inr, Bool, true, false, List, [], ◌∷◌, Option, Some, None, Ok, Err, refl, sym, ap, ◌∙◌, arith, nat_le, nat_lt}
-use Rattle.std.specs.Prelude.{◌&&◌, ◌||◌, cond, map, max, min, option_map, slice_get, IsTrue}
+use Rattle.std.proofs.Common.{◌≡◌, ℕ, zero, suc, ◌<◌, ◌⊎◌, inl, inr, Bool, true, false, List, [], ◌∷◌, Option, Some, None, refl, sym, ap, ◌∙◌, arith}
+use Rattle.std.specs.Prelude.{◌&&◌, ◌||◌, cond, max, min, option_map, slice_get}
 use Rattle.std.specs.List.{list_any}
-use Rattle.std.proofs.lemmas.Bool.{and_left, and_right, both_ways, cases_order, false_from_ne_true, lt-ltb, or_cases}
+use Rattle.std.proofs.lemmas.Bool.{and_left, and_right, both_ways, cases_order, false_from_ne_true, lt-ltb}
 use Rattle.std.proofs.lemmas.Option.{none-some, same_Some, slice_get-map}
 use Rattle.tss_base.specs.declared.range.Range.{Range}
 use Rattle.tss_base.specs.declared.operand.Operand.{Operand}
 use Rattle.tss_base.specs.Range.{end_of, meets, contains}
-use Rattle.tss_model.specs.Memory.{MemoryRange, covers, range_of, scratch_range}
-use Rattle.tss_model.specs.Access as model
-use Rattle.tss_model.specs.Access.{Access, Granted, Denied, Loads, Stores, task_access, is_fixed, writes}
-use Rattle.tss_core.specs.declared.access.Deny.TheVariants as deny
-use Rattle.tss_core.specs.Views.{load_answer, store_answer, stored, answer_on, write_on}
-use Rattle.tss_core.specs.Rule.{allowed}
+use Rattle.tss_model.specs.Memory.{MemoryRange, range_of, scratch_range}
+use Rattle.tss_model.specs.Access.{Granted, Denied, Loads, Stores, task_access, is_fixed, writes}
 use Rattle.tss_memory.proofs.RangeLemmas.{contains_parts}
-use Rattle.tss_steps.specs.Placing.{IsGround}
-use Rattle.tss_steps.proofs.PlaceLemmas.{range_of-loaded, beside_address}
 use Rattle.tss_workers.specs.Seats.{AreApart}
 use Rattle.tss_workers.specs.Spots.{LiesInNone, operand_at, operands_at, placed_spot, placed_of}
 use Rattle.tss_workers.specs.declared.spots.Spot.{Spot}

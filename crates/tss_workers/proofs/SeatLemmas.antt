@@ -1,12 +1,11 @@
 -- The buffer of a spot is there, is set, and holds what lies in the spot.
-use Rattle.std.proofs.Common.{◌≡◌, ℕ, ◌+◌, ◌-◌, ◌<◌, ◌≤◌, true, List, Some, ap, ◌∙◌, arith}
+use Rattle.std.proofs.Common.{◌≡◌, ℕ, ◌+◌, ◌-◌, ◌≤◌, true, List, Some, ap, arith}
 use Rattle.std.specs.Prelude.{slice_get, IsSome}
 use Rattle.std.specs.FinMap.{get}
 use Rattle.tss_base.specs.declared.range.Range.{Range}
 use Rattle.tss_base.specs.Range.{contains}
 use Rattle.tss_model.specs.Memory.{MemoryRange}
 use Rattle.tss_memory.proofs.RangeLemmas.{contains_parts}
-use Rattle.tss_protocol.specs.Mail.{Buffer}
 use Rattle.tss_buffers.specs.Contents.{BuffersState, HasBuffer, seat}
 use Rattle.tss_workers.specs.Seats.{FitsIn}
 use Rattle.tss_workers.specs.Spots.{AreWorkable, placed_spot, storage_at}

@@ -1,17 +1,16 @@
 -- What a worker's task loads, and what it sees after a store.
-use Rattle.std.proofs.Common.{◌≡◌, ℕ, ◌+◌, ◌<◌, ◌≤◌, Bool, true, false, List, length, Option, Some, None, Ok, Err, refl, sym, ap, subst, ◌∙◌}
+use Rattle.std.proofs.Common.{◌≡◌, ℕ, ◌+◌, ◌<◌, ◌≤◌, Bool, true, false, List, Option, Some, None, Ok, Err, refl, sym, ap, subst, ◌∙◌}
 use Rattle.std.specs.Prelude.{slice_get}
-use Rattle.tss_base.specs.declared.range.Range.{Range}
-use Rattle.tss_base.specs.Range.{end_of, contains}
+use Rattle.tss_base.specs.Range.{contains}
 use Rattle.tss_base.specs.Image.{SegmentState}
-use Rattle.tss_model.specs.Memory.{Memory, MemoryRange, range_of, scratch_range, covers, number_at}
+use Rattle.tss_model.specs.Memory.{Memory, range_of, scratch_range, covers, number_at}
 use Rattle.tss_model.specs.Access as model
 use Rattle.tss_model.specs.Access.{Access, Granted, Denied, Loads, Stores, task_access, is_fixed, writes}
 use Rattle.tss_model.specs.Core.{Write, low_bytes}
 use Rattle.tss_core.specs.declared.access.Deny.TheVariants as deny
 use Rattle.tss_core.specs.Views.{IsAfter, load_answer, store_answer, stored, answer_on, write_on, byte_after}
 use Rattle.tss_core.specs.Rule.{allowed}
-use Rattle.tss_steps.specs.Seen.{Terms, task_sight, task_sees}
+use Rattle.tss_steps.specs.Seen.{task_sight, task_sees}
 use Rattle.tss_steps.specs.Tasks.{IsLeft}
 use Rattle.tss_steps.proofs.PlaceLemmas.{range_of-loaded, beside_address}
 use Rattle.tss_steps.proofs.ViewLemmas.{access_range, write_at, beyond_answer, beyond_stored, beyond_left}

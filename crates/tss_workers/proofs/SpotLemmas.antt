@@ -1,6 +1,6 @@
 -- Where an address lies among the spots of a task, what stands there, and what a write in a spot leaves.
-use Rattle.std.proofs.Common.{◌≡◌, ℕ, zero, suc, ◌+◌, ◌-◌, ◌<◌, ◌≤◌, ◌⊎◌, inl, inr, Bool, true, false, List, [], ◌∷◌, length, Option, Some, None, refl, sym, ap, subst, ◌∙◌, arith, nat_le, nat_lt}
-use Rattle.std.specs.Prelude.{◌&&◌, cond, map, option_map, max, min, slice_get, slice_index, unwrap_or, find, IsTrue, IsSome}
+use Rattle.std.proofs.Common.{◌≡◌, ℕ, zero, suc, ◌+◌, ◌-◌, ◌<◌, ◌≤◌, ◌⊎◌, inl, inr, true, false, List, [], length, Option, Some, None, refl, sym, ap, subst, ◌∙◌, arith, nat_le, nat_lt}
+use Rattle.std.specs.Prelude.{◌&&◌, cond, option_map, max, min, slice_get, slice_index, unwrap_or, IsSome}
 use Rattle.std.specs.Int.{bytes_low_first}
 use Rattle.std.specs.FinMap.{get, insert}
 use Rattle.std.proofs.lemmas.Bool.{and_parts, and_from, both_ways, leb-true, le-leb, lt-ltb, ltb-true, ltb-false, false_from_ne_true, cases_order}
@@ -15,14 +15,14 @@ use Rattle.tss_maps.proofs.Places.{find_first, find_there}
 use Rattle.tss_model.specs.Memory.{Memory, covers, byte_at, number_at, list_put, put_bytes}
 use Rattle.tss_model.specs.Core.{Write, low_bytes}
 use Rattle.tss_core.specs.Views.{byte_after}
-use Rattle.tss_memory.proofs.RangeLemmas.{some_and, contains_parts, find_none}
+use Rattle.tss_memory.proofs.RangeLemmas.{contains_parts, find_none}
 use Rattle.tss_steps.proofs.ByteLemmas.{place_of, byte_after-inside, byte_after-outside, list_put-inside, list_put-outside, put_bytes-byte, number_at-same}
 use Rattle.tss_protocol.specs.Mail.{StorageName, Home, Buffer}
 use Rattle.tss_protocol.specs.Buffers.{buffer_bytes}
 use Rattle.tss_protocol.specs.Workers.{Stores, Placed, placed_at, storage_byte, byte_in, worker_byte, worker_write, write_in, storage_write}
-use Rattle.tss_buffers.specs.Contents.{BuffersState, seat}
-use Rattle.tss_workers.specs.Seats.{AreApart, AreSeated, AreSet, FitsIn}
-use Rattle.tss_workers.specs.Spots.{IsInSpot, placed_spot, placed_of, stores_of, storage_at}
+use Rattle.tss_buffers.specs.Contents.{BuffersState}
+use Rattle.tss_workers.specs.Seats.{AreApart, AreSet}
+use Rattle.tss_workers.specs.Spots.{placed_spot, placed_of, stores_of, storage_at}
 use Rattle.tss_workers.specs.declared.spots.Spot.{Spot}
 
 -- as many bytes as the width

@@ -1,12 +1,11 @@
 -- The spots of operands with their storages.
-use Rattle.std.proofs.Common.{◌≡◌, ℕ, zero, suc, ◌<◌, ◌≤◌, List, [], ◌∷◌, length, take, get_or, Option, Some, None, refl, sym, ap, ◌∙◌, arith}
-use Rattle.std.specs.Prelude.{map, slice_get}
+use Rattle.std.proofs.Common.{◌≡◌, ℕ, zero, suc, ◌<◌, ◌≤◌, List, [], ◌∷◌, length, take, get_or, refl, ap, arith}
 use Rattle.tss_base.specs.declared.operand.Operand.{Operand}
 use Rattle.tss_base.specs.declared.operand.Storage.{Storage}
 use Rattle.tss_base.specs.declared.operand.Storage.TheVariants as storage
 use Rattle.tss_protocol.specs.Workers.{placed_in}
 use Rattle.tss_workers.specs.Seats.{seat_in, seats_in}
-use Rattle.tss_workers.specs.Spots.{found_in, spot_at, spots_in, operand_at, operands_at, placed_of, storage_at, storages_at}
+use Rattle.tss_workers.specs.Spots.{found_in, spot_at, spots_in, operands_at, placed_of, storage_at, storages_at}
 use Rattle.tss_workers.specs.declared.spots.Spot.{Spot}
 
 storage_is : (banks : ℕ) (o : Operand) (s : Storage) → storage_at (found_in banks o.object s) ≡ seat_in banks o s

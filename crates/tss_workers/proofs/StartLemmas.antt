@@ -1,17 +1,14 @@
 -- A spot that its task doesn't read can be zeroed.
-use Rattle.std.proofs.Common.{◌≡◌, ℕ, ◌<◌, ◌≤◌, Bool, true, false, List, Some, refl, sym, ap, subst, ◌∙◌, arith}
+use Rattle.std.proofs.Common.{◌≡◌, ℕ, true, false, List, Some, refl, sym, ap, subst, ◌∙◌, arith}
 use Rattle.std.specs.Prelude.{option_map, slice_get}
 use Rattle.std.proofs.lemmas.Bool.{both_ways}
 use Rattle.std.proofs.lemmas.Option.{slice_get-map}
 use Rattle.tss_base.specs.declared.operand.Mode.{Mode}
 use Rattle.tss_base.specs.declared.operand.Mode.TheVariants.{Input, Output, Inout}
-use Rattle.tss_base.specs.declared.range.Range.{Range}
 use Rattle.tss_model.specs.Memory.{MemoryRange, range_of}
 use Rattle.tss_model.specs.Access.{reads, writes}
-use Rattle.tss_memory.specs.Ranges.{CanWrite}
 use Rattle.tss_steps.specs.Placing.{IsGround, is_placed}
 use Rattle.tss_steps.proofs.PlaceLemmas.{all_at, placed_in}
-use Rattle.tss_protocol.specs.Mail.{Buffer}
 use Rattle.tss_buffers.specs.Contents.{BuffersState, seat}
 use Rattle.tss_workers.specs.Seats.{AreSeated}
 use Rattle.tss_workers.specs.Spots.{operand_at, operands_at, placed_spot, placed_of, storage_at, CanZero, CanZeroAt}

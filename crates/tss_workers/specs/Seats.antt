@@ -1,5 +1,5 @@
 -- The storages of a task's operands by the places of their buffers, as workers find them, and what holds of them.
-use Rattle.std.specs.Prelude.{◌≡◌, ℕ, ◌/◌, ◌%◌, ◌<◌, ◌≤◌, false, List, [], ◌∷◌, slice_get, Option, Some, None, IsSome}
+use Rattle.std.specs.Prelude.{◌≡◌, ℕ, ◌/◌, ◌%◌, ◌<◌, ◌≤◌, false, List, [], ◌∷◌, slice_get, Some, IsSome}
 use Rattle.std.specs.FinMap.{get}
 use Rattle.tss_base.specs.declared.bounds.TheConstants.{BANK_BYTES}
 use Rattle.tss_base.specs.declared.operand.OpName.{OpName}

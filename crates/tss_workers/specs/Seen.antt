@@ -1,6 +1,6 @@
 -- What a contract sees of the workers, beside the definitions' busy workers, and what their calls make of them.
 use Rattle.std.specs.Prelude.{◌≡◌, ℕ, ◌<◌, ◌≤◌, List, Option, Some, None, is_none, is_some, map, take}
-use Rattle.std.specs.FinMap.{get, insert, len}
+use Rattle.std.specs.FinMap.{get, insert}
 use Rattle.std.specs.Ordering.{nat_cmp}
 use Rattle.tss_base.specs.declared.bounds.TheConstants.{MAX_OPERANDS}
 use Rattle.tss_base.specs.declared.operand.Storage.{Storage}

@@ -1,5 +1,5 @@
 -- The spots of a task's operands, and what holds of them while it runs. No public clause speaks of them.
-use Rattle.std.specs.Prelude.{◌≡◌, ℕ, ◌<◌, false, IsTrue, List, [], ◌∷◌, map, slice_get, IsSomeAnd, Some}
+use Rattle.std.specs.Prelude.{◌≡◌, ℕ, false, IsTrue, List, [], ◌∷◌, map, slice_get, IsSomeAnd, Some}
 use Rattle.tss_base.specs.declared.operand.Operand.{Operand}
 use Rattle.tss_base.specs.declared.operand.Storage.{Storage}
 use Rattle.tss_base.specs.declared.operand.Storage.TheVariants as storage

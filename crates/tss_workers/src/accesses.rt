@@ -77,11 +77,11 @@ pub(crate) fn put_in(
     requires inside { IsInSpot spots.now r.now i }
     requires written { IsWritten spots.now i }
     requires width { IsTrue (is_width r.now.len) }
-    ensures exact { stores_of space.new buffers.new ≡ worker_write (placed_of spots.now) (stores_of space.old buffers.old)
-        (record { at = r.now.base; bytes = low_bytes r.now.len value }) }
+    ensures exact { stores_of space.new buffers.new
+        ≡ worker_write (placed_of spots.now) (stores_of space.old buffers.old) (record { at = r.now.base; bytes = low_bytes r.now.len value }) }
     ensures bytes { (a : ℕ) → worker_byte (placed_of spots.now) (stores_of space.new buffers.new) a
         ≡ byte_after (worker_byte (placed_of spots.now) (stores_of space.old buffers.old))
-            (Some (record { at = r.now.base; bytes = low_bytes r.now.len value })) a }
+        (Some (record { at = r.now.base; bytes = low_bytes r.now.len value })) a }
     ensures sizes { HaveSameSizes buffers.old buffers.new }
     ensures ranges { space.new.ranges ≡ space.old.ranges }
     ensures workable { AreWorkable space.new.ranges buffers.new spots.now }
@@ -139,13 +139,7 @@ pub(crate) fn fixed_number(
 }
 
 /// The same, byte by byte: where a range meets an object in part, some bytes may lie in the object's buffer.
-fn mixed_number(
-    space: &Space,
-    buffers: &Buffers,
-    spots: &[Spot],
-    found: Found,
-    r: &Range,
-) -> u32
+fn mixed_number(space: &Space, buffers: &Buffers, spots: &[Spot], found: Found, r: &Range) -> u32
     requires workable { AreWorkable space.now.ranges buffers.now spots.now }
     requires found { IsFound space.now.ranges found r.now }
     requires end { end_of r.now < 2 ^ 32 }
@@ -168,14 +162,7 @@ fn mixed_number(
 }
 
 /// A byte of a range in memory, in the spot in which it lies or else at home.
-fn byte(
-    space: &Space,
-    buffers: &Buffers,
-    spots: &[Spot],
-    found: Found,
-    r: &Range,
-    i: u32,
-) -> u32
+fn byte(space: &Space, buffers: &Buffers, spots: &[Spot], found: Found, r: &Range, i: u32) -> u32
     requires workable { AreWorkable space.now.ranges buffers.now spots.now }
     requires found { IsFound space.now.ranges found r.now }
     requires end { end_of r.now < 2 ^ 32 }

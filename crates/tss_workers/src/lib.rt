@@ -9,10 +9,10 @@ mod queue;
 mod running;
 mod spots;
 mod starting;
-mod views;
-mod workers;
 #[cfg(test)]
 mod tests;
+mod views;
+mod workers;
 
 pub use queue::ReadyQueue;
 pub use running::Worker;

@@ -7,6 +7,7 @@ use std::marker::Model;
 use tss_base::NoMemory;
 
 /// Tasks in order, a ring of fixed size. A contract sees the size and the tasks.
+#[derive(Drop)]
 pub struct ReadyQueue {
     ring: HeapCircularBuffer<u32>,
 }

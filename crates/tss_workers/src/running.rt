@@ -56,12 +56,7 @@ pub(crate) fn run(
         near: 0,
         last: 0,
     };
-    worker.trap = stretch(
-        &mut worker.regs,
-        &mut view,
-        budget,
-        u64::from(quantum),
-    );
+    worker.trap = stretch(&mut worker.regs, &mut view, budget, u64::from(quantum));
 }
 
 /// A stretch of at most `most` steps over the view of a task that hasn't trapped. Its trap where it traps.

@@ -18,7 +18,10 @@ fn the_queue_goes_round_its_end(rt: HostRuntime) -> Result<(), Fail> {
     );
     assert_eq!(rt; (queue.pop(), queue.pop()), (Some(2), Some(3)));
     queue.push(5);
-    assert_eq!(rt; (queue.pop(), queue.pop(), queue.pop()), (Some(4), Some(5), None));
+    assert_eq!(rt;
+        (queue.pop(), queue.pop(), queue.pop()),
+        (Some(4), Some(5), None)
+    );
     Ok(())
 }
 
@@ -37,7 +40,10 @@ fn workers_are_idle_at_first(rt: HostRuntime) -> Result<(), Fail> {
     };
     let mut workers = Workers::open(rt.alloc(), &sizes)?;
     assert_eq!(rt; (workers.busy(), workers.is_idle(2)), (0, true));
-    assert_eq!(rt; (workers.can_exec(0), workers.can_finish(0)), (false, false));
+    assert_eq!(rt;
+        (workers.can_exec(0), workers.can_finish(0)),
+        (false, false)
+    );
     assert!(rt; workers.finish(1).is_err());
     assert!(rt; workers.task(3).is_none());
     Ok(())

@@ -67,21 +67,21 @@ impl View for WorkerTask<'_> {
         match spot_with(self.spots, &r, self.last) {
             Some(i) => {
                 self.last = i;
-                let (number, near) =
-                    number_in(self.space, self.buffers, self.spots, i, &r, self.near);
+                let (number, near) = number_in(
+                    self.space,
+                    self.buffers,
+                    self.spots,
+                    i,
+                    &r,
+                    self.near,
+                );
                 self.near = near;
                 Ok(number)
             }
             None => match fixed_place(self.space, &r, self.near) {
                 Some(found) => {
                     self.near = found.index;
-                    Ok(fixed_number(
-                        self.space,
-                        self.buffers,
-                        self.spots,
-                        found,
-                        &r,
-                    ))
+                    Ok(fixed_number(self.space, self.buffers, self.spots, found, &r))
                 }
                 None => Err(Deny::Denied),
             },

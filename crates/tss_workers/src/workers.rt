@@ -101,7 +101,8 @@ impl Workers {
         requires works { CanWork space.old.ranges buffers.old task.now storages.now }
         ensures blocked { IsErr result ↔ IsSome (get self.old.entries w) }
         ensures begun { OnOk result (self.new ≡ record self.old {
-            entries = insert self.old.entries w (new_worker task.now storages.now) }) }
+          entries = insert self.old.entries w (new_worker task.now storages.now);
+        }) }
         ensures zeroed { OnOk result (Zeroes task.now storages.now space.old space.new buffers.old buffers.new) }
         ensures unchanged { OnErr result (self.new ≡ self.old) }
         ensures home { OnErr result (space.new ≡ space.old) }
@@ -141,7 +142,8 @@ impl Workers {
         requires banks { 0 < buffers.old.banks }
         requires going { WhereBusy (CanGoOn space.old.ranges buffers.old) (get self.old.entries w) }
         ensures blocked { IsErr result ↔ (can_exec (option_map busy_of (get self.old.entries w)) ≡ false) }
-        ensures exact { OnOk result (ExecutesAt w code.now budget quantum self.old self.new space.old space.new buffers.old buffers.new) }
+        ensures exact { OnOk result (ExecutesAt w code.now budget quantum self.old self.new
+            space.old space.new buffers.old buffers.new) }
         ensures unchanged { OnErr result (self.new ≡ self.old) }
         ensures home { OnErr result (space.new ≡ space.old) }
         ensures buffers { OnErr result (buffers.new ≡ buffers.old) }

@@ -1,5 +1,5 @@
 -- A range of an operand lies in memory.
-use Rattle.std.proofs.Common.{◌≡◌, true, sym, ◌∙◌}
+use Rattle.std.proofs.Common.{◌∙◌}
 use Rattle.std.specs.Prelude.{slice_get, IsTrue}
 use Rattle.std.proofs.lemmas.Option.{none-some}
 use Rattle.tss_base.specs.Range.{contains}
@@ -14,5 +14,5 @@ unreachable-requires c =
     let s = some_and (slice_get c.args.spots.now c.args.i) (λ s. IsTrue (contains s.object c.args.r.now)) c.requires.inside in
     let own = lies_in_operand c.args.spots.now c.args.r.now c.args.i s.0 s.1 s.2 in
     let placed = range_of-loaded c.args.space.now.ranges c.requires.ground.are (operands_at c.args.spots.now) c.requires.ground.placed
-        c.args.r.now c.requires.some own in
+    c.args.r.now c.requires.some own in
     none-some placed.0 (c.in-None.ensures.exact ∙ placed.1)

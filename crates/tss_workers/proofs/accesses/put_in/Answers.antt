@@ -18,9 +18,9 @@ use Rattle.tss_workers.proofs.accesses.put_in.Goals as goal
 pub set_number-requires-clause-writable : goal.set_number-requires-clause-writable
 set_number-requires-clause-writable c =
     let w : writes c.spot_in-spot.result.mode ≡ true =
-        subst (λ (o : Option Spot). IsSomeAnd o (λ s. IsTrue (writes s.mode))) c.spot_in-spot.ensures.there c.requires.written in
+    subst (λ (o : Option Spot). IsSomeAnd o (λ s. IsTrue (writes s.mode))) c.spot_in-spot.ensures.there c.requires.written in
     let own = lies_in_written c.args.spots.now c.args.r.now c.args.i c.spot_in-spot.result c.spot_in-spot.ensures.there
-        c.spot_in-spot.ensures.inside w in
+    c.spot_in-spot.ensures.inside w in
     same_Some c.home_place-found.result.writable true
     (sym c.home_place-found.ensures.within
     ∙ range_of-stored c.args.space.now.ranges c.requires.workable.ground.are (operands_at c.args.spots.now)
@@ -67,7 +67,7 @@ returns-in-Buffer-clause-exact c =
 pub returns-in-Buffer-clause-bytes : goal.returns-in-Buffer-clause-bytes
 returns-in-Buffer-clause-bytes c =
     let fits = buffer_fits c.args.space.now.ranges c.args.buffers.now c.args.spots.now c.requires.workable c.args.i c.spot_in-spot.result
-        c.spot_in-spot.ensures.there c.in-Buffer.bank c.in-Buffer.place c.in-Buffer.is in
+    c.spot_in-spot.ensures.there c.in-Buffer.bank c.in-Buffer.place c.in-Buffer.is in
     λ a.
     ap (λ (b : BuffersState). worker_byte (placed_of c.args.spots.now) (stores_of c.args.space.now b) a) c.put.ensures.exact
     ∙ buffer_bytes-after c.args.spots.now c.requires.workable.apart c.args.i c.spot_in-spot.result c.spot_in-spot.ensures.there

@@ -1,11 +1,7 @@
 -- One more spot, and all of them.
-use Rattle.std.proofs.Common.{◌≡◌, ◌+◌, ◌<◌, ◌≤◌, ◌⊎◌, inl, inr, ℕ, List, length, take, get_or, set, sym, ap, ◌∙◌, arith}
+use Rattle.std.proofs.Common.{◌≡◌, ◌+◌, ◌<◌, ◌⊎◌, inl, inr, ℕ, length, take, get_or, set, sym, ap, ◌∙◌, arith}
 use Rattle.std.proofs.lemmas.List.{ext_get_or, get_or-set_same, get_or-set_other, length-set, length-take-le}
-use Rattle.tss_base.specs.declared.operand.Operand.{Operand}
-use Rattle.tss_protocol.specs.Workers.{placed_in}
-use Rattle.tss_workers.specs.Seats.{seats_in}
 use Rattle.tss_workers.specs.Spots.{spots_in, operands_at, placed_of, storages_at}
-use Rattle.tss_workers.specs.declared.spots.Spot.{Spot}
 use Rattle.tss_workers.proofs.SpotsOfLemmas.{get_or-spots_in, length-spots_in, take-spots_in, operands_at-spots_in, storages_at-spots_in, placed_of-spots_in}
 use Rattle.tss_workers.proofs.spots.spots_of.Goals as goal
 
@@ -43,8 +39,8 @@ returns c =
     let turns : c.loop-i.i ≡ length os = omega arith in
     let d = c.spot_of-first.result in
     let full : c.loop-i.spots ≡ spots_in banks os ss =
-        ext_get_or d c.loop-i.spots (spots_in banks os ss) (count ∙ sym (length-spots_in banks os ss seven))
-        (λ k h. c.loop-i.invariant.filled k d (omega (arith, h, count, turns))) in
+    ext_get_or d c.loop-i.spots (spots_in banks os ss) (count ∙ sym (length-spots_in banks os ss seven))
+    (λ k h. c.loop-i.invariant.filled k d (omega (arith, h, count, turns))) in
     let front = ap (take n) full ∙ take-spots_in banks n os ss in
     let few = length-take-le n os (omega arith) in
     record {

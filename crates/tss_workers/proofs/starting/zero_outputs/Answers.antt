@@ -1,5 +1,5 @@
 -- The next spot can be zeroed.
-use Rattle.std.proofs.Common.{◌≡◌, ◌<◌, ◌-◌, length, arith}
+use Rattle.std.proofs.Common.{◌<◌, ◌-◌, length, arith}
 use Rattle.std.proofs.lemmas.Option.{slice_get-get_or}
 use Rattle.tss_workers.proofs.StartLemmas.{can_zero}
 use Rattle.tss_workers.proofs.starting.zero_outputs.Goals as goal

@@ -1,5 +1,5 @@
 -- What a task sees after a store.
-use Rattle.std.proofs.Common.{◌≡◌, Option, refl, sym, subst, ◌∙◌}
+use Rattle.std.proofs.Common.{Option, refl, sym, subst}
 use Rattle.tss_model.specs.Core.{Write}
 use Rattle.tss_steps.proofs.ViewLemmas.{scratch_stored, width_some}
 use Rattle.tss_workers.specs.Spots.{operands_at, spot_terms, stores_of}
@@ -20,7 +20,7 @@ returns-then-not-writes-clause-exact c =
     let some = width_some c.args.width c.requires in
     let outside = sym c.if-contains.ensures.exact in
     let refused = may_not_there v.code.now v.space.now v.buffers.now v.spots.now v.workable v.scratch.now c.args.at c.args.width some outside
-        c.in-Some.i c.spot_in.result c.spot_in.ensures.there c.spot_in.ensures.inside (sym c.if-not-writes.ensures) in
+    c.in-Some.i c.spot_in.result c.spot_in.ensures.there c.spot_in.ensures.inside (sym c.if-not-writes.ensures) in
     store_refused v.code.now v.space.now v.buffers.now v.spots.now v.workable v.scratch.now c.args.at c.args.width some outside refused
 
 pub returns-then-not-writes-clause-bytes : goal.returns-then-not-writes-clause-bytes
@@ -29,7 +29,7 @@ returns-then-not-writes-clause-bytes c =
     let some = width_some c.args.width c.requires in
     let outside = sym c.if-contains.ensures.exact in
     let refused = may_not_there v.code.now v.space.now v.buffers.now v.spots.now v.workable v.scratch.now c.args.at c.args.width some outside
-        c.in-Some.i c.spot_in.result c.spot_in.ensures.there c.spot_in.ensures.inside (sym c.if-not-writes.ensures) in
+    c.in-Some.i c.spot_in.result c.spot_in.ensures.there c.spot_in.ensures.inside (sym c.if-not-writes.ensures) in
     same_sight v.code.now v.space.now v.buffers.now v.spots.now v.workable v.scratch.now c.args.at c.args.width some outside refused c.args.value
 
 pub returns-then-not-writes-clause-leaves : goal.returns-then-not-writes-clause-leaves
@@ -38,7 +38,7 @@ returns-then-not-writes-clause-leaves c =
     let some = width_some c.args.width c.requires in
     let outside = sym c.if-contains.ensures.exact in
     let refused = may_not_there v.code.now v.space.now v.buffers.now v.spots.now v.workable v.scratch.now c.args.at c.args.width some outside
-        c.in-Some.i c.spot_in.result c.spot_in.ensures.there c.spot_in.ensures.inside (sym c.if-not-writes.ensures) in
+    c.in-Some.i c.spot_in.result c.spot_in.ensures.there c.spot_in.ensures.inside (sym c.if-not-writes.ensures) in
     subst (λ (w : Option Write). TaskLeaves v w v)
     (sym (writes_nothing v.code.now v.space.now v.buffers.now v.spots.now v.workable v.scratch.now c.args.at c.args.width some outside refused c.args.value))
     (record {
@@ -91,7 +91,7 @@ returns-in-None-clause-exact c =
     let some = width_some c.args.width c.requires in
     let outside = sym c.if-contains.ensures.exact in
     let refused = may_not_elsewhere v.code.now v.space.now v.buffers.now v.spots.now v.workable v.scratch.now c.args.at c.args.width some outside
-        (c.in-None.ensures.none refl) in
+    (c.in-None.ensures.none refl) in
     store_refused v.code.now v.space.now v.buffers.now v.spots.now v.workable v.scratch.now c.args.at c.args.width some outside refused
 
 pub returns-in-None-clause-bytes : goal.returns-in-None-clause-bytes
@@ -100,7 +100,7 @@ returns-in-None-clause-bytes c =
     let some = width_some c.args.width c.requires in
     let outside = sym c.if-contains.ensures.exact in
     let refused = may_not_elsewhere v.code.now v.space.now v.buffers.now v.spots.now v.workable v.scratch.now c.args.at c.args.width some outside
-        (c.in-None.ensures.none refl) in
+    (c.in-None.ensures.none refl) in
     same_sight v.code.now v.space.now v.buffers.now v.spots.now v.workable v.scratch.now c.args.at c.args.width some outside refused c.args.value
 
 pub returns-in-None-clause-leaves : goal.returns-in-None-clause-leaves
@@ -109,7 +109,7 @@ returns-in-None-clause-leaves c =
     let some = width_some c.args.width c.requires in
     let outside = sym c.if-contains.ensures.exact in
     let refused = may_not_elsewhere v.code.now v.space.now v.buffers.now v.spots.now v.workable v.scratch.now c.args.at c.args.width some outside
-        (c.in-None.ensures.none refl) in
+    (c.in-None.ensures.none refl) in
     subst (λ (w : Option Write). TaskLeaves v w v)
     (sym (writes_nothing v.code.now v.space.now v.buffers.now v.spots.now v.workable v.scratch.now c.args.at c.args.width some outside refused c.args.value))
     (record {
