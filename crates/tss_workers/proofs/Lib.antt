@@ -7,3 +7,4 @@ pub mod SeatLemmas
 pub mod SightLemmas
 pub mod RunLemmas
 pub mod ScratchLemmas
+pub mod PlacedLemmas
