@@ -1,9 +1,9 @@
 -- The object with a base: which one the search finds, and what an epoch keeps when that one leaves.
-use Rattle.std.proofs.Common.{◌≡◌, ℕ, zero, suc, ◌+◌, ◌<◌, ◌≤◌, inl, inr, Bool, true, false, not, eqb, cond, List, [], ◌∷◌, ◌++◌, length, get_or, set, swap, Option, Some, None, refl, sym, ap, ◌∙◌, subst, arith, Bor, option_copied}
-use Rattle.std.specs.Prelude.{All, AllPairs, filter, find, remove, slice_get}
+use Rattle.std.proofs.Common.{◌≡◌, ℕ, zero, suc, ◌<◌, ◌≤◌, inl, inr, Bool, true, false, not, eqb, cond, List, [], ◌∷◌, length, get_or, set, swap, Option, Some, None, refl, sym, ap, ◌∙◌, subst, arith, Bor, option_copied}
+use Rattle.std.specs.Prelude.{All, filter, find, remove, slice_get}
 use Rattle.std.specs.Slice.{IsItemAt}
 use Rattle.std.specs.List.Sorted.{IsPermutation}
-use Rattle.std.proofs.lemmas.Bool.{cases_order, cases_Bool, cond-true, cond-false, eqb-true, eq-eqb, ne_eqb, not-true, not_from_true, not_from_false}
+use Rattle.std.proofs.lemmas.Bool.{cases_order, cases_Bool, cond-true, cond-false, eqb-true, eq-eqb, ne_eqb, not_from_true, not_from_false}
 use Rattle.std.proofs.lemmas.List.Elements.{All-filter, All-head, All-tail}
 use Rattle.std.proofs.lemmas.List.Filters.{length-filter_both}
 use Rattle.std.proofs.lemmas.List.Kept.{AllPairs-filter}

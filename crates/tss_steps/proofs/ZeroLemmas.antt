@@ -1,6 +1,5 @@
 -- Zeros before a place, and zeros from it on.
-use Rattle.std.proofs.Common.{◌≡◌, ℕ, zero, suc, ◌+◌, ◌-◌, ◌<◌, ◌≤◌, List, [], ◌∷◌, ◌++◌, length, take, drop, replicate, ap, refl, subst, sym, ◌∙◌, arith}
-use Rattle.std.specs.Prelude.{slice_index}
+use Rattle.std.proofs.Common.{◌≡◌, ℕ, zero, suc, ◌+◌, ◌-◌, ◌≤◌, List, [], ◌∷◌, ◌++◌, length, take, drop, replicate, ap, refl, subst, sym, ◌∙◌, arith}
 use Rattle.std.proofs.lemmas.List.{append-nil, replicate-append-replicate, length-replicate, get_or-replicate}
 use Rattle.tss_model.specs.Memory.{zeros, list_put, scratch_range}
 use Rattle.tss_core.proofs.PutLemmas.{list_put-below}

@@ -1,5 +1,5 @@
 -- The object where the search stops leaves both lists, if it has the base.
-use Rattle.std.proofs.Common.{◌≡◌, None, Some, is_some, sym, ap, ◌∙◌, subst, rules}
+use Rattle.std.proofs.Common.{◌≡◌, None, is_some, sym, ap, ◌∙◌, subst, rules}
 use Rattle.std.specs.Slice.{IsItemAt}
 use Rattle.std.proofs.lemmas.Fn.{filter_same}
 use Rattle.tss_model.specs.Spawn.{named_at, unnamed}
