@@ -1,5 +1,5 @@
 // Each trap.
-use super::{LOAD, STORE, X, executes, expect, prints};
+use super::{LOAD, STORE, X, executes, prints, with_limits};
 use std::alloc::Global;
 use std::test::Fail;
 use tss_asm::AsmFault;
@@ -25,6 +25,7 @@ fn trap(pc: u32, cause: u32, value: u32) -> Trap {
 #[test]
 fn main_jumps_to_no_instruction(rt: HostRuntime) -> Result<(), Fail> {
     let alloc = rt.alloc();
+    let small = with_limits(&rt, alloc, M0.limits);
     let rows: [(&str, u32, Trap); 3] = [
         ("at no multiple of 4", 0x10002, trap(0x10008, 0, 0x10002)),
         ("in no segment", 0x30000, trap(0x30000, 1, 0x30000)),
@@ -36,16 +37,7 @@ fn main_jumps_to_no_instruction(rt: HostRuntime) -> Result<(), Fail> {
     ];
     for (name, at, trapped) in &rows {
         let program = executes(alloc, *at, JUMP)?;
-        expect(
-            &rt,
-            alloc,
-            name,
-            program,
-            &M0.limits,
-            MainTrap(*trapped),
-            0,
-            b"",
-        )?;
+        small.expect(name, program, MainTrap(*trapped), 0, b"")?;
     }
     Ok(())
 }
@@ -53,44 +45,19 @@ fn main_jumps_to_no_instruction(rt: HostRuntime) -> Result<(), Fail> {
 #[test]
 fn main_executes_what_traps(rt: HostRuntime) -> Result<(), Fail> {
     let alloc = rt.alloc();
+    let small = with_limits(&rt, alloc, M0.limits);
     let illegal = MainTrap(trap(0x10000, 2, 0));
-    expect(
-        &rt,
-        alloc,
-        "a zero",
-        word(alloc, 0)?,
-        &M0.limits,
-        illegal,
-        0,
-        b"",
-    )?;
+    small.expect("a zero", word(alloc, 0)?, illegal, 0, b"")?;
     let breakpoint = MainTrap(trap(0x10000, 3, 0x10000));
-    expect(
-        &rt,
-        alloc,
-        "EBREAK",
-        word(alloc, 0x0010_0073)?,
-        &M0.limits,
-        breakpoint,
-        0,
-        b"",
-    )?;
+    small.expect("EBREAK", word(alloc, 0x0010_0073)?, breakpoint, 0, b"")?;
     let unknown = MainTrap(trap(0x10004, 10, 9));
-    expect(
-        &rt,
-        alloc,
-        "call 9",
-        ninth_call(alloc)?,
-        &M0.limits,
-        unknown,
-        0,
-        b"",
-    )
+    small.expect("call 9", ninth_call(alloc)?, unknown, 0, b"")
 }
 
 #[test]
 fn main_accesses_what_it_may_not(rt: HostRuntime) -> Result<(), Fail> {
     let alloc = rt.alloc();
+    let small = with_limits(&rt, alloc, M0.limits);
     let rows: [(&str, u32, Instr, Trap); 4] = [
         (
             "a load at no multiple of 4",
@@ -119,24 +86,12 @@ fn main_accesses_what_it_may_not(rt: HostRuntime) -> Result<(), Fail> {
     ];
     for (name, at, i, trapped) in &rows {
         let program = executes(alloc, *at, *i)?;
-        expect(
-            &rt,
-            alloc,
-            name,
-            program,
-            &M0.limits,
-            MainTrap(*trapped),
-            0,
-            b"",
-        )?;
+        small.expect(name, program, MainTrap(*trapped), 0, b"")?;
     }
     let past = MainTrap(trap(0x10018, 5, X + 0xFFE));
-    expect(
-        &rt,
-        alloc,
+    small.expect(
         "a print past the data",
         prints(alloc, X + 0xFFE, 3)?,
-        &M0.limits,
         past,
         0,
         b"",
@@ -146,6 +101,7 @@ fn main_accesses_what_it_may_not(rt: HostRuntime) -> Result<(), Fail> {
 #[test]
 fn a_task_traps(rt: HostRuntime) -> Result<(), Fail> {
     let alloc = rt.alloc();
+    let small = with_limits(&rt, alloc, M0.limits);
     let x = [input(X, 4)];
     let rows: [(&str, Code, &[Entry], Trap); 3] = [
         ("a call", Code::Call, &[], trap(0x10044, 8, 77)),
@@ -159,70 +115,26 @@ fn a_task_traps(rt: HostRuntime) -> Result<(), Fail> {
     ];
     for (name, code, entries, trapped) in &rows {
         let program = spawns(alloc, *code, entries)?;
-        expect(
-            &rt,
-            alloc,
-            name,
-            program,
-            &M0.limits,
-            TaskTrap(1, *trapped),
-            1,
-            b"",
-        )?;
+        small.expect(name, program, TaskTrap(1, *trapped), 1, b"")?;
     }
     let none = TaskTrap(1, trap(0x1004C, 2, 0));
-    expect(
-        &rt,
-        alloc,
-        "no instruction",
-        no_instruction(alloc)?,
-        &M0.limits,
-        none,
-        1,
-        b"",
-    )?;
+    small.expect("no instruction", no_instruction(alloc)?, none, 1, b"")?;
     let one = Limits {
         task_budget: 1,
         ..M0.limits
     };
     let spent = TaskTrap(1, trap(0x1006C, 9, 0));
-    expect(
-        &rt,
-        alloc,
-        "a spent budget",
-        hi(alloc)?,
-        &one,
-        spent,
-        1,
-        b"",
-    )
+    with_limits(&rt, alloc, one).expect("a spent budget", hi(alloc)?, spent, 1, b"")
 }
 
 #[test]
 fn the_first_trap_in_program_order(rt: HostRuntime) -> Result<(), Fail> {
     let alloc = rt.alloc();
+    let small = with_limits(&rt, alloc, M0.limits);
     let second = TaskTrap(2, trap(0x10144, 3, 0x10144));
-    expect(
-        &rt,
-        alloc,
-        "late trap",
-        late_trap(alloc)?,
-        &M0.limits,
-        second,
-        2,
-        b"a",
-    )?;
+    small.expect("late trap", late_trap(alloc)?, second, 2, b"a")?;
     let first = TaskTrap(1, trap(0x10078, 3, 0x10078));
-    expect(
-        &rt,
-        alloc,
-        "spinning reader",
-        spinning_reader(alloc)?,
-        &M0.limits,
-        first,
-        1,
-        b"",
-    )
+    small.expect("spinning reader", spinning_reader(alloc)?, first, 1, b"")
 }
 
 /// Main is one word.
