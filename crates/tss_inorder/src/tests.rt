@@ -21,37 +21,24 @@ use tss_programs::Source;
 /// Where the data of a program stands.
 const X: u32 = 0x20000;
 
-/// Runs programs in program order, under limits.
-#[derive(Drop)]
-struct Runs<'a, A: Abort> {
-    rt: &'a A,
+/// Checks what a program comes to in program order: its ending, its tasks and its output.
+fn expect(
+    rt: &impl Abort,
     alloc: Global,
-    limits: Limits,
-}
-
-/// Runs under these limits.
-fn with_limits<A: Abort>(rt: &A, alloc: Global, limits: Limits) -> Runs<'_, A> {
-    Runs { rt, alloc, limits }
-}
-
-impl<A: Abort> Runs<'_, A> {
-    /// Checks what a program comes to: its ending, its tasks and its output.
-    fn expect(
-        &self,
-        name: &str,
-        program: Vec<u8>,
-        ending: Ending,
-        tasks: u32,
-        output: &[u8],
-    ) -> Result<(), Fail> {
-        assert!(self.rt; self.limits.max_operands <= 7);
-        let image = read_image(self.alloc, program.as_slice())?;
-        let reference = run_in_order(self.alloc, &image, &self.limits)?;
-        assert_eq!(self.rt; reference.ending(), ending, "{name}");
-        assert_eq!(self.rt; reference.tasks(), tasks, "{name}");
-        assert_eq!(self.rt; reference.output(), output, "{name}");
-        Ok(())
-    }
+    name: &str,
+    program: Vec<u8>,
+    limits: &Limits,
+    ending: Ending,
+    tasks: u32,
+    output: &[u8],
+) -> Result<(), Fail> {
+    assert!(rt; limits.max_operands <= 7);
+    let image = read_image(alloc, program.as_slice())?;
+    let reference = run_in_order(alloc, &image, limits)?;
+    assert_eq!(rt; reference.ending(), ending, "{name}");
+    assert_eq!(rt; reference.tasks(), tasks, "{name}");
+    assert_eq!(rt; reference.output(), output, "{name}");
+    Ok(())
 }
 
 /// Main exits.

@@ -1,5 +1,5 @@
 // Main waits for one object.
-use super::{X, with_limits};
+use super::{X, expect};
 use crate::{Did, Flat};
 use std::process::Abort;
 use std::test::Fail;
@@ -11,10 +11,27 @@ use tss_programs::{M0, await_first, await_third};
 #[test]
 fn an_object_is_awaited_by_its_base(rt: HostRuntime) -> Result<(), Fail> {
     let alloc = rt.alloc();
-    let small = with_limits(&rt, alloc, M0.limits);
     let end = Ending::Exit(0);
-    small.expect("its task's object", await_first(alloc)?, end, 1, b"")?;
-    small.expect("the first of two", await_third(alloc)?, end, 2, b"")
+    expect(
+        &rt,
+        alloc,
+        "its task's object",
+        await_first(alloc)?,
+        &M0.limits,
+        end,
+        1,
+        b"",
+    )?;
+    expect(
+        &rt,
+        alloc,
+        "the first of two",
+        await_third(alloc)?,
+        &M0.limits,
+        end,
+        2,
+        b"",
+    )
 }
 
 /// An await is an event of its own, which tells the object.

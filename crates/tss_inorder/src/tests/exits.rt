@@ -1,5 +1,5 @@
 // Programs that exit.
-use super::{X, exits_with, prints, with_limits};
+use super::{X, exits_with, expect, prints};
 use std::alloc::Global;
 use std::test::Fail;
 use tss_asm::AsmFault;
@@ -14,15 +14,26 @@ use tss_programs::{
 #[test]
 fn main_alone(rt: HostRuntime) -> Result<(), Fail> {
     let alloc = rt.alloc();
-    let small = with_limits(&rt, alloc, M0.limits);
-    small.expect("exit 7", exit_seven(alloc)?, Exit(7), 0, b"")?;
+    expect(
+        &rt,
+        alloc,
+        "exit 7",
+        exit_seven(alloc)?,
+        &M0.limits,
+        Exit(7),
+        0,
+        b"",
+    )?;
     let five = Limits {
         main_budget: 5,
         ..M0.limits
     };
-    with_limits(&rt, alloc, five).expect(
+    expect(
+        &rt,
+        alloc,
         "a budget that suffices",
         exits_with(alloc, 3)?,
+        &five,
         Exit(3),
         0,
         b"",
@@ -31,16 +42,22 @@ fn main_alone(rt: HostRuntime) -> Result<(), Fail> {
         output_bytes: 1,
         ..M0.limits
     };
-    with_limits(&rt, alloc, one).expect(
+    expect(
+        &rt,
+        alloc,
         "all that may be printed",
         prints(alloc, X, 1)?,
+        &one,
         Exit(0),
         0,
         b"\x00",
     )?;
-    small.expect(
+    expect(
+        &rt,
+        alloc,
         "a print of no byte",
         prints(alloc, 0x30000, 0)?,
+        &M0.limits,
         Exit(0),
         0,
         b"",
@@ -50,37 +67,127 @@ fn main_alone(rt: HostRuntime) -> Result<(), Fail> {
 #[test]
 fn tasks_write_and_read(rt: HostRuntime) -> Result<(), Fail> {
     let alloc = rt.alloc();
-    let small = with_limits(&rt, alloc, M0.limits);
-    small.expect("hi", hi(alloc)?, Exit(0), 1, b"Hi!?")?;
+    expect(
+        &rt,
+        alloc,
+        "hi",
+        hi(alloc)?,
+        &M0.limits,
+        Exit(0),
+        1,
+        b"Hi!?",
+    )?;
     let two = Limits {
         task_budget: 2,
         ..M0.limits
     };
-    with_limits(&rt, alloc, two).expect("a budget that suffices", hi(alloc)?, Exit(0), 1, b"Hi!?")?;
-    small.expect("renamed output", renamed_output(alloc)?, Exit(0), 3, b"ac")?;
-    small.expect("many readers", many_readers(alloc)?, Exit(0), 9, b"b")?;
-    small.expect("seven operands", full_tables(alloc)?, Exit(0), 2, b"")?;
-    small.expect("two readers", idle_race(alloc)?, Exit(0), 2, b"")
+    expect(
+        &rt,
+        alloc,
+        "a budget that suffices",
+        hi(alloc)?,
+        &two,
+        Exit(0),
+        1,
+        b"Hi!?",
+    )?;
+    expect(
+        &rt,
+        alloc,
+        "renamed output",
+        renamed_output(alloc)?,
+        &M0.limits,
+        Exit(0),
+        3,
+        b"ac",
+    )?;
+    expect(
+        &rt,
+        alloc,
+        "many readers",
+        many_readers(alloc)?,
+        &M0.limits,
+        Exit(0),
+        9,
+        b"b",
+    )?;
+    expect(
+        &rt,
+        alloc,
+        "seven operands",
+        full_tables(alloc)?,
+        &M0.limits,
+        Exit(0),
+        2,
+        b"",
+    )?;
+    expect(
+        &rt,
+        alloc,
+        "two readers",
+        idle_race(alloc)?,
+        &M0.limits,
+        Exit(0),
+        2,
+        b"",
+    )
 }
 
 #[test]
 fn operands_are_merged(rt: HostRuntime) -> Result<(), Fail> {
     let alloc = rt.alloc();
-    let small = with_limits(&rt, alloc, M0.limits);
     let merged = merged_operands(alloc)?;
-    small.expect("input and output", merged, Exit(0), 1, b"B")?;
-    small.expect("an output alone", output_alone(alloc)?, Exit(0), 1, b"\x01")?;
-    small.expect("three as listed", listed(alloc)?, Exit(0), 1, b"z")
+    expect(
+        &rt,
+        alloc,
+        "input and output",
+        merged,
+        &M0.limits,
+        Exit(0),
+        1,
+        b"B",
+    )?;
+    expect(
+        &rt,
+        alloc,
+        "an output alone",
+        output_alone(alloc)?,
+        &M0.limits,
+        Exit(0),
+        1,
+        b"\x01",
+    )?;
+    expect(
+        &rt,
+        alloc,
+        "three as listed",
+        listed(alloc)?,
+        &M0.limits,
+        Exit(0),
+        1,
+        b"z",
+    )
 }
 
 #[test]
 fn objects_lie_side_by_side(rt: HostRuntime) -> Result<(), Fail> {
     let alloc = rt.alloc();
-    let small = with_limits(&rt, alloc, M0.limits);
-    small.expect("side by side", partial_overlap(alloc, 4)?, Exit(0), 1, b"")?;
-    small.expect(
+    expect(
+        &rt,
+        alloc,
+        "side by side",
+        partial_overlap(alloc, 4)?,
+        &M0.limits,
+        Exit(0),
+        1,
+        b"",
+    )?;
+    expect(
+        &rt,
+        alloc,
         "at the end",
         last_word(alloc)?,
+        &M0.limits,
         Exit(0),
         1,
         b"a\x00\x00\x00",
@@ -90,12 +197,23 @@ fn objects_lie_side_by_side(rt: HostRuntime) -> Result<(), Fail> {
 #[test]
 fn an_epoch_and_a_scratch_begin_anew(rt: HostRuntime) -> Result<(), Fail> {
     let alloc = rt.alloc();
-    let small = with_limits(&rt, alloc, M0.limits);
     let touched = main_touch_after_barrier(alloc)?;
-    small.expect("after a barrier", touched, Exit(0), 1, b"")?;
-    small.expect(
+    expect(
+        &rt,
+        alloc,
+        "after a barrier",
+        touched,
+        &M0.limits,
+        Exit(0),
+        1,
+        b"",
+    )?;
+    expect(
+        &rt,
+        alloc,
         "zeros in a scratch",
         scratches(alloc)?,
+        &M0.limits,
         Exit(0),
         2,
         b"\x00\x00",

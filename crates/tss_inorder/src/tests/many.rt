@@ -1,5 +1,5 @@
 // The most tasks, and the most objects of an epoch.
-use super::{X, with_limits};
+use super::{X, expect};
 use std::alloc::Global;
 use std::test::Fail;
 use tss_asm::AsmFault;
@@ -20,25 +20,50 @@ fn most() -> Limits {
 #[test]
 fn the_most_tasks(rt: HostRuntime) -> Result<(), Fail> {
     let alloc = rt.alloc();
-    let small = with_limits(&rt, alloc, M0.limits);
-    with_limits(&rt, alloc, most()).expect("without operands", tasks(alloc)?, Exit(0), 65_536, b"")
+    expect(
+        &rt,
+        alloc,
+        "without operands",
+        tasks(alloc)?,
+        &most(),
+        Exit(0),
+        65_536,
+        b"",
+    )
 }
 
 #[test]
 fn the_most_objects_of_an_epoch(rt: HostRuntime) -> Result<(), Fail> {
     let alloc = rt.alloc();
-    let small = with_limits(&rt, alloc, M0.limits);
     let all = Limits {
         epoch_objects: 65_536,
         ..most()
     };
-    with_limits(&rt, alloc, all).expect("an object a task", objects(alloc)?, Exit(0), 65_536, b"")?;
+    expect(
+        &rt,
+        alloc,
+        "an object a task",
+        objects(alloc)?,
+        &all,
+        Exit(0),
+        65_536,
+        b"",
+    )?;
     let fewer = Limits {
         epoch_objects: 65_535,
         ..most()
     };
     let refused = Refused(9, 0x1004C);
-    with_limits(&rt, alloc, fewer).expect("one more", objects(alloc)?, refused, 65_535, b"")
+    expect(
+        &rt,
+        alloc,
+        "one more",
+        objects(alloc)?,
+        &fewer,
+        refused,
+        65_535,
+        b"",
+    )
 }
 
 /// Main spawns 65,536 tasks in a loop.

@@ -1,5 +1,5 @@
 // Each refusal.
-use super::{X, exits_with, with_limits};
+use super::{X, exits_with, expect};
 use std::alloc::Global;
 use std::test::Fail;
 use tss_asm::AsmFault;
@@ -16,17 +16,33 @@ const SPAWN_PC: u32 = 0x10028;
 #[test]
 fn a_list_is_refused(rt: HostRuntime) -> Result<(), Fail> {
     let alloc = rt.alloc();
-    let small = with_limits(&rt, alloc, M0.limits);
     let many = no_operands(alloc, 8)?;
-    small.expect("eight operands", many, Refused(1, SPAWN_PC), 0, b"")?;
+    expect(
+        &rt,
+        alloc,
+        "eight operands",
+        many,
+        &M0.limits,
+        Refused(1, SPAWN_PC),
+        0,
+        b"",
+    )?;
     let odd = odd_list(alloc)?;
-    small.expect("at no multiple of 4", odd, Refused(2, 0x10010), 0, b"")
+    expect(
+        &rt,
+        alloc,
+        "at no multiple of 4",
+        odd,
+        &M0.limits,
+        Refused(2, 0x10010),
+        0,
+        b"",
+    )
 }
 
 #[test]
 fn an_entry_is_refused(rt: HostRuntime) -> Result<(), Fail> {
     let alloc = rt.alloc();
-    let small = with_limits(&rt, alloc, M0.limits);
     let nine = Entry {
         mode: 9,
         ..input(X + 2, 4)
@@ -57,29 +73,58 @@ fn an_entry_is_refused(rt: HostRuntime) -> Result<(), Fail> {
     ];
     for (name, entries, number) in &rows {
         let program = spawns(alloc, entries)?;
-        small.expect(name, program, Refused(*number, SPAWN_PC), 0, b"")?;
+        expect(
+            &rt,
+            alloc,
+            name,
+            program,
+            &M0.limits,
+            Refused(*number, SPAWN_PC),
+            0,
+            b"",
+        )?;
     }
     let five = partial_overlap(alloc, 5)?;
-    small.expect("partial overlap", five, Refused(8, SPAWN_PC), 0, b"")
+    expect(
+        &rt,
+        alloc,
+        "partial overlap",
+        five,
+        &M0.limits,
+        Refused(8, SPAWN_PC),
+        0,
+        b"",
+    )
 }
 
 #[test]
 fn limits_are_reached(rt: HostRuntime) -> Result<(), Fail> {
     let alloc = rt.alloc();
-    let small = with_limits(&rt, alloc, M0.limits);
     let one_object = Limits {
         epoch_objects: 1,
         ..M0.limits
     };
     let two = spawns(alloc, &[input(X, 4), input(X + 4, 4)])?;
-    with_limits(&rt, alloc, one_object).expect("named objects", two, Refused(9, SPAWN_PC), 0, b"")?;
+    expect(
+        &rt,
+        alloc,
+        "named objects",
+        two,
+        &one_object,
+        Refused(9, SPAWN_PC),
+        0,
+        b"",
+    )?;
     let one_task = Limits {
         max_tasks: 1,
         ..M0.limits
     };
-    with_limits(&rt, alloc, one_task).expect(
+    expect(
+        &rt,
+        alloc,
         "tasks",
         two_tasks(alloc)?,
+        &one_task,
         Refused(10, 0x10054),
         1,
         b"",
@@ -88,9 +133,12 @@ fn limits_are_reached(rt: HostRuntime) -> Result<(), Fail> {
         main_budget: 4,
         ..M0.limits
     };
-    with_limits(&rt, alloc, four).expect(
+    expect(
+        &rt,
+        alloc,
         "instructions",
         exits_with(alloc, 3)?,
+        &four,
         Refused(11, 0x10010),
         0,
         b"",
@@ -100,25 +148,68 @@ fn limits_are_reached(rt: HostRuntime) -> Result<(), Fail> {
         ..M0.limits
     };
     let twice = two_prints(alloc)?;
-    with_limits(&rt, alloc, one_byte).expect("output", twice, Refused(12, 0x10034), 0, b"\x00")
+    expect(
+        &rt,
+        alloc,
+        "output",
+        twice,
+        &one_byte,
+        Refused(12, 0x10034),
+        0,
+        b"\x00",
+    )
 }
 
 #[test]
 fn main_touches_what_it_named(rt: HostRuntime) -> Result<(), Fail> {
     let alloc = rt.alloc();
-    let small = with_limits(&rt, alloc, M0.limits);
-    small.expect("a load", main_touch(alloc)?, Refused(3, 0x10034), 1, b"")?;
-    small.expect("a print", print_touch(alloc)?, Refused(3, 0x10044), 1, b"")
+    expect(
+        &rt,
+        alloc,
+        "a load",
+        main_touch(alloc)?,
+        &M0.limits,
+        Refused(3, 0x10034),
+        1,
+        b"",
+    )?;
+    expect(
+        &rt,
+        alloc,
+        "a print",
+        print_touch(alloc)?,
+        &M0.limits,
+        Refused(3, 0x10044),
+        1,
+        b"",
+    )
 }
 
 #[test]
 fn what_is_not_named_is_not_awaited(rt: HostRuntime) -> Result<(), Fail> {
     let alloc = rt.alloc();
-    let small = with_limits(&rt, alloc, M0.limits);
     let other = await_second(alloc)?;
-    small.expect("another base", other, Refused(13, 0x1003C), 1, b"")?;
+    expect(
+        &rt,
+        alloc,
+        "another base",
+        other,
+        &M0.limits,
+        Refused(13, 0x1003C),
+        1,
+        b"",
+    )?;
     let twice = await_twice(alloc)?;
-    small.expect("a second time", twice, Refused(13, 0x10050), 1, b"")
+    expect(
+        &rt,
+        alloc,
+        "a second time",
+        twice,
+        &M0.limits,
+        Refused(13, 0x10050),
+        1,
+        b"",
+    )
 }
 
 /// Main spawns a task with these operands, and exits.

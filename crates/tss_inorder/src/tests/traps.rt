@@ -1,5 +1,5 @@
 // Each trap.
-use super::{LOAD, STORE, X, executes, prints, with_limits};
+use super::{LOAD, STORE, X, executes, expect, prints};
 use std::alloc::Global;
 use std::test::Fail;
 use tss_asm::AsmFault;
@@ -25,7 +25,6 @@ fn trap(pc: u32, cause: u32, value: u32) -> Trap {
 #[test]
 fn main_jumps_to_no_instruction(rt: HostRuntime) -> Result<(), Fail> {
     let alloc = rt.alloc();
-    let small = with_limits(&rt, alloc, M0.limits);
     let rows: [(&str, u32, Trap); 3] = [
         ("at no multiple of 4", 0x10002, trap(0x10008, 0, 0x10002)),
         ("in no segment", 0x30000, trap(0x30000, 1, 0x30000)),
@@ -37,7 +36,16 @@ fn main_jumps_to_no_instruction(rt: HostRuntime) -> Result<(), Fail> {
     ];
     for (name, at, trapped) in &rows {
         let program = executes(alloc, *at, JUMP)?;
-        small.expect(name, program, MainTrap(*trapped), 0, b"")?;
+        expect(
+            &rt,
+            alloc,
+            name,
+            program,
+            &M0.limits,
+            MainTrap(*trapped),
+            0,
+            b"",
+        )?;
     }
     Ok(())
 }
@@ -45,19 +53,44 @@ fn main_jumps_to_no_instruction(rt: HostRuntime) -> Result<(), Fail> {
 #[test]
 fn main_executes_what_traps(rt: HostRuntime) -> Result<(), Fail> {
     let alloc = rt.alloc();
-    let small = with_limits(&rt, alloc, M0.limits);
     let illegal = MainTrap(trap(0x10000, 2, 0));
-    small.expect("a zero", word(alloc, 0)?, illegal, 0, b"")?;
+    expect(
+        &rt,
+        alloc,
+        "a zero",
+        word(alloc, 0)?,
+        &M0.limits,
+        illegal,
+        0,
+        b"",
+    )?;
     let breakpoint = MainTrap(trap(0x10000, 3, 0x10000));
-    small.expect("EBREAK", word(alloc, 0x0010_0073)?, breakpoint, 0, b"")?;
+    expect(
+        &rt,
+        alloc,
+        "EBREAK",
+        word(alloc, 0x0010_0073)?,
+        &M0.limits,
+        breakpoint,
+        0,
+        b"",
+    )?;
     let unknown = MainTrap(trap(0x10004, 10, 9));
-    small.expect("call 9", ninth_call(alloc)?, unknown, 0, b"")
+    expect(
+        &rt,
+        alloc,
+        "call 9",
+        ninth_call(alloc)?,
+        &M0.limits,
+        unknown,
+        0,
+        b"",
+    )
 }
 
 #[test]
 fn main_accesses_what_it_may_not(rt: HostRuntime) -> Result<(), Fail> {
     let alloc = rt.alloc();
-    let small = with_limits(&rt, alloc, M0.limits);
     let rows: [(&str, u32, Instr, Trap); 4] = [
         (
             "a load at no multiple of 4",
@@ -86,12 +119,24 @@ fn main_accesses_what_it_may_not(rt: HostRuntime) -> Result<(), Fail> {
     ];
     for (name, at, i, trapped) in &rows {
         let program = executes(alloc, *at, *i)?;
-        small.expect(name, program, MainTrap(*trapped), 0, b"")?;
+        expect(
+            &rt,
+            alloc,
+            name,
+            program,
+            &M0.limits,
+            MainTrap(*trapped),
+            0,
+            b"",
+        )?;
     }
     let past = MainTrap(trap(0x10018, 5, X + 0xFFE));
-    small.expect(
+    expect(
+        &rt,
+        alloc,
         "a print past the data",
         prints(alloc, X + 0xFFE, 3)?,
+        &M0.limits,
         past,
         0,
         b"",
@@ -101,7 +146,6 @@ fn main_accesses_what_it_may_not(rt: HostRuntime) -> Result<(), Fail> {
 #[test]
 fn a_task_traps(rt: HostRuntime) -> Result<(), Fail> {
     let alloc = rt.alloc();
-    let small = with_limits(&rt, alloc, M0.limits);
     let x = [input(X, 4)];
     let rows: [(&str, Code, &[Entry], Trap); 3] = [
         ("a call", Code::Call, &[], trap(0x10044, 8, 77)),
@@ -115,26 +159,70 @@ fn a_task_traps(rt: HostRuntime) -> Result<(), Fail> {
     ];
     for (name, code, entries, trapped) in &rows {
         let program = spawns(alloc, *code, entries)?;
-        small.expect(name, program, TaskTrap(1, *trapped), 1, b"")?;
+        expect(
+            &rt,
+            alloc,
+            name,
+            program,
+            &M0.limits,
+            TaskTrap(1, *trapped),
+            1,
+            b"",
+        )?;
     }
     let none = TaskTrap(1, trap(0x1004C, 2, 0));
-    small.expect("no instruction", no_instruction(alloc)?, none, 1, b"")?;
+    expect(
+        &rt,
+        alloc,
+        "no instruction",
+        no_instruction(alloc)?,
+        &M0.limits,
+        none,
+        1,
+        b"",
+    )?;
     let one = Limits {
         task_budget: 1,
         ..M0.limits
     };
     let spent = TaskTrap(1, trap(0x1006C, 9, 0));
-    with_limits(&rt, alloc, one).expect("a spent budget", hi(alloc)?, spent, 1, b"")
+    expect(
+        &rt,
+        alloc,
+        "a spent budget",
+        hi(alloc)?,
+        &one,
+        spent,
+        1,
+        b"",
+    )
 }
 
 #[test]
 fn the_first_trap_in_program_order(rt: HostRuntime) -> Result<(), Fail> {
     let alloc = rt.alloc();
-    let small = with_limits(&rt, alloc, M0.limits);
     let second = TaskTrap(2, trap(0x10144, 3, 0x10144));
-    small.expect("late trap", late_trap(alloc)?, second, 2, b"a")?;
+    expect(
+        &rt,
+        alloc,
+        "late trap",
+        late_trap(alloc)?,
+        &M0.limits,
+        second,
+        2,
+        b"a",
+    )?;
     let first = TaskTrap(1, trap(0x10078, 3, 0x10078));
-    small.expect("spinning reader", spinning_reader(alloc)?, first, 1, b"")
+    expect(
+        &rt,
+        alloc,
+        "spinning reader",
+        spinning_reader(alloc)?,
+        &M0.limits,
+        first,
+        1,
+        b"",
+    )
 }
 
 /// Main is one word.
