@@ -8,6 +8,8 @@ mod operand_view;
 mod slot;
 mod slots;
 mod stations;
+#[cfg(test)]
+mod tests;
 
 pub use operand_view::OperandView;
 pub use stations::Stations;
