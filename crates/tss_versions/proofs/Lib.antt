@@ -6,3 +6,4 @@ pub mod UnlinkLemmas
 pub mod CallLemmas
 pub mod StepLemmas
 pub mod NumberLemmas
+pub mod EmptyLemmas
