@@ -50,6 +50,13 @@ impl Scratch {
         self.low = SCRATCH.len as usize;
     }
 
+    /// All bytes.
+    pub fn bytes(&self) -> &[u8]
+        ensures { result.now ≡ self.now }
+    {
+        self.bytes.as_slice()
+    }
+
     /// The number in the bytes of an access, the lowest first.
     #[inline(always)]
     pub fn number(&self, r: &Range) -> u32

@@ -1,0 +1,5 @@
+pub mod Letters
+pub mod Seen
+pub mod State
+pub mod Fit
+pub mod Does

@@ -1,0 +1,156 @@
+// A bank of the tables for renaming and versioning, with its copy engine.
+use tss_base::{OpName, Range, Storage};
+use std::mem;
+use tss_buffers::{CopyEngine, Moved};
+use tss_events::{Gone, HeldBuffer};
+use tss_renaming::Renaming;
+use tss_tokens::Token;
+use tss_versions::Versions;
+
+/// What a bank copies home: a version that has retired, its object, the token of its place, and the name of its buffer,
+/// whose token the copy engine has.
+pub(crate) struct Job {
+    pub(crate) version: OpName,
+    pub(crate) object: Range,
+    pub(crate) place: Token,
+    pub(crate) buffer: OpName,
+}
+
+/// A piece of a copy: the place of its buffer, where it begins there and in memory, its length, and after the last piece
+/// that the version is gone.
+pub(crate) struct Piece {
+    pub(crate) place: u32,
+    pub(crate) from: u32,
+    pub(crate) to: u32,
+    pub(crate) len: u32,
+    pub(crate) gone: Option<Gone>,
+}
+
+/// A bank: its renaming table, its versioning table, and its copy engine with what it copies.
+pub(crate) struct Bank {
+    pub(crate) renaming: Renaming,
+    pub(crate) versions: Versions,
+    pub(crate) engine: CopyEngine,
+    pub(crate) job: Option<Job>,
+}
+
+impl Bank {
+    /// Whether a version lies at home.
+    pub(crate) fn is_home(&self, v: OpName) -> bool {
+        match self.versions.version(v) {
+            Some(version) => version.storage == Some(Storage::Home),
+            None => false,
+        }
+    }
+
+    /// Begins to copy a version that has retired home, where its value lies in a buffer. Else it is gone at once.
+    pub(crate) fn bring_home(&mut self, gone: Gone) -> Option<Gone> {
+        let Gone {
+            version,
+            object,
+            place,
+            buffer,
+            retired,
+        } = gone;
+        let Some(HeldBuffer { name, token }) = buffer else {
+            return Some(Gone {
+                version,
+                object,
+                place,
+                buffer: None,
+                retired,
+            });
+        };
+        match self.engine.start(token, object) {
+            Ok(()) => {}
+            Err(_) => unreachable!(),
+        }
+        let job = Job {
+            version,
+            object,
+            place,
+            buffer: name,
+        };
+        match mem::replace(&mut self.job, Some(job)) {
+            None => {}
+            Some(_) => unreachable!(),
+        }
+        None
+    }
+
+    /// The next piece of what the bank copies: where it begins in the buffer and in memory, its length, and after the
+    /// last piece that the version is gone.
+    pub(crate) fn next_piece(&mut self) -> Piece {
+        let object = match &self.job {
+            Some(job) => job.object,
+            None => unreachable!(),
+        };
+        let Moved {
+            place,
+            at,
+            len,
+            last,
+        } = match self.engine.advance() {
+            Ok(moved) => moved,
+            Err(_) => unreachable!(),
+        };
+        let gone = match last {
+            Some(token) => Some(self.end_job(token)),
+            None => None,
+        };
+        Piece {
+            place,
+            from: at,
+            to: object.base + at,
+            len,
+            gone,
+        }
+    }
+
+    /// The copy is over: the version is gone, with its buffer.
+    fn end_job(&mut self, token: Token) -> Gone {
+        match self.job.take() {
+            Some(Job {
+                version,
+                object,
+                place,
+                buffer,
+            }) => Gone {
+                version,
+                object,
+                place,
+                buffer: Some(HeldBuffer {
+                    name: buffer,
+                    token,
+                }),
+                retired: true,
+            },
+            None => unreachable!(),
+        }
+    }
+
+    /// Whether nothing is in the bank.
+    pub(crate) fn is_empty(&self) -> bool {
+        self.renaming.entries() == 0
+            && self.renaming.places() == 0
+            && self.renaming.buffers() == 0
+            && self.versions.count() == 0
+            && self.job.is_none()
+    }
+
+    /// Ends a bank with nothing in it.
+    pub(crate) fn close_empty(self) {
+        let Bank {
+            renaming,
+            versions,
+            engine,
+            job,
+        } = self;
+        let (places, buffers) = renaming.close();
+        versions.close(&places, &buffers);
+        match (engine.close(), job) {
+            (None, None) => {}
+            _ => unreachable!(),
+        }
+    }
+}

@@ -1,0 +1,118 @@
+// Main, the inbox and the gateway: main's event, take and ack.
+ghost use Rattle.std.specs.Prelude.{◌≡◌};
+ghost use Rattle.tss_base.specs.declared.event.Event.TheVariants as event;
+ghost use Rattle.tss_protocol.specs.UnitMachine.{is_enabled};
+ghost use Rattle.tss_pipeline.specs.Does.{Does, May};
+ghost use Rattle.tss_pipeline.specs.Fit.{IsFit};
+ghost use Rattle.tss_pipeline.specs.State.{state_of};
+
+use crate::step::NotEnabled;
+use crate::letters::take_ack;
+use crate::units::Units;
+use tss_base::calls::{AWAIT, BARRIER, SPAWN};
+use tss_base::{Event, OpName, Range};
+use tss_events::Message;
+
+impl Units {
+    /// Whether main's event may happen: it hasn't ended, no trap is held, and its next call, if it is one, needn't wait.
+    pub(crate) fn can_main(&self) -> bool
+        requires { IsFit self.now }
+        ensures { result ≡ is_enabled self.now.machine (state_of self.now) event.Main }
+    {
+        self.main.ending().is_none() && self.trap.is_none() && self.may_call(self.main.next_call(&self.code))
+    }
+
+    /// Whether a call of this number needn't wait: a spawn waits for an empty inbox, a barrier for a drained state, and an
+    /// await for its object.
+    fn may_call(&self, call: Option<u32>) -> bool {
+        match call {
+            Some(SPAWN) => self.gateway.inbox().is_none(),
+            Some(BARRIER) => self.is_drained(),
+            Some(AWAIT) => self.may_await(),
+            _ => true,
+        }
+    }
+
+    /// Whether the object that main awaits is at home, or there is none.
+    fn may_await(&self) -> bool {
+        match self.main.awaited() {
+            Some(object) => self.is_at_home(&object),
+            None => true,
+        }
+    }
+
+    /// Whether an object is at home: it has no entry, no operand of the inbox's task is on it, and none that is to be
+    /// decoded.
+    fn is_at_home(&self, object: &Range) -> bool {
+        !self.has_entry(object) && !self.is_arriving(object) && !self.is_decoding(object)
+    }
+
+    /// Main's event: a call alone, or a stretch of steps.
+    pub(crate) fn main_event(&mut self)
+        requires fit { IsFit self.old }
+        requires may { May event.Main self.old }
+        ensures { Does event.Main self.old self.new }
+    {
+        if self.main.next_call(&self.code).is_none() {
+            let most = self.machine.sizes.quantum;
+            self.main.stretch(&self.code, &mut self.space, most);
+            return;
+        }
+        if let Some(task) = self.main.call(&self.space) {
+            match self.gateway.accept(task) {
+                Ok(()) => {}
+                Err(_) => unreachable!(),
+            }
+        }
+    }
+
+    /// Whether the inbox's task may be taken: there is one, fewer tasks than the window are held, and its station has a
+    /// free slot.
+    pub(crate) fn can_take(&self) -> bool
+        requires { IsFit self.now }
+        ensures { result ≡ is_enabled self.now.machine (state_of self.now) event.Take }
+    {
+        match self.gateway.inbox() {
+            Some(task) => self.gateway.has_window() && self.stations.room(task.number),
+            None => false,
+        }
+    }
+
+    /// The inbox's task goes into flight: its operands are to be decoded. Without operands it is queued.
+    pub(crate) fn take(&mut self)
+        requires fit { IsFit self.old }
+        requires may { May event.Take self.old }
+        ensures { Does event.Take self.old self.new }
+    {
+        let Ok(task) = self.gateway.take() else {
+            unreachable!();
+        };
+        self.stations.enter(&task);
+        if task.count == 0 {
+            self.queue.push(task.number);
+        }
+        for place in 0..task.count {
+            let o = OpName {
+                task: task.number,
+                place,
+            };
+            let operand = task.operands[place as usize];
+            let bank = self.bank_of(&operand.object);
+            self.banks[bank as usize].renaming.expect(o);
+            self.mail.post(Message::Decode(o, operand));
+        }
+    }
+
+    /// An operand is acknowledged.
+    pub(crate) fn ack(&mut self, o: OpName)
+        requires fit { IsFit self.old }
+        requires may { May (event.Ack o) self.old }
+        ensures { Does (event.Ack o) self.old self.new }
+    {
+        take_ack(&mut self.mail, o);
+        match self.gateway.ack(o) {
+            Ok(()) => {}
+            Err(_) => unreachable!(),
+        }
+    }
+}
