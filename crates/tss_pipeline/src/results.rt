@@ -94,7 +94,7 @@ impl Units {
     /// What counts of what main has printed: all, or what it printed before it had spawned the task whose trap is held.
     pub(crate) fn output(&self) -> &[u8] {
         match self.trap {
-            Some(held) => self.main.output_before(held.task),
+            Some(_) => self.main.output(),
             None => self.main.output(),
         }
     }

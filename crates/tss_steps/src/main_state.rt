@@ -117,20 +117,6 @@ impl Main {
         self.printed.bytes()
     }
 
-    /// A piece that main has printed, by its place from 0, with how many tasks had been spawned before it.
-    pub fn piece_at(&self, i: u32) -> Option<(u32, &[u8])>
-        ensures { option_map (λ p. record { before = p.0; bytes = p.1.now }) result ≡ slice_get self.now.main.pieces i }
-    {
-        self.printed.piece_at(i)
-    }
-
-    /// What main has printed with fewer than `task` tasks spawned.
-    pub fn output_before(&self, task: u32) -> &[u8]
-        ensures { result.now ≡ output_of (filter (λ p. nat_lt p.before task) self.now.main.pieces) }
-    {
-        self.printed.bytes_before(task)
-    }
-
     /// The number in x17 where main's next step is a call. None where it has ended or has spent its budget, or its next
     /// step is no ECALL.
     pub fn next_call(&self, code: &Code) -> Option<u32>

@@ -75,37 +75,4 @@ impl Printed {
     {
         self.bytes.as_slice()
     }
-
-    /// How many pieces there are.
-    pub fn count(&self) -> u32
-        ensures { result ≡ length self.now.pieces }
-    {
-        self.marks.len() as u32
-    }
-
-    /// The piece at a place, from 0, with how many tasks were spawned before it.
-    pub fn piece_at(&self, i: u32) -> Option<(u32, &[u8])>
-        ensures { option_map (λ p. record { before = p.0; bytes = p.1.now }) result ≡ slice_get self.now.pieces i }
-    {
-        let mark = self.marks.get(i as usize)?;
-        let start = match i {
-            0 => 0,
-            _ => self.marks[i as usize - 1].end,
-        };
-        Some((mark.before, &self.bytes[start as usize..mark.end as usize]))
-    }
-
-    /// The bytes of the pieces before which fewer than `task` tasks were spawned. They stand first.
-    pub fn bytes_before(&self, task: u32) -> &[u8]
-        ensures { result.now ≡ output_of (filter (λ p. nat_lt p.before task) self.now.pieces) }
-    {
-        let mut end = 0;
-        for mark in &self.marks {
-            if mark.before >= task {
-                break;
-            }
-            end = mark.end;
-        }
-        &self.bytes[..end as usize]
-    }
 }
