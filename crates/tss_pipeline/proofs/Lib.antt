@@ -1,0 +1,5 @@
+pub mod Grounds
+pub mod BankChanges
+pub mod Holds
+pub mod Lookups
+pub mod Placing

@@ -3,12 +3,14 @@
 use Rattle.std.specs.Prelude.{◌≡◌, ◌<◌, ◌⊎◌, ℕ, ◌+◌, ◌*◌, List, Option, Some, None, length, slice_get}
 use Rattle.std.specs.FinMap.{get}
 use Rattle.tss_base.specs.declared.machine.Machine.{Machine}
+use Rattle.tss_base.specs.declared.machine.Sizes.{Sizes}
 use Rattle.tss_base.specs.declared.operand.OpName.{OpName}
 use Rattle.tss_base.specs.declared.operand.Operand.{Operand}
 use Rattle.tss_base.specs.declared.operand.Storage.{Storage}
 use Rattle.tss_base.specs.declared.operand.Storage.TheVariants as storage
 use Rattle.tss_model.specs.Access.{operands_of}
 use Rattle.tss_workers.specs.declared.running.Worker.{Worker}
+use Rattle.tss_base.specs.Names.{Named, Numbered}
 use Rattle.tss_base.specs.Image.{ImageState}
 use Rattle.tss_tokens.specs.Pool.{TokenState}
 use Rattle.tss_events.specs.declared.message.Opening.{Opening}
@@ -18,7 +20,6 @@ use Rattle.tss_protocol.specs.Names.{bank_of}
 use Rattle.tss_protocol.specs.Renaming.{line_of}
 use Rattle.tss_protocol.specs.Counts.{message_limit, all_slots}
 use Rattle.tss_protocol.specs.State.{State}
-use Rattle.tss_mail.specs.Letters.{mail_of}
 use Rattle.tss_banks.specs.Tables.{AreBankTables}
 use Rattle.tss_banks.specs.Versions.{VersionsInBanks}
 use Rattle.tss_renaming.specs.Bank.{RenamingState}
@@ -119,34 +120,58 @@ pub record HoldsOwn (b : Bank) : Type 0 where
   pub versions : (v : OpName) (y : Kept) → get b.versions.versions v ≡ Some y → HoldsKept b.renaming v y
   pub engine : IsEngaged b.renaming b.engine b.job
 
--- the tokens of the messages of a bank's objects
-pub record HoldsLetters (u : Units) (n : ℕ) (b : Bank) : Type 0 where
-  pub opens : (o : OpName) (x : Opening) → get u.mail.opens o ≡ Some x
-      → bank_of u.machine.sizes x.operand.object ≡ n → HoldsOpening b.renaming x
-  pub gones : (v : OpName) (g : Gone) → get u.mail.gones v ≡ Some g
-      → bank_of u.machine.sizes g.object ≡ n → HoldsGone b.renaming g
-  pub line : b.renaming.line ≡ line_of u.machine.sizes n (mail_of u.mail).decodes
+-- ---- what tokens and places rest on
 
--- ---- workers
+-- the sizes, the banks, the workers, and the messages that have tokens or stand in a line
+pub record Ground : Type 0 where
+  pub sizes : Sizes
+  pub banks : List Bank
+  pub workers : Numbered Worker
+  pub opens : Named Opening
+  pub gones : Named Gone
+  pub decodes : Named Operand
+
+-- those of the units
+abbrev pub ground_of : Units → Ground
+ground_of u = record {
+  sizes = u.machine.sizes;
+  banks = u.banks.items;
+  workers = u.workers.entries;
+  opens = u.mail.opens;
+  gones = u.mail.gones;
+  decodes = u.mail.decodes;
+}
+
+-- the tokens of the messages of a bank's objects, and its line
+pub record HoldsLetters (g : Ground) (n : ℕ) (b : Bank) : Type 0 where
+  pub opens : (o : OpName) (x : Opening) → get g.opens o ≡ Some x → bank_of g.sizes x.operand.object ≡ n
+      → HoldsOpening b.renaming x
+  pub gones : (v : OpName) (x : Gone) → get g.gones v ≡ Some x → bank_of g.sizes x.object ≡ n
+      → HoldsGone b.renaming x
+  pub line : b.renaming.line ≡ line_of g.sizes n g.decodes
 
 -- a buffer that is recorded for an operand is held at that place in the bank of its object
-abbrev pub HoldsStorage : Units → Operand → Storage → Type 0
-HoldsStorage u o storage.Home = Unit {0}
-HoldsStorage u o (storage.Buffer p n) = (b : Bank) → slice_get u.banks.items (bank_of u.machine.sizes o.object) ≡ Some b
+abbrev pub HoldsStorage : Ground → Operand → Storage → Type 0
+HoldsStorage g o storage.Home = Unit {0}
+HoldsStorage g o (storage.Buffer p n) = (b : Bank) → slice_get g.banks (bank_of g.sizes o.object) ≡ Some b
     → get b.renaming.buffers n ≡ Some p
 
 -- those of a busy worker
-abbrev pub HoldsStorages : Units → Worker → Type 0
-HoldsStorages u x = (k : ℕ) (o : Operand) (s : Storage) → slice_get (operands_of x.task) k ≡ Some o
-    → slice_get x.storages k ≡ Some s → HoldsStorage u o s
+abbrev pub HoldsStorages : Ground → Worker → Type 0
+HoldsStorages g x = (k : ℕ) (o : Operand) (s : Storage) → slice_get (operands_of x.task) k ≡ Some o
+    → slice_get x.storages k ≡ Some s → HoldsStorage g o s
+
+-- each record stands in its bank, and each token and place is what the bank holds under its name
+pub record ArePlaced (g : Ground) : Type 0 where
+  pub tables : AreBankTables g.sizes (bank_tables g.banks)
+  pub versions : VersionsInBanks g.sizes (bank_versions g.banks)
+  pub own : (n : ℕ) (b : Bank) → slice_get g.banks n ≡ Some b → HoldsOwn b
+  pub letters : (n : ℕ) (b : Bank) → slice_get g.banks n ≡ Some b → HoldsLetters g n b
+  pub workers : (w : ℕ) (x : Worker) → get g.workers w ≡ Some x → HoldsStorages g x
 
 -- ---- all of it
 
 pub record IsFit (u : Units) : Type 0 where
   pub sized : AreSized u
   pub reached : IsReached u.machine (state_of u)
-  pub tables : AreBankTables u.machine.sizes (bank_tables u.banks.items)
-  pub versions : VersionsInBanks u.machine.sizes (bank_versions u.banks.items)
-  pub own : (n : ℕ) (b : Bank) → slice_get u.banks.items n ≡ Some b → HoldsOwn b
-  pub letters : (n : ℕ) (b : Bank) → slice_get u.banks.items n ≡ Some b → HoldsLetters u n b
-  pub workers : (w : ℕ) (x : Worker) → get u.workers.entries w ≡ Some x → HoldsStorages u x
+  pub placed : ArePlaced (ground_of u)

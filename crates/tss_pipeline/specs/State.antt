@@ -16,6 +16,7 @@ use Rattle.tss_buffers.specs.declared.copying.Copying.{Copying}
 use Rattle.tss_buffers.specs.Copies.{copy_of}
 use Rattle.tss_workers.specs.Seen.{workers_of}
 use Rattle.tss_mail.specs.Letters.{mail_of}
+use Rattle.tss_pipeline.specs.Seen.{PipelineState}
 use Rattle.tss_pipeline.specs.declared.units.Units.{Units}
 use Rattle.tss_pipeline.specs.declared.units.TaskTrap.{TaskTrap}
 use Rattle.tss_pipeline.specs.declared.bank.Bank.{Bank}
@@ -78,3 +79,7 @@ state_of u = record {
   copies = copies_from 0 u.banks.items;
   trap = option_map held_trap u.trap;
 }
+
+-- what a contract sees of the units
+abbrev pub seen_of : Units → PipelineState
+seen_of u = record { machine = u.machine; state = state_of u }
