@@ -3,3 +3,5 @@ pub mod Seen
 pub mod State
 pub mod Fit
 pub mod Does
+pub mod Opening
+pub mod Closing

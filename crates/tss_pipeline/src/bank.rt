@@ -1,4 +1,7 @@
 // A bank of the tables for renaming and versioning, with its copy engine.
+ghost use Rattle.std.specs.Prelude.{◌≡◌, None};
+ghost use Rattle.std.specs.FinMap as map;
+
 use tss_base::{OpName, Range, Storage};
 use std::mem;
 use tss_buffers::{CopyEngine, Moved};
@@ -139,7 +142,11 @@ impl Bank {
     }
 
     /// Ends a bank with nothing in it.
-    pub(crate) fn close_empty(self) {
+    pub(crate) fn close_empty(self)
+        requires versions { self.versions.versions ≡ map.empty }
+        requires engine { self.engine ≡ None }
+        requires job { self.job ≡ None }
+    {
         let Bank {
             renaming,
             versions,
