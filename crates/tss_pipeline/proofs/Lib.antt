@@ -4,3 +4,6 @@ pub mod Holds
 pub mod Lookups
 pub mod Placing
 pub mod LetterLemmas
+pub mod SizeLemmas
+pub mod AppendedLemmas
+pub mod OpeningLemmas
