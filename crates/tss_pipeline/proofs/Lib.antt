@@ -7,3 +7,5 @@ pub mod LetterLemmas
 pub mod SizeLemmas
 pub mod AppendedLemmas
 pub mod OpeningLemmas
+pub mod EndingLemmas
+pub mod Banks

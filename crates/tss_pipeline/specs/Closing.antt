@@ -8,6 +8,8 @@ use Rattle.tss_protocol.specs.Names.{bank_of}
 use Rattle.tss_events.specs.declared.message.Opening.{Opening}
 use Rattle.tss_events.specs.declared.message.HeldBuffer.{HeldBuffer}
 use Rattle.tss_events.specs.declared.message.Gone.{Gone}
+use Rattle.tss_events.specs.declared.message.Message.{Message}
+use Rattle.tss_events.specs.declared.message.Message.TheVariants as message
 use Rattle.tss_mail.specs.Letters.{MailState}
 use Rattle.tss_pipeline.specs.declared.closing.EndedBank.{EndedBank}
 
@@ -20,6 +22,13 @@ pub record IsOpeningOf (places buffers : ℕ) (m : Opening) : Type 0 where
 pub record IsGoneOf (places buffers : ℕ) (m : Gone) : Type 0 where
   pub place : m.place.number ≡ places
   pub buffer : (h : HeldBuffer) → m.buffer ≡ Some h → h.token.number ≡ buffers
+
+-- those of any message are of the pools of its object's bank
+abbrev pub IsOfBank : Sizes → Message → Type 0
+IsOfBank sizes (message.Open m) =
+    IsOpeningOf (2 * bank_of sizes m.operand.object) (2 * bank_of sizes m.operand.object + 1) m
+IsOfBank sizes (message.Gone m) = IsGoneOf (2 * bank_of sizes m.object) (2 * bank_of sizes m.object + 1) m
+IsOfBank sizes m = Unit {0}
 
 -- the tokens of all messages are of the pools of their objects' banks
 pub record AreOfBanks (sizes : Sizes) (mail : MailState) : Type 0 where

@@ -8,7 +8,7 @@ ghost use Rattle.tss_base.specs.declared.bounds.TheConstants.{MAX_BANKS};
 ghost use Rattle.tss_mail.specs.Letters.{mail_of};
 ghost use Rattle.tss_protocol.specs.Mail.{message_count};
 ghost use Rattle.tss_pipeline.specs.Fit.{HoldsOwn, IsFit, AreBanks};
-ghost use Rattle.tss_pipeline.specs.Closing.{IsOpeningOf, IsGoneOf, AreOfBanks, ended_bank, AreEnded};
+ghost use Rattle.tss_pipeline.specs.Closing.{IsOpeningOf, IsGoneOf, IsOfBank, AreOfBanks, ended_bank, AreEnded};
 
 use crate::bank::{Bank, Job};
 use crate::units::{Units, bank_of};
@@ -144,6 +144,34 @@ fn end_banks(banks: Vec<Bank>, count: u32) -> EndedBanks
     ended
 }
 
+/// Ends a message.
+fn end_letter(message: Message, sizes: &Sizes, ended: &EndedBanks)
+    requires some { 0 < sizes.now.banks }
+    requires ended { AreEnded 0 sizes.now.banks ended.now.items }
+    requires own { IsOfBank sizes.now message }
+{
+    match message {
+        Message::Open(opening) => {
+            let bank = bank_of(sizes, &opening.operand.object);
+            ended[(sizes.banks - 1 - bank) as usize].end_opening(opening, bank);
+        }
+        Message::Gone(gone) => {
+            let bank = bank_of(sizes, &gone.object);
+            ended[(sizes.banks - 1 - bank) as usize].end_gone(gone, bank);
+        }
+        Message::Decode(_, _)
+        | Message::Ack(_)
+        | Message::Use(_, _)
+        | Message::Ready(_, _, _)
+        | Message::Link(_, _)
+        | Message::Release(_, _, _)
+        | Message::Bye(_, _)
+        | Message::Idle(_, _, _)
+        | Message::Nack(_)
+        | Message::Retire(_) => {}
+    }
+}
+
 /// Ends all messages.
 fn end_letters(mail: &mut Mail, sizes: &Sizes, ended: &EndedBanks)
     requires some { 0 < sizes.now.banks }
@@ -153,26 +181,7 @@ fn end_letters(mail: &mut Mail, sizes: &Sizes, ended: &EndedBanks)
 {
     while let Some(name) = mail.at(0) {
         match mail.take(&name) {
-            Some(Message::Open(opening)) => {
-                let bank = bank_of(sizes, &opening.operand.object);
-                ended[(sizes.banks - 1 - bank) as usize].end_opening(opening, bank);
-            }
-            Some(Message::Gone(gone)) => {
-                let bank = bank_of(sizes, &gone.object);
-                ended[(sizes.banks - 1 - bank) as usize].end_gone(gone, bank);
-            }
-            Some(
-                Message::Decode(_, _)
-                | Message::Ack(_)
-                | Message::Use(_, _)
-                | Message::Ready(_, _, _)
-                | Message::Link(_, _)
-                | Message::Release(_, _, _)
-                | Message::Bye(_, _)
-                | Message::Idle(_, _, _)
-                | Message::Nack(_)
-                | Message::Retire(_),
-            ) => {}
+            Some(message) => end_letter(message, sizes, ended),
             None => unreachable!(),
         }
     }
