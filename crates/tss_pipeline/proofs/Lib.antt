@@ -9,3 +9,5 @@ pub mod AppendedLemmas
 pub mod OpeningLemmas
 pub mod EndingLemmas
 pub mod Banks
+pub mod KeyLists
+pub mod EnabledKinds

@@ -5,3 +5,4 @@ pub mod Fit
 pub mod Does
 pub mod Opening
 pub mod Closing
+pub mod Enabling
