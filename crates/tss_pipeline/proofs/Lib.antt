@@ -4,3 +4,5 @@ pub mod Holds
 pub mod Lookups
 pub mod Placing
 pub mod LetterLemmas
+pub mod FrontLemmas
+pub mod AckLemmas
