@@ -6,3 +6,4 @@ pub mod Placing
 pub mod LetterLemmas
 pub mod FrontLemmas
 pub mod AckLemmas
+pub mod StationLemmas
