@@ -137,3 +137,92 @@ module _ (u : Units) (o : OpName) (fit : IsFit u) (may : May (event.Ready o) u) 
           record { size = k.size; opens = k.opens; gones = k.gones; decodes = k.decodes })
           (letters ∙ (λ i. with_letters (taken_out i) (passes i))))
           after_ready_event
+
+-- ---- link
+
+-- a ready to the next operand leaves the rest of the mail
+rest_told : (m : MailState) (next : OpName) (v : Option OpName) (storage : Option Storage)
+    → KeepsRest m (with_letters m (told_by next v storage))
+rest_told m next None storage = record { size = refl; opens = refl; gones = refl; decodes = refl }
+rest_told m next (Some v) None = record { size = refl; opens = refl; gones = refl; decodes = refl }
+rest_told m next (Some v) (Some storage) = record { size = refl; opens = refl; gones = refl; decodes = refl }
+
+rest_on_link : (m : MailState) (next : OpName) (r : Option OperandView)
+    → KeepsRest m (with_letters m (sent_on_link next r))
+rest_on_link m next None = record { size = refl; opens = refl; gones = refl; decodes = refl }
+rest_on_link m next (Some r) = rest_told m next r.version r.storage
+
+module _ (u : Units) (o : OpName) (fit : IsFit u) (may : May (event.Link o) u) where
+  -- its message is there
+  pub link_there : is_some (get u.mail.links o) ≡ true
+  unfolding is_enabled
+  link_there = may
+
+  module _ (next : OpName) (at : get u.mail.links o ≡ Some next) where
+    -- what it sends
+    pub link_sent : sent_by_event u.machine (state_of u) (event.Link o)
+        ≡ (after_link (flight_of u.stations.slots) o next).sent
+    link_sent = ap (link_sends (state_of u) o) at
+
+    module _ (stations : StationsState) (left mail : MailState) (sent : List Message)
+        (told : stations ≡ record (u.stations) { slots = slots_after_link u.stations.slots o next })
+        (flight : flight_of stations.slots ≡ (after_link (flight_of u.stations.slots) o next).part)
+        (passes : sent ≡ sent_on_link next (view_in u.stations.slots o))
+        (sends : messages_of sent ≡ (after_link (flight_of u.stations.slots) o next).sent)
+        (taken_out : left ≡ without_letter u.mail (event.Link o))
+        (taken_mail : mail_of left ≡ taken (mail_of u.mail) (event.Link o)) (letters : mail ≡ with_letters left sent)
+        (posted : mail_of mail ≡ posted_all (mail_of left) (messages_of sent)) where
+      after_linked : state_of (record u { stations = stations; mail = mail })
+          ≡ link_message_taken (without (state_of u) (event.Link o)) o (Some next)
+      after_linked = λ i. record (state_of u) {
+        flight = flight i;
+        mail = (posted ∙ (λ j. posted_all (taken_mail j) (sends j))) i;
+      }
+
+      after_link_event : state_of (record u { stations = stations; mail = mail })
+          ≡ after_event u.machine (state_of u) (event.Link o)
+      unfolding after_event
+      after_link_event = after_linked ∙ ap (link_message_taken (without (state_of u) (event.Link o)) o) (sym at)
+
+      -- it is done
+      pub does_link : Does (event.Link o) u (record u { stations = stations; mail = mail })
+      does_link =
+          does_front (event.Link o) u fit may u.gateway stations u.queue mail refl
+          (ap (λ (s : StationsState). s.sizes) told) refl
+          (rest_by u.mail
+          (with_letters (without_letter u.mail (event.Link o)) (sent_on_link next (view_in u.stations.slots o))) mail
+          (let k = rest_on_link (without_letter u.mail (event.Link o)) next (view_in u.stations.slots o) in
+          record { size = k.size; opens = k.opens; gones = k.gones; decodes = k.decodes })
+          (letters ∙ (λ i. with_letters (taken_out i) (passes i))))
+          after_link_event
+
+-- ---- bye
+
+module _ (u : Units) (o : OpName) (fit : IsFit u) (may : May (event.Bye o) u) where
+  -- its message is there
+  pub bye_there : is_some (get u.mail.byes o) ≡ true
+  unfolding is_enabled
+  bye_there = may
+
+  module _ (promised : Bool) (at : get u.mail.byes o ≡ Some promised) (stations : StationsState) (mail : MailState)
+      (parted : stations ≡ record (u.stations) { slots = slots_after_bye u.stations.slots o promised })
+      (flight : flight_of stations.slots ≡ after_bye (flight_of u.stations.slots) o promised)
+      (taken_out : mail ≡ without_letter u.mail (event.Bye o))
+      (taken_mail : mail_of mail ≡ taken (mail_of u.mail) (event.Bye o)) where
+    after_parted : state_of (record u { stations = stations; mail = mail })
+        ≡ bye_message_taken (without (state_of u) (event.Bye o)) o (Some promised)
+    after_parted = λ i. record (state_of u) { flight = flight i; mail = taken_mail i }
+
+    after_bye_event : state_of (record u { stations = stations; mail = mail })
+        ≡ after_event u.machine (state_of u) (event.Bye o)
+    unfolding after_event
+    after_bye_event = after_parted ∙ ap (bye_message_taken (without (state_of u) (event.Bye o)) o) (sym at)
+
+    -- it is done
+    pub does_bye : Does (event.Bye o) u (record u { stations = stations; mail = mail })
+    does_bye =
+        does_front (event.Bye o) u fit may u.gateway stations u.queue mail refl
+        (ap (λ (s : StationsState). s.sizes) parted) refl
+        (rest_by u.mail (without_letter u.mail (event.Bye o)) mail
+        (record { size = refl; opens = refl; gones = refl; decodes = refl }) taken_out)
+        after_bye_event

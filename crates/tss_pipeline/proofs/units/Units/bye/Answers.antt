@@ -1,15 +1,12 @@
-use Rattle.std.proofs.Common.{rules, ◌≡◌, ℕ, ◌+◌, ◌-◌, ◌*◌, ◌<◌, ◌≤◌, length, ◌/◌, ◌%◌, Bool, true, false, nat_eq, nat_lt, List, [], ◌∷◌, ◌++◌, slice_index_or, slice_set, bit_and, bit_or, Fits, w8, w32, w64, Bor, MutBor}
-use Rattle.tss_base.specs.declared.event.Event.TheVariants as event
-use Rattle.tss_protocol.specs.UnitMachine.{is_enabled}
-use Rattle.tss_pipeline.specs.Does.{Does, May}
-use Rattle.tss_pipeline.specs.Fit.{IsFit}
-use Rattle.tss_pipeline.specs.State.{state_of}
+-- The farewell's message is there.
+use Rattle.tss_pipeline.proofs.StationLemmas.{bye_there, does_bye}
 use Rattle.tss_pipeline.proofs.units.Units.bye.Goals as goal
 
--- src/station_events.rt:46:13
 pub take_bye-promised-requires : goal.take_bye-promised-requires
-take_bye-promised-requires c = ?
+take_bye-promised-requires c = bye_there c.args.self.now c.args.o c.requires.fit c.requires.may
 
--- src/station_events.rt:41:5
 pub returns : goal.returns
-returns c = ?
+returns c =
+    does_bye c.args.self.now c.args.o c.requires.fit c.requires.may c.take_bye-promised.result
+    c.take_bye-promised.ensures.exact c.bye.new.self c.take_bye-promised.new.mail c.bye.ensures.exact c.bye.ensures.flight
+    c.take_bye-promised.ensures.others c.take_bye-promised.ensures.taken
