@@ -7,3 +7,4 @@ pub mod LetterLemmas
 pub mod FrontLemmas
 pub mod AckLemmas
 pub mod StationLemmas
+pub mod TakeLemmas

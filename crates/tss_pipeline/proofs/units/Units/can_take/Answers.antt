@@ -1,23 +1,20 @@
-use Rattle.std.proofs.Common.{rules, ◌≡◌, ℕ, ◌+◌, ◌-◌, ◌*◌, ◌<◌, ◌≤◌, length, ◌/◌, ◌%◌, Bool, true, false, nat_eq, nat_lt, List, [], ◌∷◌, ◌++◌, slice_index_or, slice_set, bit_and, bit_or, Fits, w8, w32, w64, Bor, MutBor}
-use Rattle.tss_base.specs.declared.event.Event.TheVariants as event
-use Rattle.tss_protocol.specs.UnitMachine.{is_enabled}
-use Rattle.tss_pipeline.specs.Does.{Does, May}
-use Rattle.tss_pipeline.specs.Fit.{IsFit}
-use Rattle.tss_pipeline.specs.State.{state_of}
+-- The inbox's task may be taken by the tests of the gateway and the stations.
+use Rattle.std.proofs.Common.{true, false, None, refl, sym, ◌∙◌}
+use Rattle.tss_pipeline.proofs.TakeLemmas.{may_take_by, arrives, may_take}
 use Rattle.tss_pipeline.proofs.units.Units.can_take.Goals as goal
 
--- src/front.rt:76:56
 pub room-requires : goal.room-requires
-room-requires c = ?
+room-requires c = (arrives c.args.self.now c.requires c.in-Some.task.now (sym c.in-Some.ensures)).proper.first
 
--- src/front.rt:71:5
 pub returns-then-has_window : goal.returns-then-has_window
-returns-then-has_window c = ?
+returns-then-has_window c =
+    may_take c.args.self.now c.requires c.in-Some.task.now (sym c.in-Some.ensures) true c.room.result
+    c.if-has_window.ensures c.room.ensures
 
--- src/front.rt:71:5
 pub returns-else-has_window : goal.returns-else-has_window
-returns-else-has_window c = ?
+returns-else-has_window c =
+    c.if-has_window.false
+    ∙ may_take c.args.self.now c.requires c.in-Some.task.now (sym c.in-Some.ensures) false _ c.if-has_window.ensures refl
 
--- src/front.rt:71:5
 pub returns-in-None : goal.returns-in-None
-returns-in-None c = ?
+returns-in-None c = may_take_by c.args.self.now None (sym c.in-None.ensures)
