@@ -1,67 +1,60 @@
-use Rattle.std.proofs.Common.{rules, ◌≡◌, ℕ, ◌+◌, ◌-◌, ◌*◌, ◌<◌, ◌≤◌, length, ◌/◌, ◌%◌, Bool, true, false, nat_eq, nat_lt, List, [], ◌∷◌, ◌++◌, slice_index_or, slice_set, bit_and, bit_or, Fits, w8, w32, w64, Bor, MutBor}
+use Rattle.std.proofs.Common.{rules, ◌≡◌, ◌+◌, ◌*◌, ◌<◌, ◌≤◌, None, length, ℕ, ◌-◌, ◌/◌, ◌%◌, Bool, true, false, nat_eq, nat_lt, List, [], ◌∷◌, ◌++◌, slice_index_or, slice_set, bit_and, bit_or, Fits, w8, w32, w64, Bor, MutBor}
+use Rattle.std.specs.FinMap as map
+use Rattle.tss_base.specs.declared.bounds.TheConstants.{MAX_OPERANDS}
 use Rattle.tss_base.specs.declared.event.Event.TheVariants as event
+use Rattle.tss_model.specs.Access.{operands_of}
+use Rattle.tss_protocol.specs.Gateway.{sent_by_take}
+use Rattle.tss_protocol.specs.Mail.{message_count, posted_all}
 use Rattle.tss_protocol.specs.UnitMachine.{is_enabled}
+use Rattle.tss_events.specs.declared.message.Message.TheVariants as message
+use Rattle.tss_mail.specs.Letters.{mail_of, with_letter}
+use Rattle.tss_conditions.specs.Posting.{ArePostable}
 use Rattle.tss_pipeline.specs.Does.{Does, May}
 use Rattle.tss_pipeline.specs.Fit.{IsFit}
+use Rattle.tss_pipeline.specs.Lines.{AwaitDecodes, lined}
 use Rattle.tss_pipeline.specs.State.{state_of}
 use Rattle.tss_pipeline.proofs.units.Units.take.Goals as goal
 
--- src/front.rt:87:24
+-- src/front.rt:139:24
 pub take-requires : goal.take-requires
 take-requires c = ?
 
--- src/front.rt:88:13
+-- src/front.rt:140:13
 pub unreachable-requires : goal.unreachable-requires
 unreachable-requires c = ?
 
--- src/front.rt:90:9
+-- src/front.rt:142:9
 pub enter-requires-clause-room : goal.enter-requires-clause-room
 enter-requires-clause-room c = ?
 
--- src/front.rt:90:9
+-- src/front.rt:142:9
 pub enter-requires-clause-fresh : goal.enter-requires-clause-fresh
 enter-requires-clause-fresh c = ?
 
--- src/front.rt:92:13
-pub push-requires : goal.push-requires
-push-requires c = ?
+-- src/front.rt:143:9
+pub queue_where-requires : goal.queue_where-requires
+queue_where-requires c = ?
 
--- src/front.rt:94:9
-pub loop-place-init : goal.loop-place-init
-loop-place-init c = ?
+-- src/front.rt:144:9
+pub expect_all-requires-clause-banks : goal.expect_all-requires-clause-banks
+expect_all-requires-clause-banks c = ?
 
--- src/front.rt:99:27
-pub bounds-task-place : goal.bounds-task-place
-bounds-task-place c = ?
+-- src/front.rt:144:9
+pub expect_all-requires-clause-count : goal.expect_all-requires-clause-count
+expect_all-requires-clause-count c = ?
 
--- src/front.rt:100:17
-pub bank_of-bank-requires-clause-banks : goal.bank_of-bank-requires-clause-banks
-bank_of-bank-requires-clause-banks c = ?
+-- src/front.rt:144:9
+pub expect_all-requires-clause-lines : goal.expect_all-requires-clause-lines
+expect_all-requires-clause-lines c = ?
 
--- src/front.rt:100:17
-pub bank_of-bank-requires-clause-some : goal.bank_of-bank-requires-clause-some
-bank_of-bank-requires-clause-some c = ?
+-- src/front.rt:144:9
+pub expect_all-requires-clause-fresh : goal.expect_all-requires-clause-fresh
+expect_all-requires-clause-fresh c = ?
 
--- src/front.rt:101:13
-pub expect-requires-clause-room : goal.expect-requires-clause-room
-expect-requires-clause-room c = ?
+-- src/front.rt:144:9
+pub expect_all-requires-clause-room : goal.expect_all-requires-clause-room
+expect_all-requires-clause-room c = ?
 
--- src/front.rt:101:13
-pub expect-requires-clause-fresh : goal.expect-requires-clause-fresh
-expect-requires-clause-fresh c = ?
-
--- src/front.rt:102:13
-pub post-requires-clause-room : goal.post-requires-clause-room
-post-requires-clause-room c = ?
-
--- src/front.rt:102:13
-pub post-requires-clause-fresh : goal.post-requires-clause-fresh
-post-requires-clause-fresh c = ?
-
--- src/front.rt:94:9
-pub loop-place-preserved : goal.loop-place-preserved
-loop-place-preserved c = ?
-
--- src/front.rt:82:5
+-- src/front.rt:134:5
 pub returns : goal.returns
 returns c = ?
