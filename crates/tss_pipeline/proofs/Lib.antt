@@ -11,3 +11,9 @@ pub mod EndingLemmas
 pub mod Banks
 pub mod KeyLists
 pub mod EnabledKinds
+pub mod FrontLemmas
+pub mod AckLemmas
+pub mod StationLemmas
+pub mod TakeLemmas
+pub mod LineLemmas
+pub mod DecodeLemmas

@@ -1,6 +1,7 @@
 pub mod Letters
 pub mod Seen
 pub mod State
+pub mod Lines
 pub mod Fit
 pub mod Does
 pub mod Opening
