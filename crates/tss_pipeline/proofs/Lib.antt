@@ -5,3 +5,6 @@ pub mod Lookups
 pub mod Placing
 pub mod LetterLemmas
 pub mod RenamingBanks
+pub mod RenamedState
+pub mod RenamedPlacing
+pub mod IdleLemmas
