@@ -8,3 +8,5 @@ pub mod RenamingBanks
 pub mod RenamedState
 pub mod RenamedPlacing
 pub mod IdleLemmas
+pub mod GoneBanks
+pub mod GoneLemmas

@@ -17,7 +17,7 @@ use Rattle.tss_banks.specs.Versions.{VersionsInBanks}
 use Rattle.tss_renaming.specs.Bank.{RenamingState, tables_of}
 use Rattle.tss_pipeline.specs.declared.bank.Bank.{Bank}
 use Rattle.tss_pipeline.specs.State.{bank_tables, bank_versions}
-use Rattle.tss_pipeline.specs.Fit.{Ground, ArePlaced, HoldsApart, HoldsOwn, HoldsLetters, HoldsStorage, HoldsStorages}
+use Rattle.tss_pipeline.specs.Fit.{Ground, ArePlaced, AreNamed, HoldsApart, HoldsOwn, HoldsLetters, HoldsStorage, HoldsStorages}
 use Rattle.tss_pipeline.proofs.Holds.{HoldsAll, opening_held, gone_held, kept_held, engine_held}
 use Rattle.tss_pipeline.proofs.BankChanges.{each_bank, tables_set, versions_kept}
 use Rattle.tss_pipeline.proofs.Placing.{letters_fewer}
@@ -38,14 +38,16 @@ module _ (g : Ground) (placed : ArePlaced g) (n : ℕ) (b : Bank) (there : slice
       → HoldsLetters (record g { banks = set g.banks n (record b { renaming = r }); gones = gones; decodes = decodes }) i x)
       → HoldsLetters (record g { banks = set g.banks n (record b { renaming = r }); gones = gones; decodes = decodes }) n
       (record b { renaming = r })
+      → AreNamed g.opens gones
       → ((w : ℕ) (x : Worker) → get g.workers w ≡ Some x
       → HoldsStorages (record g { banks = set g.banks n (record b { renaming = r }); gones = gones; decodes = decodes }) x)
       → ArePlaced (record g { banks = set g.banks n (record b { renaming = r }); gones = gones; decodes = decodes })
-  placed_renamed tables holds others letters workers = record {
+  placed_renamed tables holds others letters names workers = record {
     tables = subst (AreBankTables g.sizes) (sym (tables_set g.banks n b own there)) tables;
     versions = subst (VersionsInBanks g.sizes) (sym (versions_kept g.banks n b own there refl)) placed.versions;
     own = each_bank g.banks n b own there (λ i x. HoldsOwn x) (λ i x apart at. placed.own i x at) holds;
     letters = each_bank g.banks n b own there (HoldsLetters new) others letters;
+    names = names;
     workers = workers;
   }
 
@@ -102,7 +104,7 @@ module _ (g : Ground) (placed : ArePlaced g) (n : ℕ) (b : Bank) (there : slice
       placed_renamed g placed n b there r g.gones decodes tables (own_held apart)
       (λ i x other at.
       letters_fewer g with_all i x refl (λ o y e. e) (λ v y e. e) (lines i other) (placed.letters i x at))
-      (letters_held line)
+      (letters_held line) placed.names
       (λ w x at.
       storages_still g placed n b there r g.gones decodes x (λ k o p m e f is held. all.buffers m p held)
       (placed.workers w x at))
