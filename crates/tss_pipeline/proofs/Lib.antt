@@ -17,3 +17,9 @@ pub mod StationLemmas
 pub mod TakeLemmas
 pub mod LineLemmas
 pub mod DecodeLemmas
+pub mod RenamingBanks
+pub mod RenamedState
+pub mod RenamedPlacing
+pub mod IdleLemmas
+pub mod GoneBanks
+pub mod GoneLemmas
