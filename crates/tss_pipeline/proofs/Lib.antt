@@ -5,3 +5,6 @@ pub mod Lookups
 pub mod Placing
 pub mod LetterLemmas
 pub mod VersionLookups
+pub mod VersionTokens
+pub mod VersionSteps
+pub mod VersionEvents

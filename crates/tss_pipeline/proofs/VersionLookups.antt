@@ -38,7 +38,8 @@ some_banks u fit = (fit.reached.reached.admissible.sizes key.Banks u.machine.siz
 pub read_there : (bs : List Bank) (n : ℕ) (b : Bank) → n < length bs → b ≡ get_or bs n b → slice_get bs n ≡ Some b
 read_there bs n b within read = slice_get_read bs (length bs) n b refl within read
 
-is_some-mapped : {X Y : Type 0} (f : X → Y) (o : Option X) → is_some (option_map f o) ≡ is_some o
+-- whether something is there doesn't depend on its form
+pub is_some-mapped : {X Y : Type 0} (f : X → Y) (o : Option X) → is_some (option_map f o) ≡ is_some o
 is_some-mapped f None = refl
 is_some-mapped f (Some x) = refl
 
