@@ -7,6 +7,7 @@ ghost use Rattle.tss_protocol.specs.UnitMachine.{is_enabled};
 ghost use Rattle.tss_stations.specs.Views.{flight_of};
 ghost use Rattle.tss_pipeline.specs.Does.{Does, May};
 ghost use Rattle.tss_pipeline.specs.Fit.{AreBanks, IsFit};
+ghost use Rattle.tss_pipeline.specs.Registering.{IsBankWith};
 ghost use Rattle.tss_pipeline.specs.State.{state_of};
 
 use crate::letters::{take_nack, take_open, take_release, take_retire, take_use};
@@ -103,7 +104,10 @@ impl Units {
     }
 
     /// The bank in which a version is registered.
-    fn bank_with(&self, v: OpName) -> Option<u32> {
+    fn bank_with(&self, v: OpName) -> Option<u32>
+        requires { AreBanks self.now.machine self.now.banks.items }
+        ensures { IsBankWith self.now.banks.items v result }
+    {
         for bank in 0..self.machine.sizes.banks {
             if self.banks[bank as usize].versions.has(v) {
                 return Some(bank);
