@@ -1,8 +1,9 @@
 -- What the events of the versioning tables find in the bank of their object.
-use Rattle.std.proofs.Common.{◌≡◌, ◌≢◌, ℕ, ◌<◌, Bool, true, false, List, length, Option, Some, None, option_map, refl, sym, ap, ◌∙◌, subst, inl, inr, get_or}
+use Rattle.std.proofs.Common.{◌≡◌, ◌≢◌, ℕ, ◌+◌, ◌<◌, Bool, true, false, List, length, Option, Some, None, option_map, refl, sym, ap, ◌∙◌, subst, inl, inr, ◌⊎◌, get_or, arith, true≢false}
+use Rattle.std.proofs.lemmas.Bool.Decides.{nat_tests}
 use Rattle.std.specs.Prelude.{is_some, slice_get, IsSome, ◌&&◌}
 use Rattle.std.specs.FinMap.{get}
-use Rattle.std.proofs.lemmas.Option.{none-some, same_Some, slice_get_read}
+use Rattle.std.proofs.lemmas.Option.{none-some, same_Some, slice_get_read, slice_get_within}
 use Rattle.tss_base.specs.declared.operand.OpName.{OpName}
 use Rattle.tss_base.specs.declared.machine.Key.TheVariants as key
 use Rattle.tss_base.specs.declared.event.Event.TheVariants as event
@@ -26,6 +27,7 @@ use Rattle.tss_pipeline.specs.declared.units.Units.{Units}
 use Rattle.tss_pipeline.specs.declared.bank.Bank.{Bank}
 use Rattle.tss_pipeline.specs.State.{state_of, bank_versions}
 use Rattle.tss_pipeline.specs.Fit.{IsFit}
+use Rattle.tss_pipeline.specs.Registering.{IsIn}
 use Rattle.tss_pipeline.proofs.Lookups.{versions_here}
 
 -- ---- one of the banks
@@ -42,6 +44,23 @@ read_there bs n b within read = slice_get_read bs (length bs) n b refl within re
 pub is_some-mapped : {X Y : Type 0} (f : X → Y) (o : Option X) → is_some (option_map f o) ≡ is_some o
 is_some-mapped f None = refl
 is_some-mapped f (Some x) = refl
+
+-- nothing is there
+pub none_there : {X : Type 0} (o : Option X) → is_some o ≡ false → o ≡ None
+none_there None h = refl
+none_there (Some x) h = absurd (true≢false h)
+
+-- a number below the next one is this one or below it
+pub here_or_before : (i k : ℕ) → i < k + 1 → (i ≡ k) ⊎ (i < k)
+here_or_before i k within = grind (arith, nat_tests)
+
+-- the bank that has a version, as it was read
+pub in_read : (bs : List Bank) (v : OpName) (n : ℕ) (b : Bank) → IsIn bs v n → b ≡ get_or bs n b
+    → (slice_get bs n ≡ Some b) × IsSome (get b.versions.versions v)
+in_read bs v n b i read =
+    let at = read_there bs n b (slice_get_within bs n i.bank i.there) read in
+    (at,
+    subst (λ (b : Bank). IsSome (get b.versions.versions v)) (same_Some i.bank b (sym i.there ∙ at)) i.registered)
 
 module _ (u : Units) (fit : IsFit u) (n : ℕ) (b : Bank) (there : slice_get u.banks.items n ≡ Some b) (v : OpName)
     (own : (x : Version) → get (state_of u).versions v ≡ Some x → bank_of u.machine.sizes x.object ≡ n) where
