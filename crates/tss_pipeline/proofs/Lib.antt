@@ -8,3 +8,4 @@ pub mod VersionLookups
 pub mod VersionTokens
 pub mod VersionSteps
 pub mod VersionEvents
+pub mod VersionOpening
