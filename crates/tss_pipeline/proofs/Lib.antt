@@ -23,3 +23,8 @@ pub mod RenamedPlacing
 pub mod IdleLemmas
 pub mod GoneBanks
 pub mod GoneLemmas
+pub mod VersionLookups
+pub mod VersionTokens
+pub mod VersionSteps
+pub mod VersionEvents
+pub mod VersionOpening

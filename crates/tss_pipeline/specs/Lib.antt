@@ -3,6 +3,7 @@ pub mod Seen
 pub mod State
 pub mod Lines
 pub mod Fit
+pub mod Registering
 pub mod Does
 pub mod Opening
 pub mod Closing
