@@ -3,3 +3,4 @@ pub mod BankChanges
 pub mod Holds
 pub mod Lookups
 pub mod Placing
+pub mod LetterLemmas

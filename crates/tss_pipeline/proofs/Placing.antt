@@ -45,7 +45,7 @@ pub storage_by : (g new : Ground) (o : Operand) (s : Storage) → new.sizes ≡ 
 storage_by g new o storage.Home sizes same h = tt
 storage_by g new o (storage.Buffer p n) sizes same h = λ b at.
     let t = same (bank_of g.sizes o.object) b (ap (λ s. slice_get new.banks (bank_of s o.object)) (sym sizes) ∙ at) in
-    ap (λ m. get m n) t.1.1 ∙ h t.0 t.1.0
+    ap (λ m. get m n) t.2 ∙ h t.0 t.1
 
 -- those of workers
 pub storages_by : (g new : Ground) (x : Worker) → new.sizes ≡ g.sizes
@@ -67,8 +67,8 @@ module _ (g : Ground) (placed : ArePlaced g) (n : ℕ) (b own : Bank) (there : s
   same_buffers =
       each_bank g.banks n b own there
       (λ i x. (y : Bank) × (slice_get g.banks i ≡ Some y) × (x.renaming.buffers ≡ y.renaming.buffers))
-      (λ i x apart at. (x, (at, refl)))
-      (b, (there, ap (λ r. r.buffers) renaming))
+      (λ i x apart at. (x, at, refl))
+      (b, there, ap (λ r. r.buffers) renaming)
 
   -- where the versions are in their banks still, and this bank's tokens are its own
   pub placed_beside : VersionsInBanks g.sizes (set (bank_versions g.banks) n (versions_of own.versions.versions))
@@ -107,7 +107,7 @@ placed_fewer g opens gones decodes placed fewer_opens fewer_gones lines = record
       letters_fewer g (record g { opens = opens; gones = gones; decodes = decodes }) n b refl fewer_opens fewer_gones
       (lines n) (placed.letters n b at);
   workers = λ w x at.
-      storages_by g (record g { opens = opens; gones = gones; decodes = decodes }) x refl (λ n b e. (b, (e, refl)))
+      storages_by g (record g { opens = opens; gones = gones; decodes = decodes }) x refl (λ n b e. (b, e, refl))
       (placed.workers w x at);
 }
 
@@ -132,7 +132,7 @@ placed_opening g m placed holds = record {
     line = (placed.letters n b at).line;
   };
   workers = λ w x at.
-      storages_by g (record g { opens = insert g.opens m.o m }) x refl (λ n b e. (b, (e, refl))) (placed.workers w x at);
+      storages_by g (record g { opens = insert g.opens m.o m }) x refl (λ n b e. (b, e, refl)) (placed.workers w x at);
 }
 
 -- where a gone comes, with tokens of its object's bank
@@ -156,7 +156,7 @@ placed_gone g m placed holds = record {
     line = (placed.letters n b at).line;
   };
   workers = λ w x at.
-      storages_by g (record g { gones = insert g.gones m.version m }) x refl (λ n b e. (b, (e, refl)))
+      storages_by g (record g { gones = insert g.gones m.version m }) x refl (λ n b e. (b, e, refl))
       (placed.workers w x at);
 }
 
@@ -172,5 +172,5 @@ placed_workers g workers placed holds = record {
   letters = λ n b at.
       letters_fewer g (record g { workers = workers }) n b refl (λ o x e. e) (λ v x e. e) refl (placed.letters n b at);
   workers = λ w x at.
-      storages_by g (record g { workers = workers }) x refl (λ n b e. (b, (e, refl))) (holds w x at);
+      storages_by g (record g { workers = workers }) x refl (λ n b e. (b, e, refl)) (holds w x at);
 }
