@@ -4,3 +4,4 @@ pub mod Holds
 pub mod Lookups
 pub mod Placing
 pub mod LetterLemmas
+pub mod CopyLemmas
