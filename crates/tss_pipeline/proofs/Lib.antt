@@ -5,3 +5,4 @@ pub mod Lookups
 pub mod Placing
 pub mod LetterLemmas
 pub mod CopyLemmas
+pub mod ReleaseLemmas

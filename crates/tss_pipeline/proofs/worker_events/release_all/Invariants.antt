@@ -14,9 +14,9 @@ abbrev pub invariant-loop-place : goal.invariant-loop-place
 invariant-loop-place l = record {
   few : l.place ≤ MAX_OPERANDS;
   may : MayPostAll l.initial.mail.size (mail_of l.mail)
-      (releases_in l.task l.place (get (flight_of l.stations.now.slots) l.task));
-  posted : posted_all (mail_of l.mail) (releases_in l.task l.place (get (flight_of l.stations.now.slots) l.task))
-      ≡ posted_all (mail_of l.initial.mail) (flight_after_finish (flight_of l.stations.now.slots) l.task).sent;
+      (releases_in l.task l.place (get (flight_of l.stations.slots) l.task));
+  posted : posted_all (mail_of l.mail) (releases_in l.task l.place (get (flight_of l.stations.slots) l.task))
+      ≡ posted_all (mail_of l.initial.mail) (flight_after_finish (flight_of l.stations.slots) l.task).sent;
   rest : l.mail ≡ record (l.initial.mail) { releases = l.mail.releases };
 }
 
