@@ -6,3 +6,4 @@ pub mod Placing
 pub mod LetterLemmas
 pub mod CopyLemmas
 pub mod ReleaseLemmas
+pub mod BusyLemmas
