@@ -28,3 +28,6 @@ pub mod VersionTokens
 pub mod VersionSteps
 pub mod VersionEvents
 pub mod VersionOpening
+pub mod CopyLemmas
+pub mod ReleaseLemmas
+pub mod BusyLemmas

@@ -8,3 +8,4 @@ pub mod Does
 pub mod Opening
 pub mod Closing
 pub mod Enabling
+pub mod Ending
