@@ -36,9 +36,6 @@ all_of-append : (ks ls : List (List Event)) → all_of (ks ++ ls) ≡ all_of ks 
 all_of-append [] ls = refl
 all_of-append (xs ∷ ks) ls = ap (λ r. xs ++ r) (all_of-append ks ls) ∙ sym (append_assoc xs (all_of ks) (all_of ls))
 
-filtered : (Event → Bool) → List (List Event) → List (List Event)
-filtered p ls = map (filter p) ls
-
 filter-all_of : (p : Event → Bool) (ls : List (List Event)) → filter p (all_of ls) ≡ all_of (map (filter p) ls)
 filter-all_of p [] = refl
 filter-all_of p (xs ∷ ls) = filter-append p xs (all_of ls) ∙ ap (λ r. filter p xs ++ r) (filter-all_of p ls)
@@ -118,6 +115,9 @@ module _ (m : Machine) (S : State) where
 
   -- ---- workers and banks by number
 
+  abbrev ok : List Event → List Event
+  ok = filter (is_enabled m S)
+
   module _ (workers : (w : ℕ) (b : Busy) → get S.workers w ≡ Some b → w < m.sizes.workers)
       (banks : (n : ℕ) (c : CopyState) → get S.copies n ≡ Some c → n < m.sizes.banks) where
     -- a worker that may go on or finish is busy, and a bank that may copy has a copy
@@ -129,16 +129,19 @@ module _ (m : Machine) (S : State) where
     busy_by t fails (Some b) e = refl
 
     execs : filter (is_enabled m S) (map event.Exec (keys S.workers)) ≡ enabled_of_kind m S source.Exec
+    unfolding is_enabled
     execs =
         same_filtered (is_enabled m S) event.Exec m.sizes.workers S.workers workers
         (λ w e. busy_by can_exec refl (get S.workers w) e)
 
     finishes : filter (is_enabled m S) (map event.Finish (keys S.workers)) ≡ enabled_of_kind m S source.Finish
+    unfolding is_enabled
     finishes =
         same_filtered (is_enabled m S) event.Finish m.sizes.workers S.workers workers
         (λ w e. busy_by can_finish refl (get S.workers w) e)
 
     copies : filter (is_enabled m S) (map event.Copy (keys S.copies)) ≡ enabled_of_kind m S source.Copy
+    unfolding is_enabled
     copies =
         same_filtered (is_enabled m S) event.Copy m.sizes.banks S.copies banks
         (λ n e. e)
@@ -149,4 +152,23 @@ module _ (m : Machine) (S : State) where
     enabled_by_kinds =
         sym (ap (filter (is_enabled m S)) candidates_by_kind
         ∙ filter-all_of (is_enabled m S) all_kinds
-        ∙ ?kinds)
+        ∙ (λ i.
+        ok (event.Main ∷ [])
+        ++ (ok (event.Take ∷ [])
+        ++ (ok (map event.Decode (keys S.mail.decodes))
+        ++ (ok (map event.Ack (keys S.mail.acks))
+        ++ (ok (map event.Open (keys S.mail.opens))
+        ++ (ok (map event.Use (keys S.mail.uses))
+        ++ (ok (map event.Ready (keys S.mail.readies))
+        ++ (ok (map event.Link (keys S.mail.links))
+        ++ (ok (map event.Start (range_with_len 0 m.sizes.workers))
+        ++ (execs i
+        ++ (finishes i
+        ++ (ok (map event.Release (keys S.mail.releases))
+        ++ (ok (map event.Bye (keys S.mail.byes))
+        ++ (ok (map event.Idle (keys S.mail.idles))
+        ++ (ok (map event.Nack (keys S.mail.nacks))
+        ++ (ok (map event.Retire (keys S.mail.retires))
+        ++ (copies i
+        ++ (ok (map event.Gone (keys S.mail.gones))
+        ++ [])))))))))))))))))))

@@ -21,26 +21,27 @@ filter_range p q a (suc n) same =
     λ i. cond (same a (omega arith) i) (a ∷ filter_range p q (a + 1) n (λ k above. same k (omega arith)) i)
     (filter_range p q (a + 1) n (λ k above. same k (omega arith)) i)
 
+not_both : false ≡ true → ⊥
+not_both e = cc
+
+twice_at : {K E : Type 0} (p : E → Bool) (f : K → E) (has : K → Bool) (k : K) (ks : List K)
+    → filter p (map f (filter has ks)) ≡ filter p (map f ks) → (p (f k) ≡ true → has k ≡ true) → (h t : Bool)
+    → has k ≡ h → p (f k) ≡ t → filter p (map f (filter has (k ∷ ks))) ≡ filter p (map f (k ∷ ks))
+twice_at p f has k ks rest only true t eh et =
+    ap (λ h. filter p (map f (cond h (k ∷ filter has ks) (filter has ks)))) eh
+    ∙ (λ i. cond (p (f k)) (f k ∷ rest i) (rest i))
+twice_at p f has k ks rest only false false eh et =
+    ap (λ h. filter p (map f (cond h (k ∷ filter has ks) (filter has ks)))) eh
+    ∙ rest
+    ∙ ap (λ t. cond t (f k ∷ filter p (map f ks)) (filter p (map f ks))) (sym et)
+twice_at p f has k ks rest only false true eh et = absurd (not_both (sym eh ∙ only et))
+
 -- a test that lets through only what another does
 pub filter_twice : {K E : Type 0} (p : E → Bool) (f : K → E) (has : K → Bool) → ((k : K) → p (f k) ≡ true → has k ≡ true)
     → (ks : List K) → filter p (map f (filter has ks)) ≡ filter p (map f ks)
 filter_twice p f has only [] = refl
-filter_twice p f has only (k ∷ ks) = by (has k) (p (f k)) refl refl
-  where
-    rest : filter p (map f (filter has ks)) ≡ filter p (map f ks)
-    rest = filter_twice p f has only ks
-
-    by : (h t : Bool) → has k ≡ h → p (f k) ≡ t
-        → filter p (map f (cond (has k) (k ∷ filter has ks) (filter has ks))) ≡ filter p (map f (k ∷ ks))
-    by true t eh et = ap (λ h. filter p (map f (cond h (k ∷ filter has ks) (filter has ks)))) eh
-        ∙ (λ i. cond (p (f k)) (f k ∷ rest i) (rest i))
-    by false false eh et = ap (λ h. filter p (map f (cond h (k ∷ filter has ks) (filter has ks)))) eh
-        ∙ rest
-        ∙ ap (λ t. cond t (f k ∷ filter p (map f ks)) (filter p (map f ks))) (sym et)
-    by false true eh et = absurd (not_both (sym eh ∙ only k et))
-      where
-        not_both : false ≡ true → ⊥
-        not_both e = cc
+filter_twice p f has only (k ∷ ks) =
+    twice_at p f has k ks (filter_twice p f has only ks) (only k) (has k) (p (f k)) refl refl
 
 module _ {X : Type 0} where
   -- a key below all others comes first

@@ -31,3 +31,4 @@ pub mod VersionOpening
 pub mod CopyLemmas
 pub mod ReleaseLemmas
 pub mod BusyLemmas
+pub mod FilteredLists
