@@ -9,3 +9,4 @@ pub mod VersionTokens
 pub mod VersionSteps
 pub mod VersionEvents
 pub mod VersionOpening
+pub mod VersionRetiring
