@@ -1,6 +1,6 @@
 -- The event that retires a version, from what it finds to what it leaves.
 use Rattle.std.proofs.Common.{◌≡◌, ◌≢◌, ℕ, ◌+◌, ◌<◌, ◌≤◌, Bool, true, false, List, [], ◌∷◌, set, Option, Some, None, option_map, refl, sym, ap, ◌∙◌, subst, inl, inr, arith, true≢false}
-use Rattle.std.specs.Prelude.{is_some, is_none, slice_get, IsSome, ◌&&◌}
+use Rattle.std.specs.Prelude.{is_some, is_none, slice_get, IsSome, ◌&&◌, not}
 use Rattle.std.specs.Vec.{with_item}
 use Rattle.std.specs.FinMap.{get, insert, remove}
 use Rattle.std.proofs.lemmas.Option.{none-some, same_Some}
@@ -69,6 +69,13 @@ idle_both x None None h e = (refl, refl)
 idle_both x None (Some j) h e = absurd h
 idle_both x (Some c) None h e = absurd h
 idle_both x (Some c) (Some j) h e = absurd (none-some _ (sym e))
+
+-- nothing is there where a test says so
+pub none_told : {X : Type 0} (o : Option X) (b : Bool) → is_some o ≡ not b → b ≡ is_none o
+none_told None true e = refl
+none_told None false e = absurd (true≢false (sym e))
+none_told (Some x) true e = absurd (true≢false e)
+none_told (Some x) false e = refl
 
 from_zero : (n : ℕ) → n ≡ 0 + n
 from_zero n = omega arith

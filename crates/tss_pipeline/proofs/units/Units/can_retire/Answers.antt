@@ -4,7 +4,7 @@ use Rattle.std.specs.FinMap.{get}
 use Rattle.std.proofs.lemmas.Option.{slice_get_within}
 use Rattle.tss_pipeline.proofs.VersionLookups.{in_read, is_some-mapped}
 use Rattle.tss_pipeline.proofs.VersionEvents.{something}
-use Rattle.tss_pipeline.proofs.VersionRetiring.{retires_not, retires_nowhere, retires_home, retires_away}
+use Rattle.tss_pipeline.proofs.VersionRetiring.{none_told, retires_not, retires_nowhere, retires_home, retires_away}
 use Rattle.tss_pipeline.proofs.units.Units.can_retire.Goals as goal
 
 pub returns-then-not-has : goal.returns-then-not-has
@@ -41,7 +41,7 @@ returns-else-is_home c =
     let b = c.index-bank.result.now in
     let t = in_read u.banks.items c.args.v c.in-Some.bank b c.in-Some.ensures c.index-bank.ensures in
     let k = something (get b.versions.versions c.args.v) t.1 in
-    c.is_none.ensures
+    none_told b.job c.is_none.result c.is_none.ensures
     ∙ retires_away u c.requires c.args.v
     (sym (is_some-mapped _ (get u.mail.retires c.args.v)) ∙ sym c.has.ensures ∙ c.if-not-has.false) c.in-Some.bank b t.0 k.0 k.1
     (sym c.is_home.ensures ∙ c.if-is_home.false)
