@@ -1,5 +1,5 @@
 -- The event that retires a version, from what it finds to what it leaves.
-use Rattle.std.proofs.Common.{◌≡◌, ◌≢◌, ℕ, ◌+◌, ◌<◌, ◌≤◌, Bool, true, false, List, [], ◌∷◌, set, Option, Some, None, option_map, refl, sym, ap, ◌∙◌, subst, inl, inr, arith, true≢false}
+use Rattle.std.proofs.Common.{◌≡◌, ℕ, ◌+◌, ◌<◌, Bool, true, false, List, [], ◌∷◌, set, Option, Some, None, option_map, refl, sym, ap, ◌∙◌, subst, inl, inr, arith, true≢false}
 use Rattle.std.specs.Prelude.{is_some, is_none, slice_get, IsSome, ◌&&◌, not}
 use Rattle.std.specs.Vec.{with_item}
 use Rattle.std.specs.FinMap.{get, insert, remove}
@@ -17,7 +17,6 @@ use Rattle.tss_banks.proofs.VersionRows.{retire_in_bank}
 use Rattle.tss_buffers.specs.declared.copying.Copying.{Copying}
 use Rattle.tss_events.specs.declared.message.HeldBuffer.{HeldBuffer}
 use Rattle.tss_events.specs.declared.message.Gone.{Gone}
-use Rattle.tss_events.specs.declared.message.Message.{Message}
 use Rattle.tss_events.specs.declared.message.Message.TheVariants as message
 use Rattle.tss_events.specs.Events.{storage_name, messages_of, message_of}
 use Rattle.tss_mail.specs.Letters.{MailState, mail_of, with_letter, without_letter}
@@ -25,7 +24,7 @@ use Rattle.tss_protocol.specs.Names.{bank_of}
 use Rattle.tss_protocol.specs.Mail.{StorageName, Home, Buffer, taken, posted, message_at, message_count, name_of}
 use Rattle.tss_protocol.specs.Mail as mail
 use Rattle.tss_protocol.specs.State.{Version, CopyState}
-use Rattle.tss_protocol.specs.Versions.{Versioned, after_retire, unchanged, retired}
+use Rattle.tss_protocol.specs.Versions.{after_retire, unchanged, retired}
 use Rattle.tss_protocol.specs.Buffers.{can_retire_from, sent_by_retire, copies_after_retire, new_copy}
 use Rattle.tss_protocol.specs.UnitMachine.{is_enabled, after_event, can_retire, retire_version, with_sent, without}
 use Rattle.tss_renaming.specs.Bank.{RenamingState}
@@ -33,7 +32,7 @@ use Rattle.tss_versions.specs.declared.kept.Kept.{Kept}
 use Rattle.tss_versions.specs.declared.kept.Store.{Store}
 use Rattle.tss_versions.specs.declared.kept.Store.TheVariants as store
 use Rattle.tss_versions.specs.Known.{VersionsState, version_of, versions_of, storage_in, buffer_in}
-use Rattle.tss_versions.specs.Rows.{Left, gone_by}
+use Rattle.tss_versions.specs.Rows.{gone_by}
 use Rattle.tss_conditions.specs.Posting.{retire_sends}
 use Rattle.tss_conditions.specs.Retiring.{MayLeave}
 use Rattle.tss_conditions.proofs.Retiring.{may_leave, engine_idle}
@@ -41,7 +40,7 @@ use Rattle.tss_pipeline.specs.declared.units.Units.{Units}
 use Rattle.tss_pipeline.specs.declared.bank.Bank.{Bank}
 use Rattle.tss_pipeline.specs.declared.bank.Job.{Job}
 use Rattle.tss_pipeline.specs.Registering.{IsBankWith, lies_home, is_home, CanBringHome, BringsHome}
-use Rattle.tss_pipeline.specs.State.{state_of, bank_tables, bank_versions, bank_copy, job_copy, copies_from}
+use Rattle.tss_pipeline.specs.State.{state_of, bank_versions, bank_copy, job_copy}
 use Rattle.tss_pipeline.specs.Fit.{ground_of, ArePlaced, AreSized, HoldsOwn, IsEngaged, IsFit}
 use Rattle.tss_pipeline.specs.Does.{May, Does}
 use Rattle.tss_pipeline.proofs.Lookups.{versions_here, version_joined, version_own}
@@ -50,7 +49,7 @@ use Rattle.tss_pipeline.proofs.Placing.{placed_beside}
 use Rattle.tss_pipeline.proofs.Grounds.{does}
 use Rattle.tss_pipeline.proofs.VersionLookups.{version_alone}
 use Rattle.tss_pipeline.proofs.VersionTokens.{removed_known, gone_known}
-use Rattle.tss_pipeline.proofs.VersionSteps.{HoldsIn, held_here, bank_number, links_here, mailed, IsRowEvent, IsCalled, IsDone, row_done}
+use Rattle.tss_pipeline.proofs.VersionSteps.{held_here, bank_number, links_here, mailed, IsRowEvent, IsDone, row_done}
 use Rattle.tss_pipeline.proofs.VersionEvents.{something, own_of_bank, not_without}
 
 -- ---- a bank's copy
@@ -141,8 +140,8 @@ module _ (u : Units) (fit : IsFit u) (v : OpName) where
       stored_version = (
         leaves.storage,
         ap (λ (x : Version). x.storage)
-        (one_value (state_of u).versions v (version_of k) leaves.asks.version joined_version leaves.asks.there)
-        ∙ leaves.stored,
+            (one_value (state_of u).versions v (version_of k) leaves.asks.version joined_version leaves.asks.there)
+            ∙ leaves.stored,
       )
 
       by_storage : can_retire_from (option_map storage_name (storage_in k.store)) (bank_copy b)
@@ -291,7 +290,8 @@ module _ (u : Units) (fit : IsFit u) (v : OpName) (may : May (event.Retire v) u)
               ∙ ap (λ s. with_sent (record (without (state_of u) (event.Retire v)) {
                 versions = after_retire (state_of u).versions v;
                 copies =
-                    copies_after_retire (state_of u).copies (bank_of u.machine.sizes k.status.object) v k.status.object s;
+                    copies_after_retire (state_of u).copies (bank_of u.machine.sizes k.status.object) v k.status.object
+                    s;
               }) (sent_by_retire v k.status.object s)) stored_home;
           sends = ap (retire_sends v) there ∙ ap (sent_by_retire v k.status.object) stored_home;
           letters = fit.placed;
@@ -433,7 +433,8 @@ module _ (u : Units) (fit : IsFit u) (v : OpName) (may : May (event.Retire v) u)
         copy_placed =
             subst (λ m. ArePlaced (mailed (record (ground_of u) { banks = set u.banks.items n copies }) m)) (sym others)
             (placed_beside (ground_of u) fit.placed n b copies at refl
-            (subst (λ p. VersionsInBanks u.machine.sizes (set (bank_versions u.banks.items) n p)) (sym versions) row.banks)
+            (subst (λ p. VersionsInBanks u.machine.sizes (set (bank_versions u.banks.items) n p)) (sym versions)
+            row.banks)
             copy_own)
 
         -- the bank copies it, and it is done

@@ -1,5 +1,5 @@
 -- Whether a version may be removed.
-use Rattle.std.proofs.Common.{◌≡◌, true, false, sym, ap, ◌∙◌, arith}
+use Rattle.std.proofs.Common.{sym, ◌∙◌, arith}
 use Rattle.std.specs.FinMap.{get}
 use Rattle.std.proofs.lemmas.Option.{slice_get_within}
 use Rattle.tss_pipeline.proofs.VersionLookups.{in_read, is_some-mapped}
@@ -32,7 +32,8 @@ returns-then-is_home c =
     let k = something (get b.versions.versions c.args.v) t.1 in
     c.if-is_home.true
     ∙ retires_home u c.requires c.args.v
-    (sym (is_some-mapped _ (get u.mail.retires c.args.v)) ∙ sym c.has.ensures ∙ c.if-not-has.false) c.in-Some.bank b t.0 k.0 k.1
+    (sym (is_some-mapped _ (get u.mail.retires c.args.v)) ∙ sym c.has.ensures ∙ c.if-not-has.false)
+    c.in-Some.bank b t.0 k.0 k.1
     (sym c.is_home.ensures ∙ c.if-is_home.true)
 
 pub returns-else-is_home : goal.returns-else-is_home
@@ -43,5 +44,6 @@ returns-else-is_home c =
     let k = something (get b.versions.versions c.args.v) t.1 in
     none_told b.job c.is_none.result c.is_none.ensures
     ∙ retires_away u c.requires c.args.v
-    (sym (is_some-mapped _ (get u.mail.retires c.args.v)) ∙ sym c.has.ensures ∙ c.if-not-has.false) c.in-Some.bank b t.0 k.0 k.1
+    (sym (is_some-mapped _ (get u.mail.retires c.args.v)) ∙ sym c.has.ensures ∙ c.if-not-has.false)
+    c.in-Some.bank b t.0 k.0 k.1
     (sym c.is_home.ensures ∙ c.if-is_home.false)
