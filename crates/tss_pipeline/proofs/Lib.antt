@@ -32,3 +32,4 @@ pub mod CopyLemmas
 pub mod ReleaseLemmas
 pub mod BusyLemmas
 pub mod FilteredLists
+pub mod VersionRetiring

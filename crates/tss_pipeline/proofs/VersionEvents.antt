@@ -1,5 +1,5 @@
 -- The events of the versioning tables, from what they find to what they leave.
-use Rattle.std.proofs.Common.{◌≡◌, ◌≢◌, ℕ, zero, suc, ◌<◌, ◌-◌, ◌/◌, ◌%◌, arith, Bool, true, false, List, [], ◌∷◌, length, Option, Some, None, option_map, refl, sym, ap, ◌∙◌, subst, inl, inr, true≢false}
+use Rattle.std.proofs.Common.{◌≡◌, ℕ, zero, suc, ◌<◌, ◌-◌, ◌/◌, arith, Bool, true, false, List, [], ◌∷◌, length, Option, Some, None, option_map, refl, sym, ap, ◌∙◌, subst, true≢false}
 use Rattle.std.specs.Prelude.{is_some, slice_get, IsSome, ◌^◌}
 use Rattle.std.specs.FinMap.{get}
 use Rattle.std.proofs.lemmas.Option.{none-some, same_Some}
@@ -8,15 +8,14 @@ use Rattle.tss_base.specs.declared.bounds.TheConstants.{BANK_BYTES}
 use Rattle.tss_base.specs.declared.range.Range.{Range}
 use Rattle.tss_base.specs.declared.operand.OpName.{OpName}
 use Rattle.tss_base.specs.declared.event.Event.TheVariants as event
-use Rattle.tss_maps.proofs.Changes.{decide_get, one_value}
+use Rattle.tss_maps.proofs.Changes.{one_value}
 use Rattle.tss_maps.proofs.MappedLemmas.{get-mapped}
-use Rattle.tss_banks.specs.Joined.{bank, joined, IsInNoOther}
 use Rattle.tss_banks.specs.Versions.{IsRowOf}
 use Rattle.tss_banks.proofs.VersionRows.{release_in_bank, use_in_bank, nack_in_bank}
 use Rattle.tss_events.specs.declared.message.Message.{Message}
 use Rattle.tss_mail.specs.Letters.{MailState, mail_of, without_letter, told_release}
 use Rattle.tss_protocol.specs.Names.{bank_of}
-use Rattle.tss_protocol.specs.Mail.{ReleaseContents, taken}
+use Rattle.tss_protocol.specs.Mail.{taken}
 use Rattle.tss_protocol.specs.State.{OperandState, Version}
 use Rattle.tss_protocol.specs.Stations.{operand_at}
 use Rattle.tss_protocol.specs.Versions.{after_release, can_use, after_use, after_nack}
@@ -40,7 +39,7 @@ use Rattle.tss_pipeline.specs.Does.{May}
 use Rattle.tss_pipeline.proofs.Lookups.{versions_here, version_here, version_joined, version_own}
 use Rattle.tss_pipeline.proofs.VersionLookups.{some_banks, is_some-mapped, version_alone, registered_here}
 use Rattle.tss_pipeline.proofs.VersionTokens.{release_known, use_known, nack_known}
-use Rattle.tss_pipeline.proofs.VersionSteps.{HoldsIn, held_here, bank_number, links_here, IsRowEvent, IsCalled, IsDone, row_done}
+use Rattle.tss_pipeline.proofs.VersionSteps.{held_here, bank_number, links_here, IsRowEvent, IsCalled, IsDone, row_done}
 
 -- the number of an object's bank is that of a bank
 pub bank_in_range : (u : Units) → IsFit u → (object : Range) → bank_of u.machine.sizes object < length u.banks.items
@@ -135,7 +134,8 @@ module _ (u : Units) (fit : IsFit u) (o : OpName) (r : OpName × Bool) (there : 
     release_done may new sent called left others took =
         row_done u fit n b at (event.Release o) may (kept_after_release b.versions.versions o r.0 r.1)
         (after_release (state_of u).versions o (told_release r))
-        (after_release (versions_of b.versions.versions) o (told_release r)) release_event new sent called left others took
+        (after_release (versions_of b.versions.versions) o (told_release r)) release_event new sent called left others
+        took
 
 -- ---- a version of a bank
 
@@ -156,8 +156,8 @@ pub not_without : (u : Units) (fit : IsFit u) (v : OpName) (x : Version) → get
 not_without u fit v x there none =
     let within = bank_in_range u fit x.object in
     let b = bank_found u.banks.items (bank_of u.machine.sizes x.object) within in
-    let k = version_here u.machine.sizes u.banks.items fit.placed.versions (bank_of u.machine.sizes x.object) b.0 b.1 v x
-    there refl in
+    let k = version_here u.machine.sizes u.banks.items fit.placed.versions (bank_of u.machine.sizes x.object) b.0 b.1
+    v x there refl in
     none-some k.0 (sym (none (bank_of u.machine.sizes x.object) b.0 b.1) ∙ k.1)
 
 -- ---- use

@@ -1,18 +1,17 @@
 -- What the events of the versioning tables find in the bank of their object.
-use Rattle.std.proofs.Common.{◌≡◌, ◌≢◌, ℕ, ◌+◌, ◌<◌, Bool, true, false, List, length, Option, Some, None, option_map, refl, sym, ap, ◌∙◌, subst, inl, inr, ◌⊎◌, get_or, arith, true≢false}
+use Rattle.std.proofs.Common.{◌≡◌, ℕ, ◌+◌, ◌<◌, true, false, List, length, Option, Some, None, option_map, refl, sym, ap, ◌∙◌, subst, inl, inr, ◌⊎◌, get_or, arith, true≢false}
 use Rattle.std.proofs.lemmas.Bool.Decides.{nat_tests}
-use Rattle.std.specs.Prelude.{is_some, slice_get, IsSome, ◌&&◌}
+use Rattle.std.specs.Prelude.{is_some, slice_get, IsSome}
 use Rattle.std.specs.FinMap.{get}
 use Rattle.std.proofs.lemmas.Option.{none-some, same_Some, slice_get_read, slice_get_within}
 use Rattle.tss_base.specs.declared.operand.OpName.{OpName}
 use Rattle.tss_base.specs.declared.machine.Key.TheVariants as key
 use Rattle.tss_base.specs.declared.event.Event.TheVariants as event
 use Rattle.tss_base.specs.declared.marks.Follow.{Follow}
-use Rattle.tss_maps.specs.Mapped.{mapped}
 use Rattle.tss_maps.proofs.Keys.{name_order}
 use Rattle.tss_maps.proofs.Changes.{decide_get}
 use Rattle.tss_maps.proofs.MappedLemmas.{get-mapped}
-use Rattle.tss_banks.specs.Joined.{bank, joined, IsInNoOther}
+use Rattle.tss_banks.specs.Joined.{bank, IsInNoOther}
 use Rattle.tss_banks.proofs.JoinedLemmas.{joined_there, get-joined}
 use Rattle.tss_events.specs.declared.message.Opening.{Opening}
 use Rattle.tss_events.specs.declared.message.Message.TheVariants as message
@@ -20,7 +19,7 @@ use Rattle.tss_events.specs.Events.{opening_of}
 use Rattle.tss_protocol.specs.Names.{bank_of}
 use Rattle.tss_protocol.specs.State.{OperandState, Version}
 use Rattle.tss_protocol.specs.Stations.{operand_at}
-use Rattle.tss_protocol.specs.Versions.{is_followable, can_use}
+use Rattle.tss_protocol.specs.Versions.{is_followable}
 use Rattle.tss_protocol.specs.UnitMachine.{is_enabled, can_open_message, can_use_message}
 use Rattle.tss_conditions.proofs.Opening.{openable, uses_version}
 use Rattle.tss_pipeline.specs.declared.units.Units.{Units}
@@ -58,9 +57,10 @@ here_or_before i k within = grind (arith, nat_tests)
 pub in_read : (bs : List Bank) (v : OpName) (n : ℕ) (b : Bank) → IsIn bs v n → b ≡ get_or bs n b
     → (slice_get bs n ≡ Some b) × IsSome (get b.versions.versions v)
 in_read bs v n b i read =
-    let at = read_there bs n b (slice_get_within bs n i.bank i.there) read in
-    (at,
-    subst (λ (b : Bank). IsSome (get b.versions.versions v)) (same_Some i.bank b (sym i.there ∙ at)) i.registered)
+    let at = read_there bs n b (slice_get_within bs n i.bank i.there) read in (
+      at,
+      subst (λ (b : Bank). IsSome (get b.versions.versions v)) (same_Some i.bank b (sym i.there ∙ at)) i.registered,
+    )
 
 module _ (u : Units) (fit : IsFit u) (n : ℕ) (b : Bank) (there : slice_get u.banks.items n ≡ Some b) (v : OpName)
     (own : (x : Version) → get (state_of u).versions v ≡ Some x → bank_of u.machine.sizes x.object ≡ n) where
@@ -125,7 +125,8 @@ module _ (u : Units) (fit : IsFit u) (o : OpName) where
 -- ---- use
 
 -- the message that was seen
-pub use_seen : (o name v : OpName) (g : Option OpName) → Some (message.Use name v) ≡ option_map (message.Use o) g → g ≡ Some v
+pub use_seen : (o name v : OpName) (g : Option OpName) → Some (message.Use name v) ≡ option_map (message.Use o) g
+    → g ≡ Some v
 use_seen o name v None e = absurd (none-some (message.Use name v) (sym e))
 use_seen o name v (Some w) e = cc
 

@@ -1,19 +1,18 @@
 -- The event that registers a version, from what it finds to what it leaves.
-use Rattle.std.proofs.Common.{◌≡◌, ◌≢◌, ℕ, ◌<◌, Bool, true, false, List, Option, Some, None, option_map, refl, sym, ap, ◌∙◌, subst, inl, inr, ◌⊎◌, true≢false}
-use Rattle.std.specs.Prelude.{is_some, slice_get, IsSome}
+use Rattle.std.proofs.Common.{◌≡◌, ℕ, ◌<◌, Bool, true, false, List, Option, Some, None, option_map, refl, sym, ap, ◌∙◌, subst, inl, inr, true≢false}
+use Rattle.std.specs.Prelude.{slice_get, IsSome}
 use Rattle.std.specs.FinMap.{get, remove}
 use Rattle.std.proofs.lemmas.Option.{none-some, same_Some}
 use Rattle.tss_base.specs.declared.operand.OpName.{OpName}
 use Rattle.tss_base.specs.declared.operand.Storage.{Storage}
 use Rattle.tss_base.specs.declared.operand.Storage.TheVariants as storage
-use Rattle.tss_base.specs.declared.marks.How.TheVariants.{Over}
 use Rattle.tss_base.specs.declared.marks.Follow.{Follow}
 use Rattle.tss_base.specs.declared.event.Event.TheVariants as event
 use Rattle.tss_maps.proofs.Keys.{name_order}
 use Rattle.tss_maps.proofs.Changes.{from_removed}
 use Rattle.tss_maps.proofs.MappedLemmas.{get-mapped}
 use Rattle.tss_tokens.specs.Pool.{TokenState}
-use Rattle.tss_banks.specs.Joined.{bank, joined, IsInNoOther}
+use Rattle.tss_banks.specs.Joined.{IsInNoOther}
 use Rattle.tss_banks.specs.Versions.{IsRowOf}
 use Rattle.tss_banks.proofs.VersionRows.{open_in_bank, can_open_in_bank}
 use Rattle.tss_events.specs.declared.message.HeldBuffer.{HeldBuffer}
@@ -22,11 +21,9 @@ use Rattle.tss_events.specs.declared.message.Message.{Message}
 use Rattle.tss_events.specs.Events.{storage_name, opening_of}
 use Rattle.tss_mail.specs.Letters.{MailState, mail_of, without_letter}
 use Rattle.tss_protocol.specs.Names.{bank_of}
-use Rattle.tss_protocol.specs.Mail.{StorageName, Home, Buffer, OpenContents, taken}
-use Rattle.tss_protocol.specs.State.{Version}
+use Rattle.tss_protocol.specs.Mail.{Buffer, OpenContents, taken}
 use Rattle.tss_protocol.specs.Versions.{can_open, after_open}
 use Rattle.tss_protocol.specs.UnitMachine.{is_enabled, after_event, can_open_message, open_message_taken, without}
-use Rattle.tss_versions.specs.declared.kept.Kept.{Kept}
 use Rattle.tss_versions.specs.Known.{VersionsState, versions_of, buffer_in, store_by}
 use Rattle.tss_versions.specs.Conditions.{MayOpen, OpensBare}
 use Rattle.tss_versions.specs.Rows.{kept_after_open}
@@ -40,8 +37,8 @@ use Rattle.tss_pipeline.specs.Fit.{ground_of, HoldsBuffer, HoldsOpening, IsFit}
 use Rattle.tss_pipeline.specs.Does.{May}
 use Rattle.tss_pipeline.proofs.Lookups.{versions_here, no_version_here}
 use Rattle.tss_pipeline.proofs.Placing.{placed_fewer}
-use Rattle.tss_pipeline.proofs.VersionLookups.{is_some-mapped, version_alone}
-use Rattle.tss_pipeline.proofs.VersionTokens.{KnowsOpening, open_known}
+use Rattle.tss_pipeline.proofs.VersionLookups.{version_alone}
+use Rattle.tss_pipeline.proofs.VersionTokens.{open_known}
 use Rattle.tss_pipeline.proofs.VersionSteps.{HoldsIn, held_here, bank_number, links_here, IsRowEvent, IsCalled, IsDone, row_done}
 
 -- without a storage there is no name of one
@@ -137,7 +134,8 @@ module _ (u : Units) (fit : IsFit u) (o : OpName) (may : May (event.Open o) u) (
       ∙ blocked)
 
   open_event : IsRowEvent u n b (event.Open o) (kept_after_open b.versions.versions x)
-      (after_open (state_of u).versions o (opening_of x)) (after_open (versions_of b.versions.versions) o (opening_of x))
+      (after_open (state_of u).versions o (opening_of x))
+      (after_open (versions_of b.versions.versions) o (opening_of x))
   unfolding after_event
   open_event = record {
     row =

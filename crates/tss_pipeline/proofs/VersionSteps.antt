@@ -1,26 +1,21 @@
 -- A row of the versioning table in one bank is the event of the machine.
-use Rattle.std.proofs.Common.{◌≡◌, ◌≢◌, ℕ, ◌+◌, ◌<◌, ◌≤◌, List, [], ◌∷◌, length, set, Option, Some, None, option_map, refl, sym, ap, ◌∙◌, subst, inl, inr}
+use Rattle.std.proofs.Common.{◌≡◌, ℕ, ◌+◌, ◌<◌, ◌≤◌, List, [], ◌∷◌, length, set, Some, refl, sym, ap, ◌∙◌, subst}
 use Rattle.std.specs.Prelude.{slice_get}
 use Rattle.std.specs.Vec.{with_item}
 use Rattle.std.specs.FinMap.{get}
-use Rattle.std.proofs.lemmas.Option.{none-some, same_Some, slice_get_within}
+use Rattle.std.proofs.lemmas.Option.{same_Some, slice_get_within}
 use Rattle.std.proofs.lemmas.List.{length-map}
 use Rattle.tss_base.specs.declared.range.Range.{Range}
 use Rattle.tss_base.specs.declared.operand.OpName.{OpName}
 use Rattle.tss_base.specs.declared.machine.Sizes.{Sizes}
-use Rattle.tss_base.specs.declared.marks.Follow.{Follow}
 use Rattle.tss_base.specs.declared.event.Event.{Event}
-use Rattle.tss_base.specs.Names.{Named}
 use Rattle.tss_maps.proofs.Keys.{name_order}
-use Rattle.tss_maps.proofs.MappedLemmas.{get-mapped}
 use Rattle.tss_tokens.specs.Pool.{TokenState}
 use Rattle.tss_banks.specs.Joined.{bank, joined}
 use Rattle.tss_banks.specs.Tables.{joined_tables}
 use Rattle.tss_banks.specs.Versions.{VersionsInBanks, LinksIn, IsRowOf}
 use Rattle.tss_banks.proofs.JoinedLemmas.{joined_there}
 use Rattle.tss_banks.proofs.VersionRows.{version_in_bank, links_in_bank}
-use Rattle.tss_events.specs.declared.message.HeldBuffer.{HeldBuffer}
-use Rattle.tss_events.specs.declared.message.Gone.{Gone}
 use Rattle.tss_events.specs.declared.message.Message.{Message}
 use Rattle.tss_events.specs.declared.message.Message.TheVariants as message
 use Rattle.tss_events.specs.Events.{message_of, messages_of}
@@ -28,29 +23,29 @@ use Rattle.tss_mail.specs.Letters.{MailState, mail_of, with_letter, without_lett
 use Rattle.tss_protocol.specs.Names.{bank_of}
 use Rattle.tss_protocol.specs.Mail.{message_count, posted_all, taken}
 use Rattle.tss_protocol.specs.Counts.{message_limit}
-use Rattle.tss_protocol.specs.State.{State, Version}
+use Rattle.tss_protocol.specs.State.{Version}
 use Rattle.tss_protocol.specs.Versions.{Versioned}
 use Rattle.tss_protocol.specs.UnitMachine.{with_versioned, without, after_event}
-use Rattle.tss_versions.specs.declared.kept.Kept.{Kept}
-use Rattle.tss_versions.specs.Known.{VersionsState, versions_of, buffer_in}
-use Rattle.tss_versions.specs.Conditions.{AreChained, IsBefore, IsNext}
+use Rattle.tss_versions.specs.Known.{VersionsState, versions_of}
+use Rattle.tss_versions.specs.Conditions.{AreChained}
 use Rattle.tss_versions.specs.Rows.{Left}
 use Rattle.tss_conditions.specs.Posting.{ArePostable, sent_by_event}
+use Rattle.tss_conditions.specs.Opening.{IsRegistered}
 use Rattle.tss_conditions.proofs.Posting.{may_post}
 use Rattle.tss_conditions.proofs.Opening.{registered, links_within}
 use Rattle.tss_renaming.specs.Bank.{RenamingState}
 use Rattle.tss_pipeline.specs.declared.units.Units.{Units}
 use Rattle.tss_pipeline.specs.declared.bank.Bank.{Bank}
 use Rattle.tss_pipeline.specs.Letters.{with_letters}
-use Rattle.tss_pipeline.specs.State.{state_of, bank_tables, bank_versions, bank_copy, copies_from, contents_of}
-use Rattle.tss_pipeline.specs.Fit.{Ground, ground_of, ArePlaced, AreSized, IsSized, HoldsPlace, HoldsBuffer, HoldsKept, HoldsGone, HoldsOwn, IsFit}
+use Rattle.tss_pipeline.specs.State.{state_of, bank_versions}
+use Rattle.tss_pipeline.specs.Fit.{Ground, ground_of, ArePlaced, AreSized, HoldsPlace, HoldsBuffer, HoldsGone, HoldsOwn, IsFit}
 use Rattle.tss_pipeline.specs.Does.{Does, May}
 use Rattle.tss_pipeline.proofs.LetterLemmas.{size_with_letter}
 use Rattle.tss_pipeline.proofs.BankChanges.{slice_get-set, tables_kept, versions_set, contents_kept, copies_kept, banks_set}
-use Rattle.tss_pipeline.proofs.Lookups.{versions_here, at_own, version_here, version_joined, version_own}
+use Rattle.tss_pipeline.proofs.Lookups.{versions_here, version_own}
 use Rattle.tss_pipeline.proofs.Placing.{placed_beside, placed_gone}
 use Rattle.tss_pipeline.proofs.Grounds.{does}
-use Rattle.tss_pipeline.proofs.VersionTokens.{Knows, KnowsAll, KnowsGone, KnowsSent, KnowsEach, KnowsLeft}
+use Rattle.tss_pipeline.proofs.VersionTokens.{KnowsAll, KnowsSent, KnowsEach, KnowsLeft}
 
 -- ---- what the versions of a bank are
 
@@ -78,20 +73,24 @@ module _ (u : Units) (fit : IsFit u) (n : ℕ) (b : Bank) (there : slice_get u.b
       → bank_of u.machine.sizes y.object ≡ n
   own_object v y at = fit.placed.versions.own n v y (bank_at v y at)
 
+  -- how it stands there
+  standing : (v : OpName) (y : Version) → get (versions_of b.versions.versions) v ≡ Some y
+      → IsRegistered u.machine (state_of u) v y
+  standing v y at = registered u.machine fit.reached.image (state_of u) v y fit.reached.reached (in_state v y at)
+
   -- they are settled and chained
   pub chained_here : AreChained (versions_of b.versions.versions)
   chained_here = record {
-    settled = λ v y at.
-        (registered u.machine fit.reached.image (state_of u) v y fit.reached.reached (in_state v y at)).settled;
+    settled = λ v y at. (standing v y at).settled;
     before = λ v q y at to.
-        let r = (registered u.machine fit.reached.image (state_of u) v y fit.reached.reached (in_state v y at)).before q to in
+        let r = (standing v y at).before q to in
         record {
           version = r.version;
           there = in_bank q r.version r.there (ap (bank_of u.machine.sizes) r.object ∙ own_object v y at);
           older = r.older;
         };
     after = λ v y f at to.
-        let r = (registered u.machine fit.reached.image (state_of u) v y fit.reached.reached (in_state v y at)).after f to in
+        let r = (standing v y at).after f to in
         record {
           version = r.version;
           there = in_bank f.version r.version r.there (ap (bank_of u.machine.sizes) r.object ∙ own_object v y at);
@@ -222,91 +221,95 @@ module _ (u : Units) (fit : IsFit u) (n : ℕ) (b : Bank) (there : slice_get u.b
   sends_own = event.sends ∙ event.row.sent ∙ sym called.sent_own
 
   module _ (left : MailState) (others : left ≡ without_letter u.mail e) (took : mail_of left ≡ taken (mail_of u.mail) e)
-      where
-    -- its messages may be posted
-    row_fresh : ArePostable (mail_of left) (messages_of sent)
-    row_fresh =
-        subst (λ m. ArePostable m (messages_of sent)) (sym took)
-        (subst (ArePostable (taken (mail_of u.mail) e)) sends_own
-        (may_post u.machine fit.reached.image (state_of u) e fit.reached.reached may).fresh)
+    where
+      -- its messages may be posted
+      row_fresh : ArePostable (mail_of left) (messages_of sent)
+      row_fresh =
+          subst (λ m. ArePostable m (messages_of sent)) (sym took)
+          (subst (ArePostable (taken (mail_of u.mail) e)) sends_own
+          (may_post u.machine fit.reached.image (state_of u) e fit.reached.reached may).fresh)
 
-    left_size : left.size ≡ message_limit u.machine
-    left_size = ap (λ m. m.size) others ∙ event.size ∙ fit.sized.mail
+      left_size : left.size ≡ message_limit u.machine
+      left_size = ap (λ m. m.size) others ∙ event.size ∙ fit.sized.mail
 
-    row_room : message_count (mail_of left) + length sent ≤ left.size
-    row_room =
-        subst (λ k. message_count (mail_of left) + length sent ≤ k) (sym left_size)
-        (subst (λ k. message_count (mail_of left) + k ≤ message_limit u.machine)
-        (ap length sends_own ∙ length-map sent message_of)
-        (subst (λ m. message_count m + length (sent_by_event u.machine (state_of u) e) ≤ message_limit u.machine)
-        (sym took) (may_post u.machine fit.reached.image (state_of u) e fit.reached.reached may).room))
+      row_room : message_count (mail_of left) + length sent ≤ left.size
+      row_room =
+          subst (λ k. message_count (mail_of left) + length sent ≤ k) (sym left_size)
+          (subst (λ k. message_count (mail_of left) + k ≤ message_limit u.machine)
+          (ap length sends_own ∙ length-map sent message_of)
+          (subst (λ m. message_count m + length (sent_by_event u.machine (state_of u) e) ≤ message_limit u.machine)
+          (sym took) (may_post u.machine fit.reached.image (state_of u) e fit.reached.reached may).room))
 
-    module _ (mail : MailState) (posted : mail ≡ with_letters left sent)
-        (seen : mail_of mail ≡ posted_all (mail_of left) (messages_of sent)) where
-      row_state : state_of (record u { banks = with_item u.banks n (record b { versions = new }); mail = mail })
-          ≡ after_event u.machine (state_of u) e
-      row_state =
-          state_changed u n b there new mail
-          ∙ (λ i. record (state_of u) {
-            versions = (ap (λ p. joined (set (bank_versions u.banks.items) n p)) called.versions ∙ sym event.row.part) i;
-            mail =
-                (seen
-                ∙ ap (λ m. posted_all m (messages_of sent)) took
-                ∙ ap (posted_all (taken (mail_of u.mail) e)) (called.sent_own ∙ sym event.row.sent)) i;
-          })
-          ∙ sym event.after
+      module _ (mail : MailState) (posted : mail ≡ with_letters left sent)
+          (seen : mail_of mail ≡ posted_all (mail_of left) (messages_of sent)) where
+        row_state : state_of (record u { banks = with_item u.banks n (record b { versions = new }); mail = mail })
+            ≡ after_event u.machine (state_of u) e
+        row_state =
+            state_changed u n b there new mail
+            ∙ (λ i. record (state_of u) {
+              versions =
+                  (ap (λ p. joined (set (bank_versions u.banks.items) n p)) called.versions ∙ sym event.row.part) i;
+              mail =
+                  (seen
+                  ∙ ap (λ m. posted_all m (messages_of sent)) took
+                  ∙ ap (posted_all (taken (mail_of u.mail) e)) (called.sent_own ∙ sym event.row.sent)) i;
+            })
+            ∙ sym event.after
 
-      row_sized : AreSized (record u { banks = with_item u.banks n (record b { versions = new }); mail = mail })
-      row_sized = record {
-        limits = fit.sized.limits;
-        window = fit.sized.window;
-        stations = fit.sized.stations;
-        queue = fit.sized.queue;
-        workers = fit.sized.workers;
-        mail = ap (λ m. m.size) posted ∙ size_with_letters left sent ∙ left_size;
-        banks =
-            banks_set u.banks.items n b (record b { versions = new }) there u.machine fit.sized.banks (record {
-              bank = (fit.sized.banks.each n b there).bank;
-              sizes = (fit.sized.banks.each n b there).sizes;
-              versions = ap (λ (s : VersionsState). s.size) called.exact ∙ (fit.sized.banks.each n b there).versions;
-            });
-        buffer_banks = fit.sized.buffer_banks;
-        buffers = fit.sized.buffers;
-        object_bytes = fit.sized.object_bytes;
-      }
+        row_sized : AreSized (record u { banks = with_item u.banks n (record b { versions = new }); mail = mail })
+        row_sized = record {
+          limits = fit.sized.limits;
+          window = fit.sized.window;
+          stations = fit.sized.stations;
+          queue = fit.sized.queue;
+          workers = fit.sized.workers;
+          mail = ap (λ m. m.size) posted ∙ size_with_letters left sent ∙ left_size;
+          banks =
+              banks_set u.banks.items n b (record b { versions = new }) there u.machine fit.sized.banks (record {
+                bank = (fit.sized.banks.each n b there).bank;
+                sizes = (fit.sized.banks.each n b there).sizes;
+                versions = ap (λ (s : VersionsState). s.size) called.exact ∙ (fit.sized.banks.each n b there).versions;
+              });
+          buffer_banks = fit.sized.buffer_banks;
+          buffers = fit.sized.buffers;
+          object_bytes = fit.sized.object_bytes;
+        }
 
-      row_own : HoldsOwn (record b { versions = new })
-      row_own = record {
-        apart = (fit.placed.own n b there).apart;
-        versions = λ v y at.
-            let h = event.tokens.part v y (ap (λ (s : VersionsState). get s.versions v) (sym called.exact) ∙ at) in
-            record { place = h.place.place; buffer = h.buffer };
-        engine = (fit.placed.own n b there).engine;
-      }
+        row_own : HoldsOwn (record b { versions = new })
+        row_own = record {
+          apart = (fit.placed.own n b there).apart;
+          versions = λ v y at.
+              let h = event.tokens.part v y (ap (λ (s : VersionsState). get s.versions v) (sym called.exact) ∙ at) in
+              record { place = h.place.place; buffer = h.buffer };
+          engine = (fit.placed.own n b there).engine;
+        }
 
-      row_placed
-          : ArePlaced (ground_of (record u { banks = with_item u.banks n (record b { versions = new }); mail = mail }))
-      row_placed =
-          let beside = placed_beside (mailed (ground_of u) (without_letter u.mail e)) event.letters n b
-          (record b { versions = new }) there refl
-          (subst (λ p. VersionsInBanks u.machine.sizes (set (bank_versions u.banks.items) n p)) (sym called.versions)
-          event.row.banks)
-          row_own in
-          subst (λ m. ArePlaced (mailed (record (ground_of u) { banks = set u.banks.items n (record b { versions = new }) }) m))
-          (sym posted)
-          (placed_letters (record (ground_of u) { banks = set u.banks.items n (record b { versions = new }) }) n
-          (record b { versions = new }) (slice_get-set u.banks.items n b (record b { versions = new }) there)
-          left sent
-          (subst (λ m. ArePlaced (mailed (record (ground_of u) { banks = set u.banks.items n (record b { versions = new }) }) m))
-          (sym others) beside)
-          (subst (KnowsEach (HoldsIn u.machine.sizes n b.renaming) (HoldsBuffer b.renaming)) (sym called.messages)
-          event.tokens.sent))
+        abbrev ground_beside : Ground
+        ground_beside = record (ground_of u) { banks = set u.banks.items n (record b { versions = new }) }
 
-      row_does : Does e u (record u { banks = with_item u.banks n (record b { versions = new }); mail = mail })
-      row_does =
-          does e u (record u { banks = with_item u.banks n (record b { versions = new }); mail = mail }) fit may refl
-          row_state row_sized row_placed
+        row_placed
+            : ArePlaced (ground_of (record u {
+              banks = with_item u.banks n (record b { versions = new });
+              mail = mail;
+            }))
+        row_placed =
+            let beside = placed_beside (mailed (ground_of u) (without_letter u.mail e)) event.letters n b
+            (record b { versions = new }) there refl
+            (subst (λ p. VersionsInBanks u.machine.sizes (set (bank_versions u.banks.items) n p)) (sym called.versions)
+            event.row.banks)
+            row_own in
+            subst (λ m. ArePlaced (mailed ground_beside m)) (sym posted)
+            (placed_letters ground_beside n (record b { versions = new })
+            (slice_get-set u.banks.items n b (record b { versions = new }) there) left sent
+            (subst (λ m. ArePlaced (mailed ground_beside m)) (sym others) beside)
+            (subst (KnowsEach (HoldsIn u.machine.sizes n b.renaming) (HoldsBuffer b.renaming)) (sym called.messages)
+            event.tokens.sent))
 
-    -- and with them it is done
-    pub row_done : IsDone u n b e new sent left
-    row_done = record { fresh = row_fresh; room = row_room; does = row_does }
+        row_does : Does e u (record u { banks = with_item u.banks n (record b { versions = new }); mail = mail })
+        row_does =
+            does e u (record u { banks = with_item u.banks n (record b { versions = new }); mail = mail }) fit may refl
+            row_state row_sized row_placed
+
+      -- and with them it is done
+      pub row_done : IsDone u n b e new sent left
+      row_done = record { fresh = row_fresh; room = row_room; does = row_does }

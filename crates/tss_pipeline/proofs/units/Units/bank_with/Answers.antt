@@ -1,5 +1,5 @@
 -- The bank in which a version is registered.
-use Rattle.std.proofs.Common.{sym, ap, ◌∙◌, subst, inl, inr, arith, get_or}
+use Rattle.std.proofs.Common.{sym, ap, ◌∙◌, inl, inr, arith}
 use Rattle.std.specs.Prelude.{slice_get, is_some}
 use Rattle.std.specs.FinMap.{get}
 use Rattle.std.proofs.lemmas.Option.{same_Some, slice_get_within}
@@ -13,7 +13,9 @@ returns-then-has c =
     let count = c.requires.count in
     record {
       bank = c.index.result.now;
-      there = read_there c.args.self.now.banks.items c.loop-bank.bank c.index.result.now (omega (arith, below, count)) c.index.ensures;
+      there =
+          read_there c.args.self.now.banks.items c.loop-bank.bank c.index.result.now (omega (arith, below, count))
+          c.index.ensures;
       registered = sym c.has.ensures ∙ c.if-has.true;
     }
 
@@ -22,8 +24,11 @@ loop-bank-preserved c i b within at = elim (here_or_before i c.loop-bank.bank wi
   | inl here ↦
       let below = c.loop-bank-test.true in
       let count = c.requires.count in
-      let there = read_there c.args.self.now.banks.items c.loop-bank.bank c.index.result.now (omega (arith, below, count)) c.index.ensures in
-      let same = same_Some c.index.result.now b (sym there ∙ ap (slice_get c.args.self.now.banks.items) (sym here) ∙ at) in
+      let there = read_there c.args.self.now.banks.items c.loop-bank.bank c.index.result.now
+      (omega (arith, below, count)) c.index.ensures in
+      let same = same_Some c.index.result.now b (sym there
+      ∙ ap (slice_get c.args.self.now.banks.items) (sym here)
+      ∙ at) in
       none_there (get b.versions.versions c.args.v)
       (ap (λ (b : Bank). is_some (get b.versions.versions c.args.v)) (sym same) ∙ sym c.has.ensures ∙ c.if-has.false)
   | inr before ↦ c.loop-bank.invariant i b before at

@@ -11,7 +11,9 @@ pub returns-in-Some : goal.returns-in-Some
 returns-in-Some c =
     let u = c.args.self.now in
     let x = c.in-Some-Open.opening in
-    let seen = ap Some (sym c.in-Some-Open.field-0-is) ∙ ap (option_map (λ m. m.now)) (sym c.in-Some-Open.is) ∙ c.see.ensures.exact in
+    let seen = ap Some (sym c.in-Some-Open.field-0-is)
+    ∙ ap (option_map (λ m. m.now)) (sym c.in-Some-Open.is)
+    ∙ c.see.ensures.exact in
     let b = c.index.result.now in
     c.has.ensures
     ∙ opens_behind u c.requires c.args.o x (opening_seen _ x seen) c.in-Some.follow b c.in-Some.is
@@ -21,7 +23,9 @@ returns-in-Some c =
 pub returns-in-None : goal.returns-in-None
 returns-in-None c =
     let x = c.in-Some-Open.opening in
-    let seen = ap Some (sym c.in-Some-Open.field-0-is) ∙ ap (option_map (λ m. m.now)) (sym c.in-Some-Open.is) ∙ c.see.ensures.exact in
+    let seen = ap Some (sym c.in-Some-Open.field-0-is)
+    ∙ ap (option_map (λ m. m.now)) (sym c.in-Some-Open.is)
+    ∙ c.see.ensures.exact in
     opens_first c.args.self.now c.requires c.args.o x (opening_seen _ x seen) c.in-None.is
 
 pub returns-in_default-2 : goal.returns-in_default-2

@@ -84,4 +84,5 @@ returns c =
     c.bank_of-bank.ensures.exact (read_there u.banks.items n b c.bank_of-bank.ensures.within c.index_mut.ensures.value)
     c.open_version.new.self c.in-Ok.sent
     (record { exact = v.exact; versions = v.versions; messages = v.messages; sent_own = v.sent })
-    x.new.mail x.ensures.others x.ensures.taken).does c.post_all.new.mail c.post_all.ensures.exact c.post_all.ensures.posted
+    x.new.mail x.ensures.others x.ensures.taken).does c.post_all.new.mail c.post_all.ensures.exact
+    c.post_all.ensures.posted

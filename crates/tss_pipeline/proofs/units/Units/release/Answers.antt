@@ -45,10 +45,10 @@ post_all-requires-clause-fresh c =
     let n = c.bank_of_operand-bank.result in
     let at = read_there u.banks.items n b c.bank_of_operand-bank.ensures.within c.index_mut.ensures.value in
     let r = c.take_release-producer in
-    let v = c.release-sent in
+    let v = c.release-sent.ensures in
     (release_done u c.requires.fit c.args.o r.result r.ensures.exact n b at c.bank_of_operand-bank.ensures.exact
-    c.requires.may v.new.self v.result
-    (record { exact = v.ensures.exact; versions = v.ensures.versions; messages = v.ensures.messages; sent_own = v.ensures.sent })
+    c.requires.may c.release-sent.new.self c.release-sent.result
+    (record { exact = v.exact; versions = v.versions; messages = v.messages; sent_own = v.sent })
     r.new.mail r.ensures.others r.ensures.taken).fresh
 
 pub post_all-requires-clause-room : goal.post_all-requires-clause-room
@@ -58,10 +58,10 @@ post_all-requires-clause-room c =
     let n = c.bank_of_operand-bank.result in
     let at = read_there u.banks.items n b c.bank_of_operand-bank.ensures.within c.index_mut.ensures.value in
     let r = c.take_release-producer in
-    let v = c.release-sent in
+    let v = c.release-sent.ensures in
     (release_done u c.requires.fit c.args.o r.result r.ensures.exact n b at c.bank_of_operand-bank.ensures.exact
-    c.requires.may v.new.self v.result
-    (record { exact = v.ensures.exact; versions = v.ensures.versions; messages = v.ensures.messages; sent_own = v.ensures.sent })
+    c.requires.may c.release-sent.new.self c.release-sent.result
+    (record { exact = v.exact; versions = v.versions; messages = v.messages; sent_own = v.sent })
     r.new.mail r.ensures.others r.ensures.taken).room
 
 pub returns : goal.returns
@@ -71,8 +71,9 @@ returns c =
     let n = c.bank_of_operand-bank.result in
     let at = read_there u.banks.items n b c.bank_of_operand-bank.ensures.within c.index_mut.ensures.value in
     let r = c.take_release-producer in
-    let v = c.release-sent in
+    let v = c.release-sent.ensures in
     (release_done u c.requires.fit c.args.o r.result r.ensures.exact n b at c.bank_of_operand-bank.ensures.exact
-    c.requires.may v.new.self v.result
-    (record { exact = v.ensures.exact; versions = v.ensures.versions; messages = v.ensures.messages; sent_own = v.ensures.sent })
-    r.new.mail r.ensures.others r.ensures.taken).does c.post_all.new.mail c.post_all.ensures.exact c.post_all.ensures.posted
+    c.requires.may c.release-sent.new.self c.release-sent.result
+    (record { exact = v.exact; versions = v.versions; messages = v.messages; sent_own = v.sent })
+    r.new.mail r.ensures.others r.ensures.taken).does c.post_all.new.mail c.post_all.ensures.exact
+    c.post_all.ensures.posted
