@@ -33,3 +33,5 @@ pub mod ReleaseLemmas
 pub mod BusyLemmas
 pub mod FilteredLists
 pub mod VersionRetiring
+pub mod FreeEvents
+pub mod FewEvents
