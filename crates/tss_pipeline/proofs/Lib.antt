@@ -10,3 +10,4 @@ pub mod StationLemmas
 pub mod TakeLemmas
 pub mod LineLemmas
 pub mod DecodeLemmas
+pub mod MainLemmas
