@@ -1,5 +1,5 @@
 -- The lines of the banks while decodes are sent, one by one.
-use Rattle.std.proofs.Common.{◌≡◌, ◌≢◌, ◌<◌, ◌≤◌, ℕ, zero, suc, ◌+◌, ◌*◌, List, [], ◌∷◌, length, map, set, Option, Some, None, refl, sym, ap, ◌∙◌, subst, arith}
+use Rattle.std.proofs.Common.{◌≡◌, ◌≢◌, ℕ, zero, suc, ◌+◌, List, [], ◌∷◌, length, map, set, Some, None, refl, sym, ap, ◌∙◌, subst, arith}
 use Rattle.std.specs.Prelude.{slice_get}
 use Rattle.std.specs.FinMap.{get, insert}
 use Rattle.std.proofs.lemmas.Option.{none-some, same_Some}
@@ -57,13 +57,12 @@ module _ (sizes : Sizes) where
       → slice_get (lined sizes decodes n bs) k ≡ Some x
       → (b : Bank) × (slice_get bs k ≡ Some b) × (x ≡ with_line b (line_of sizes (n + k) decodes))
   from_lined decodes n [] k x at = absurd (none-some x at)
-  from_lined decodes n (b ∷ bs) zero x at =
-      (
-        b,
-        refl,
-        sym (same_Some (with_line b (line_of sizes n decodes)) x at)
+  from_lined decodes n (b ∷ bs) zero x at = (
+    b,
+    refl,
+    sym (same_Some (with_line b (line_of sizes n decodes)) x at)
         ∙ ap (λ m. with_line b (line_of sizes m decodes)) (sym (same_number n)),
-      )
+  )
   from_lined decodes n (b ∷ bs) (suc k) x at =
       let t = from_lined decodes (suc n) bs k x at in
       (t.0, t.1, t.2 ∙ ap (λ m. with_line t.0 (line_of sizes m decodes)) (sym (later_number n k)))

@@ -9,7 +9,6 @@ use Rattle.tss_model.specs.Memory.{Memory}
 use Rattle.tss_model.specs.Registers.{register_at}
 use Rattle.tss_model.specs.MainStep.{Call, ExitCall, Spawn, Barrier, Print, Await, Unknown, MainState, call_of, main_call, main_stretch, next_call}
 use Rattle.tss_protocol.specs.MainEvent as protocol
-use Rattle.tss_protocol.specs.State.{State}
 use Rattle.tss_protocol.specs.UnitMachine.{is_enabled, after_event}
 use Rattle.tss_steps.specs.Limited.{LimitedMain, flat_of}
 use Rattle.tss_gateway.specs.Seen.{GatewayState}

@@ -2,7 +2,7 @@
 use Rattle.std.proofs.Common.{◌≡◌, ◌<◌, ◌≤◌, ℕ, suc, ◌+◌, ◌*◌, ◌⊎◌, inl, inr, Bool, true, false, nat_eq, nat_lt, List, [], ◌∷◌, length, vec_len, Option, Some, None, refl, sym, ap, ◌∙◌, subst, arith, true≢false}
 use Rattle.std.specs.Prelude.{◌&&◌}
 use Rattle.std.specs.Vec.{with_items}
-use Rattle.std.specs.FinMap.{get, insert, len}
+use Rattle.std.specs.FinMap.{insert, len}
 use Rattle.std.proofs.lemmas.List.{with_items_is}
 use Rattle.std.proofs.lemmas.Option.{none-some}
 use Rattle.std.proofs.lemmas.Bool.Decides.{nat_tests}
@@ -152,96 +152,96 @@ module _ (u : Units) (fit : IsFit u) (may : May event.Take u) where
         (lines : banks ≡ lined u.machine.sizes mail.decodes 0 u.banks.items)
         (rest : mail ≡ record (u.mail) { decodes = mail.decodes })
         (sent : mail_of mail ≡ posted_all (mail_of u.mail) (sent_by_take t)) (long : length u.banks.items ≡ vec_len u.banks)
-        where
-      abbrev taken_units : Units
-      taken_units = record u {
-        gateway = gateway;
-        stations = stations;
-        queue = queue;
-        banks = with_items u.banks banks;
-        mail = mail;
-      }
+      where
+        abbrev taken_units : Units
+        taken_units = record u {
+          gateway = gateway;
+          stations = stations;
+          queue = queue;
+          banks = with_items u.banks banks;
+          mail = mail;
+        }
 
-      items : (with_items u.banks banks).items ≡ lined u.machine.sizes mail.decodes 0 u.banks.items
-      items =
-          with_items_is u.banks banks
-          (ap length lines ∙ length-lined u.machine.sizes mail.decodes 0 u.banks.items ∙ long)
-          ∙ lines
+        items : (with_items u.banks banks).items ≡ lined u.machine.sizes mail.decodes 0 u.banks.items
+        items =
+            with_items_is u.banks banks
+            (ap length lines ∙ length-lined u.machine.sizes mail.decodes 0 u.banks.items ∙ long)
+            ∙ lines
 
-      tables : bank_tables (with_items u.banks banks).items ≡ bank_tables u.banks.items
-      tables =
-          ap bank_tables items
-          ∙ mapped_lined (λ (b : Bank). tables_of b.renaming) (λ b line. refl) u.machine.sizes mail.decodes 0 u.banks.items
+        tables : bank_tables (with_items u.banks banks).items ≡ bank_tables u.banks.items
+        tables =
+            ap bank_tables items
+            ∙ mapped_lined (λ (b : Bank). tables_of b.renaming) (λ b line. refl) u.machine.sizes mail.decodes 0 u.banks.items
 
-      versions : bank_versions (with_items u.banks banks).items ≡ bank_versions u.banks.items
-      versions =
-          ap bank_versions items
-          ∙ mapped_lined (λ (b : Bank). versions_of b.versions.versions) (λ b line. refl) u.machine.sizes mail.decodes 0
-          u.banks.items
+        versions : bank_versions (with_items u.banks banks).items ≡ bank_versions u.banks.items
+        versions =
+            ap bank_versions items
+            ∙ mapped_lined (λ (b : Bank). versions_of b.versions.versions) (λ b line. refl) u.machine.sizes mail.decodes 0
+            u.banks.items
 
-      contents : contents_of u.buffers (with_items u.banks banks).items ≡ contents_of u.buffers u.banks.items
-      contents =
-          ap (contents_of u.buffers) items
-          ∙ ap joined (mapped_lined (contents_in u.buffers) (λ b line. refl) u.machine.sizes mail.decodes 0 u.banks.items)
+        contents : contents_of u.buffers (with_items u.banks banks).items ≡ contents_of u.buffers u.banks.items
+        contents =
+            ap (contents_of u.buffers) items
+            ∙ ap joined (mapped_lined (contents_in u.buffers) (λ b line. refl) u.machine.sizes mail.decodes 0 u.banks.items)
 
-      copies : copies_from 0 (with_items u.banks banks).items ≡ copies_from 0 u.banks.items
-      copies = ap (copies_from 0) items ∙ copies_lined u.machine.sizes mail.decodes 0 0 u.banks.items
+        copies : copies_from 0 (with_items u.banks banks).items ≡ copies_from 0 u.banks.items
+        copies = ap (copies_from 0) items ∙ copies_lined u.machine.sizes mail.decodes 0 0 u.banks.items
 
-      after_taken : state_of taken_units ≡ take_task (state_of u) t
-      after_taken = λ i. record (state_of (record u {
-        gateway = held i;
-        queue =
-            (queued
-            ∙ ap (λ b. record (u.queue) { tasks = queue_with u.queue.tasks t.number b })
-            (sym (queued_by (operands_of t) t.count arrival.proper.count))) i;
-      })) {
-        flight = flight i;
-        entries = (joined_tables (tables i)).entries;
-        places = (joined_tables (tables i)).places;
-        buffers = (joined_tables (tables i)).buffers;
-        contents = contents i;
-        versions = joined (versions i);
-        mail = sent i;
-        copies = copies i;
-      }
+        after_taken : state_of taken_units ≡ take_task (state_of u) t
+        after_taken = λ i. record (state_of (record u {
+          gateway = held i;
+          queue =
+              (queued
+              ∙ ap (λ b. record (u.queue) { tasks = queue_with u.queue.tasks t.number b })
+              (sym (queued_by (operands_of t) t.count arrival.proper.count))) i;
+        })) {
+          flight = flight i;
+          entries = (joined_tables (tables i)).entries;
+          places = (joined_tables (tables i)).places;
+          buffers = (joined_tables (tables i)).buffers;
+          contents = contents i;
+          versions = joined (versions i);
+          mail = sent i;
+          copies = copies i;
+        }
 
-      after_take_event : state_of taken_units ≡ after_event u.machine (state_of u) event.Take
-      unfolding after_event
-      after_take_event = after_taken ∙ ap (after_take (state_of u)) (sym there)
+        after_take_event : state_of taken_units ≡ after_event u.machine (state_of u) event.Take
+        unfolding after_event
+        after_take_event = after_taken ∙ ap (after_take (state_of u)) (sym there)
 
-      sized : AreSized taken_units
-      sized = record {
-        limits = fit.sized.limits;
-        window = ap (λ (g : GatewayState). g.window) held ∙ fit.sized.window;
-        stations = ap (λ (s : StationsState). s.sizes) enters ∙ fit.sized.stations;
-        queue = ap (λ (q : QueueState). q.size) queued ∙ fit.sized.queue;
-        workers = fit.sized.workers;
-        mail = ap (λ (m : MailState). m.size) rest ∙ fit.sized.mail;
-        banks =
-            subst (AreBanks u.machine) (sym items)
-            (banks_lined u.machine u.machine.sizes mail.decodes u.banks.items fit.sized.banks);
-        buffer_banks = fit.sized.buffer_banks;
-        buffers = fit.sized.buffers;
-        object_bytes = fit.sized.object_bytes;
-      }
+        sized : AreSized taken_units
+        sized = record {
+          limits = fit.sized.limits;
+          window = ap (λ (g : GatewayState). g.window) held ∙ fit.sized.window;
+          stations = ap (λ (s : StationsState). s.sizes) enters ∙ fit.sized.stations;
+          queue = ap (λ (q : QueueState). q.size) queued ∙ fit.sized.queue;
+          workers = fit.sized.workers;
+          mail = ap (λ (m : MailState). m.size) rest ∙ fit.sized.mail;
+          banks =
+              subst (AreBanks u.machine) (sym items)
+              (banks_lined u.machine u.machine.sizes mail.decodes u.banks.items fit.sized.banks);
+          buffer_banks = fit.sized.buffer_banks;
+          buffers = fit.sized.buffers;
+          object_bytes = fit.sized.object_bytes;
+        }
 
-      placed : ArePlaced (ground_of taken_units)
-      placed =
-          subst ArePlaced
-          (λ i. record (ground_of u) {
-            banks = sym items i;
-            opens = (sym rest i).opens;
-            gones = (sym rest i).gones;
-            decodes = mail.decodes;
-          })
-          (placed_lined (ground_of u) mail.decodes fit.placed)
+        placed : ArePlaced (ground_of taken_units)
+        placed =
+            subst ArePlaced
+            (λ i. record (ground_of u) {
+              banks = sym items i;
+              opens = (sym rest i).opens;
+              gones = (sym rest i).gones;
+              decodes = mail.decodes;
+            })
+            (placed_lined (ground_of u) mail.decodes fit.placed)
 
-      -- it is done
-      pub does_take : Does event.Take u (record u {
-        gateway = gateway;
-        stations = stations;
-        queue = queue;
-        banks = with_items u.banks banks;
-        mail = mail;
-      })
-      does_take = does event.Take u taken_units fit may refl after_take_event sized placed
+        -- it is done
+        pub does_take : Does event.Take u (record u {
+          gateway = gateway;
+          stations = stations;
+          queue = queue;
+          banks = with_items u.banks banks;
+          mail = mail;
+        })
+        does_take = does event.Take u taken_units fit may refl after_take_event sized placed

@@ -1,12 +1,9 @@
 -- The line of the operand's bank has room, and the operand isn't in it.
-use Rattle.std.proofs.Common.{◌≡◌, ◌<◌, ℕ, ◌*◌, length, Some, sym, ap, ◌∙◌, subst, slice_index_or, slice_set, arith}
+use Rattle.std.proofs.Common.{◌≡◌, ◌<◌, ℕ, length, sym, ap, ◌∙◌, slice_index_or, slice_set, arith}
 use Rattle.std.specs.FinMap.{get, len}
-use Rattle.std.specs.Prelude.{slice_get}
 use Rattle.std.proofs.lemmas.Option.{slice_get-get_or}
-use Rattle.tss_base.specs.declared.bounds.TheConstants.{MAX_OPERANDS}
 use Rattle.tss_banks.proofs.BankLines.{line_within, none_in_line}
 use Rattle.tss_mail.specs.Letters.{MailState}
-use Rattle.tss_pipeline.specs.declared.bank.Bank.{Bank}
 use Rattle.tss_pipeline.specs.Lines.{lined}
 use Rattle.tss_pipeline.proofs.LineLemmas.{own_lines, lined_joined, from_first}
 use Rattle.tss_pipeline.proofs.front.expect_operand.Goals as goal

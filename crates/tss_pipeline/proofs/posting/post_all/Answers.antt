@@ -1,7 +1,7 @@
 -- Each message may be posted before those that are left.
-use Rattle.std.proofs.Common.{◌≡◌, length, refl, sym, ap, subst, ◌∙◌, arith}
+use Rattle.std.proofs.Common.{length, refl, sym, ap, subst, ◌∙◌, arith}
 use Rattle.std.proofs.lemmas.List.{length-map}
-use Rattle.tss_protocol.specs.Mail.{message_count, posted_all}
+use Rattle.tss_protocol.specs.Mail.{posted_all}
 use Rattle.tss_events.specs.Events.{message_of, messages_of}
 use Rattle.tss_mail.specs.Letters.{mail_of}
 use Rattle.tss_conditions.specs.Posting.{MayPostAll, MayPostNext}
@@ -44,8 +44,8 @@ loop-message-preserved c =
     let x = c.in-Some.message in
     let xs = c.pop.new.self in
     let may =
-        post_next m.size (mail_of m) (message_of x) (messages_of xs)
-        (subst (λ s. MayPostAll m.size (mail_of m) (messages_of s)) c.in-Some.ensures c.loop-message.invariant.may) in
+    post_next m.size (mail_of m) (message_of x) (messages_of xs)
+    (subst (λ s. MayPostAll m.size (mail_of m) (messages_of s)) c.in-Some.ensures c.loop-message.invariant.may) in
     let size = ap (λ n. n.size) c.post.ensures.exact ∙ size_with_letter m x in
     record {
       size = size ∙ c.loop-message.invariant.size;

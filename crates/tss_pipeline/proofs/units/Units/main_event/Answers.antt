@@ -1,7 +1,5 @@
 -- Main's step is a call exactly where there is a number, and a spawn finds the inbox empty.
-use Rattle.std.proofs.Common.{◌≡◌, true, false, Some, None, refl, sym, ap, ◌∙◌}
-use Rattle.std.specs.Prelude.{not}
-use Rattle.std.specs.Option.{is_some}
+use Rattle.std.proofs.Common.{Some, None, refl}
 use Rattle.tss_pipeline.proofs.MainLemmas.{does_stretch, does_call, inbox_empty, does_spawn}
 use Rattle.tss_pipeline.proofs.units.Units.main_event.Goals as goal
 
