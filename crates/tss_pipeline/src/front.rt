@@ -65,9 +65,7 @@ impl Units {
         requires { IsFit self.now }
         ensures { result ≡ is_enabled self.now.machine (state_of self.now) event.Main }
     {
-        self.main.ending().is_none()
-            && self.trap.is_none()
-            && self.may_call(self.main.next_call(&self.code))
+        self.main.ending().is_none() && self.trap.is_none() && self.may_call(self.main.next_call(&self.code))
     }
 
     /// Whether a call of this number needn't wait: a spawn waits for an empty inbox, a barrier for a drained state, and an
