@@ -1,8 +1,8 @@
 -- The lines of the banks while decodes are sent, one by one.
-use Rattle.std.proofs.Common.{◌≡◌, ◌≢◌, ℕ, zero, suc, ◌+◌, List, [], ◌∷◌, length, map, set, Some, None, refl, sym, ap, ◌∙◌, subst, arith}
+use Rattle.std.proofs.Common.{◌≡◌, ◌≢◌, ◌<◌, ℕ, zero, suc, ◌+◌, List, [], ◌∷◌, length, map, set, get_or, Some, None, refl, sym, ap, ◌∙◌, subst, arith}
 use Rattle.std.specs.Prelude.{slice_get}
 use Rattle.std.specs.FinMap.{get, insert}
-use Rattle.std.proofs.lemmas.Option.{none-some, same_Some}
+use Rattle.std.proofs.lemmas.Option.{none-some, same_Some, slice_get-get_or}
 use Rattle.tss_base.specs.declared.machine.Sizes.{Sizes}
 use Rattle.tss_base.specs.declared.operand.OpName.{OpName}
 use Rattle.tss_base.specs.declared.operand.Operand.{Operand}
@@ -111,6 +111,11 @@ module _ (sizes : Sizes) where
         let tail = lined_joined (suc n) xs k b at (own ∙ later_number n k) (later_lines decodes n x xs h) in
         λ i. with_line x (stays i) ∷ tail i
 
+-- a bank stands at its number
+pub bank_there : (sizes : Sizes) (bs : List Bank) (n : ℕ) (d : Bank) → n < sizes.banks → length bs ≡ sizes.banks
+    → slice_get bs n ≡ Some (get_or bs n d)
+bank_there sizes bs n d within count = slice_get-get_or bs n d (omega (arith, within, count))
+
 -- the lines of banks that await decodes
 pub own_lines : (sizes : Sizes) (decodes : Named Operand) (bs : List Bank) → AwaitDecodes sizes decodes bs
     → HaveLines sizes decodes 0 bs
@@ -202,7 +207,8 @@ module _ (g : Ground) (decodes : Named Operand) (placed : ArePlaced g) where
   placed_lined = record {
     tables =
         subst (AreBankTables g.sizes)
-        (sym (mapped_lined (λ (b : Bank). tables_of b.renaming) (λ b line. refl) g.sizes decodes 0 g.banks)) placed.tables;
+        (sym (mapped_lined (λ (b : Bank). tables_of b.renaming) (λ b line. refl) g.sizes decodes 0 g.banks))
+        placed.tables;
     versions =
         subst (VersionsInBanks g.sizes)
         (sym (mapped_lined (λ (b : Bank). versions_of b.versions.versions) (λ b line. refl) g.sizes decodes 0 g.banks))

@@ -97,7 +97,8 @@ module _ (u : Units) (o : OpName) (fit : IsFit u) (may : May (event.Ready o) u) 
         → length u.queue.tasks < u.queue.size
     ready_room complete =
         subst (λ n. length u.queue.tasks < n) (sym fit.sized.queue)
-        ((ready_tells u.machine fit.reached.image (state_of u) o (source_of v storage) fit.reached.reached ready_told).queue complete)
+        ((ready_tells u.machine fit.reached.image (state_of u) o (source_of v storage) fit.reached.reached ready_told).queue
+        complete)
 
     module _ (stations : StationsState) (queue : QueueState) (left mail : MailState) (sent : List Message)
         (complete : Bool)

@@ -151,7 +151,8 @@ module _ (u : Units) (fit : IsFit u) (may : May event.Take u) where
         (queued : queue ≡ record (u.queue) { tasks = queue_with u.queue.tasks t.number (nat_eq t.count 0) })
         (lines : banks ≡ lined u.machine.sizes mail.decodes 0 u.banks.items)
         (rest : mail ≡ record (u.mail) { decodes = mail.decodes })
-        (sent : mail_of mail ≡ posted_all (mail_of u.mail) (sent_by_take t)) (long : length u.banks.items ≡ vec_len u.banks)
+        (sent : mail_of mail ≡ posted_all (mail_of u.mail) (sent_by_take t))
+        (long : length u.banks.items ≡ vec_len u.banks)
       where
         abbrev taken_units : Units
         taken_units = record u {
@@ -171,7 +172,8 @@ module _ (u : Units) (fit : IsFit u) (may : May event.Take u) where
         tables : bank_tables (with_items u.banks banks).items ≡ bank_tables u.banks.items
         tables =
             ap bank_tables items
-            ∙ mapped_lined (λ (b : Bank). tables_of b.renaming) (λ b line. refl) u.machine.sizes mail.decodes 0 u.banks.items
+            ∙ mapped_lined (λ (b : Bank). tables_of b.renaming) (λ b line. refl) u.machine.sizes mail.decodes 0
+            u.banks.items
 
         versions : bank_versions (with_items u.banks banks).items ≡ bank_versions u.banks.items
         versions =

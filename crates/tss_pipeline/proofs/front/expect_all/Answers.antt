@@ -89,5 +89,5 @@ returns-clause-sent c =
     let task = c.args.task.now in
     let k = c.loop-place.place in
     let past = c.loop-place-test.false in
-    sym (ap (λ os. posted_all (mail_of m) (decodes_from task.number k os)) (drop_all k (operands_of task) (omega (arith, past))))
-    ∙ c.loop-place.invariant.sent
+    let none = drop_all k (operands_of task) (omega (arith, past)) in
+    sym (ap (λ os. posted_all (mail_of m) (decodes_from task.number k os)) none) ∙ c.loop-place.invariant.sent

@@ -23,9 +23,11 @@ loop-message-init c = record {
 
 -- the first of the messages that are left may be posted
 next_may : (c : goal.After-post-arg-1)
-    → MayPostNext c.loop-message.mail.size (mail_of c.loop-message.mail) (message_of c.in-Some.message) (messages_of c.pop.new.self)
+    → MayPostNext c.loop-message.mail.size (mail_of c.loop-message.mail) (message_of c.in-Some.message)
+    (messages_of c.pop.new.self)
 next_may c =
-    post_next c.loop-message.mail.size (mail_of c.loop-message.mail) (message_of c.in-Some.message) (messages_of c.pop.new.self)
+    post_next c.loop-message.mail.size (mail_of c.loop-message.mail) (message_of c.in-Some.message)
+    (messages_of c.pop.new.self)
     (subst (λ s. MayPostAll c.loop-message.mail.size (mail_of c.loop-message.mail) (messages_of s)) c.in-Some.ensures
     c.loop-message.invariant.may)
 
