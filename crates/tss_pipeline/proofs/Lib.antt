@@ -35,3 +35,4 @@ pub mod FilteredLists
 pub mod VersionRetiring
 pub mod FreeEvents
 pub mod FewEvents
+pub mod MainLemmas

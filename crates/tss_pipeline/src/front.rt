@@ -25,13 +25,7 @@ use tss_events::Message;
 use tss_mail::Mail;
 
 /// An operand that is to be decoded comes into the line of its object's bank, and its decode is sent.
-fn expect_operand(
-    sizes: &Sizes,
-    banks: &mut [Bank],
-    mail: &mut Mail,
-    o: OpName,
-    operand: Operand,
-)
+fn expect_operand(sizes: &Sizes, banks: &mut [Bank], mail: &mut Mail, o: OpName, operand: Operand)
     requires banks { AwaitDecodes sizes.now mail.old.decodes banks.old }
     requires lines { map.len mail.old.decodes < sizes.now.window * MAX_OPERANDS }
     requires fresh { map.get mail.old.decodes o ≡ None }
