@@ -10,3 +10,5 @@ pub mod RenamedPlacing
 pub mod IdleLemmas
 pub mod GoneBanks
 pub mod GoneLemmas
+pub mod FreshContents
+pub mod DecodeLemmas

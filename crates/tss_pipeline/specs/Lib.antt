@@ -3,3 +3,4 @@ pub mod Seen
 pub mod State
 pub mod Fit
 pub mod Does
+pub mod Unsetting
