@@ -1,6 +1,12 @@
 pub mod Letters
 pub mod Seen
 pub mod State
+pub mod Lines
 pub mod Fit
+pub mod Registering
 pub mod Does
+pub mod Opening
+pub mod Closing
+pub mod Enabling
+pub mod Ending
 pub mod Unsetting

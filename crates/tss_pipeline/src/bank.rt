@@ -1,4 +1,8 @@
 // A bank of the tables for renaming and versioning, with its copy engine.
+ghost use Rattle.std.specs.Prelude.{◌≡◌, None};
+ghost use Rattle.std.specs.FinMap as map;
+ghost use Rattle.tss_pipeline.specs.Registering.{is_home, CanBringHome, BringsHome};
+
 use tss_base::{OpName, Range, Storage};
 use std::mem;
 use tss_buffers::{CopyEngine, Moved};
@@ -36,15 +40,24 @@ pub(crate) struct Bank {
 
 impl Bank {
     /// Whether a version lies at home.
-    pub(crate) fn is_home(&self, v: OpName) -> bool {
+    pub(crate) fn is_home(&self, v: OpName) -> bool
+        ensures { result ≡ is_home (map.get self.now.versions.versions v) }
+    {
         match self.versions.version(v) {
-            Some(version) => version.storage == Some(Storage::Home),
+            Some(version) => match version.storage {
+                Some(Storage::Home) => true,
+                Some(Storage::Buffer(_, _)) => false,
+                None => false,
+            },
             None => false,
         }
     }
 
     /// Begins to copy a version that has retired home, where its value lies in a buffer. Else it is gone at once.
-    pub(crate) fn bring_home(&mut self, gone: Gone) -> Option<Gone> {
+    pub(crate) fn bring_home(&mut self, gone: Gone) -> Option<Gone>
+        requires { CanBringHome self.old gone.buffer }
+        ensures { BringsHome self.old gone gone.buffer result self.new }
+    {
         let Gone {
             version,
             object,
@@ -139,7 +152,11 @@ impl Bank {
     }
 
     /// Ends a bank with nothing in it.
-    pub(crate) fn close_empty(self) {
+    pub(crate) fn close_empty(self)
+        requires versions { self.versions.versions ≡ map.empty }
+        requires engine { self.engine ≡ None }
+        requires job { self.job ≡ None }
+    {
         let Bank {
             renaming,
             versions,

@@ -1,17 +1,80 @@
 // The events of the workers and of the copy engines: start, exec, finish and copy.
-ghost use Rattle.std.specs.Prelude.{◌≡◌};
+ghost use Rattle.std.specs.Prelude.{◌≡◌, ◌&&◌, nat_lt, is_none, option_map};
+ghost use Rattle.std.specs.FinMap.{get};
 ghost use Rattle.tss_base.specs.declared.event.Event.TheVariants as event;
+ghost use Rattle.tss_model.specs.Access.{writes};
+ghost use Rattle.tss_protocol.specs.Mail.{posted_all};
+ghost use Rattle.tss_protocol.specs.Stations.{flight_after_finish};
 ghost use Rattle.tss_protocol.specs.UnitMachine.{is_enabled};
+ghost use Rattle.tss_protocol.specs.Workers.{trap_after_finish};
+ghost use Rattle.tss_stations.specs.Views.{flight_of};
+ghost use Rattle.tss_mail.specs.Letters.{mail_of};
+ghost use Rattle.tss_conditions.specs.Posting.{MayPostAll};
 ghost use Rattle.tss_pipeline.specs.Does.{Does, May};
 ghost use Rattle.tss_pipeline.specs.Fit.{IsFit};
-ghost use Rattle.tss_pipeline.specs.State.{state_of};
+ghost use Rattle.tss_pipeline.specs.Ending.{release_by, HasFewOperands};
+ghost use Rattle.tss_pipeline.specs.State.{state_of, held_trap};
 
 use crate::bank::Piece;
 use crate::units::{TaskTrap, Units};
 use tss_base::{Event, Mode, OpName, Storage, Task, Trap};
 use tss_base::bounds::MAX_OPERANDS;
 use tss_events::Message;
-use tss_stations::OperandView;
+use tss_mail::Mail;
+use tss_stations::{OperandView, Stations};
+
+/// Whether a task writes an object with this mode.
+fn writes(mode: Mode) -> bool
+    ensures { result ≡ writes mode }
+{
+    match mode {
+        Mode::Input => false,
+        Mode::Output | Mode::Inout => true,
+    }
+}
+
+/// The release of an operand that was told its version.
+fn release(mail: &mut Mail, o: OpName, view: &OperandView)
+    requires { MayPostAll mail.old.size (mail_of mail.old) (release_by o view.now) }
+    ensures posted { mail_of mail.new ≡ posted_all (mail_of mail.old) (release_by o view.now) }
+    ensures rest { mail.new ≡ record mail.old { releases = mail.new.releases } }
+{
+    if let (Some(version), Some(_)) = (view.version, view.storage) {
+        mail.post(Message::Release(o, version, writes(view.operand.mode)));
+    }
+}
+
+/// A release for each operand of a task.
+fn release_all(stations: &Stations, mail: &mut Mail, task: u32)
+    requires few { HasFewOperands (flight_of stations.now.slots) task }
+    requires may { MayPostAll mail.old.size (mail_of mail.old) (flight_after_finish (flight_of stations.now.slots) task).sent }
+    ensures posted { mail_of mail.new
+        ≡ posted_all (mail_of mail.old) (flight_after_finish (flight_of stations.now.slots) task).sent }
+    ensures rest { mail.new ≡ record mail.old { releases = mail.new.releases } }
+{
+    let mut place = 0;
+    while place < MAX_OPERANDS {
+        let o = OpName { task, place };
+        let Some(view) = stations.operand(o) else {
+            return;
+        };
+        release(mail, o, &view);
+        place += 1;
+    }
+}
+
+/// Holds the trap of a task that has trapped, unless one of a lower task is held.
+fn hold(held: &mut Option<TaskTrap>, task: u32, trap: Option<Trap>)
+    ensures { option_map held_trap held.new ≡ trap_after_finish (option_map held_trap held.old) task trap }
+{
+    let Some(trap) = trap else {
+        return;
+    };
+    match held {
+        Some(other) if other.task <= task => {}
+        _ => *held = Some(TaskTrap { task, trap }),
+    }
+}
 
 impl Units {
     /// Whether a task may start on a worker.
@@ -19,7 +82,14 @@ impl Units {
         requires { IsFit self.now }
         ensures { result ≡ is_enabled self.now.machine (state_of self.now) (event.Start w) }
     {
-        w < self.machine.sizes.workers && self.workers.is_idle(w) && self.queue.len() > 0
+        self.is_free(w) && self.queue.len() > 0
+    }
+
+    /// Whether there is a worker of this number that is idle.
+    fn is_free(&self, w: u32) -> bool
+        ensures { result ≡ (nat_lt w self.now.machine.sizes.workers && is_none (get self.now.workers.entries w)) }
+    {
+        w < self.machine.sizes.workers && self.workers.is_idle(w)
     }
 
     /// The storage that an operand was told, with the place that its buffer has now.
@@ -93,7 +163,10 @@ impl Units {
         requires { IsFit self.now }
         ensures { result ≡ is_enabled self.now.machine (state_of self.now) (event.Copy b) }
     {
-        b < self.machine.sizes.banks && self.banks[b as usize].job.is_some()
+        match self.banks.get(b as usize) {
+            Some(bank) => bank.job.is_some(),
+            None => false,
+        }
     }
 
     /// The task of a worker goes a stretch further.
@@ -119,33 +192,9 @@ impl Units {
         let Ok(finished) = self.workers.finish(w) else {
             unreachable!();
         };
-        self.release_all(finished.task);
+        release_all(&self.stations, &mut self.mail, finished.task);
         self.stations.finish(finished.task);
-        if let Some(trap) = finished.trap {
-            self.hold(finished.task, trap);
-        }
-    }
-
-    /// A release for each operand of a task.
-    fn release_all(&mut self, task: u32) {
-        for place in 0..MAX_OPERANDS {
-            let o = OpName { task, place };
-            let Some(view) = self.stations.operand(o) else {
-                return;
-            };
-            if let Some(version) = view.version {
-                let producer = view.operand.mode != Mode::Input;
-                self.mail.post(Message::Release(o, version, producer));
-            }
-        }
-    }
-
-    /// Holds a trap, unless one of a lower task is held.
-    fn hold(&mut self, task: u32, trap: Trap) {
-        match self.trap {
-            Some(held) if held.task <= task => {}
-            _ => self.trap = Some(TaskTrap { task, trap }),
-        }
+        hold(&mut self.trap, finished.task, finished.trap);
     }
 
     /// The next bytes of a bank's copy go home. After the last the version is gone, with its buffer.

@@ -14,7 +14,7 @@ use Rattle.tss_pipeline.specs.Unsetting.{without_bytes}
 use Rattle.tss_pipeline.specs.Does.{Does}
 use Rattle.tss_pipeline.proofs.RenamingBanks.{some_banks, bank_there}
 use Rattle.tss_pipeline.proofs.RenamedState.{sent_fresh, sent_room}
-use Rattle.tss_pipeline.proofs.DecodeLemmas.{decode_letter_by, waits_for_nothing, new_place, new_buffer, room_for_use, decode_sent, decode_does}
+use Rattle.tss_pipeline.proofs.DecodingLemmas.{decode_letter_by, waits_for_nothing, new_place, new_buffer, room_for_use, decode_sent, decode_does}
 use Rattle.tss_pipeline.proofs.units.Units.decode.Goals as goal
 
 pub take_decode-operand-requires : goal.take_decode-operand-requires
