@@ -1,7 +1,7 @@
 -- An operand is decoded in the bank of its object.
-use Rattle.std.proofs.Common.{◌≡◌, ◌≢◌, ℕ, ◌+◌, ◌*◌, ◌-◌, ◌^◌, ◌<◌, Bool, true, false, List, [], ◌∷◌, set, Option, Some, None, is_none, is_some, refl, sym, ap, ◌∙◌, subst, inl, inr}
+use Rattle.std.proofs.Common.{◌≡◌, ℕ, ◌+◌, ◌*◌, ◌-◌, ◌^◌, ◌<◌, Bool, true, false, List, set, Option, Some, None, is_none, refl, sym, ap, ◌∙◌, subst, inl, inr}
 use Rattle.std.specs.Prelude.{slice_get, IsSome}
-use Rattle.std.specs.FinMap.{get, insert, remove}
+use Rattle.std.specs.FinMap.{get, remove}
 use Rattle.std.specs.Vec.{with_item}
 use Rattle.std.proofs.lemmas.Option.{none-some, same_Some}
 use Rattle.tss_base.specs.declared.operand.OpName.{OpName}
@@ -11,12 +11,12 @@ use Rattle.tss_base.specs.declared.operand.Operand.{Operand}
 use Rattle.tss_base.specs.declared.event.Event.TheVariants as event
 use Rattle.tss_base.specs.Names.{Named}
 use Rattle.tss_maps.proofs.Keys.{name_order}
-use Rattle.tss_maps.proofs.Changes.{from_inserted, at_inserted, beside_inserted, apart_absent}
+use Rattle.tss_maps.proofs.Changes.{from_inserted, beside_inserted, apart_absent}
 use Rattle.tss_tokens.specs.Pool.{TokenState}
 use Rattle.tss_protocol.specs.Names.{bank_of}
 use Rattle.tss_protocol.specs.Mail.{taken, posted_all}
-use Rattle.tss_protocol.specs.Renaming.{Tables, line_of, takes_place, takes_buffer, places_after_decode, after_decode, decoded_by}
-use Rattle.tss_protocol.specs.State.{State, Entry, Outcome}
+use Rattle.tss_protocol.specs.Renaming.{Tables, takes_place, takes_buffer, places_after_decode, after_decode, decoded_by}
+use Rattle.tss_protocol.specs.State.{Entry, Outcome}
 use Rattle.tss_protocol.specs.UnitMachine.{is_enabled, after_event, without, can_decode_message, decode_message_taken}
 use Rattle.tss_banks.specs.Tables.{tables_at, places_of, buffers_of, joined_tables, AreBankTables, IsRowOfTables}
 use Rattle.tss_banks.proofs.BankCounts.{entry_of_own}

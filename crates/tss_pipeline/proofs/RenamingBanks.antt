@@ -9,9 +9,9 @@ use Rattle.tss_base.specs.declared.operand.Operand.{Operand}
 use Rattle.tss_base.specs.declared.event.Event.TheVariants as event
 use Rattle.tss_maps.proofs.MappedLemmas.{len-mapped}
 use Rattle.tss_protocol.specs.Names.{bank_of}
-use Rattle.tss_protocol.specs.Renaming.{Tables, Fill, bank_wait, line_of}
+use Rattle.tss_protocol.specs.Renaming.{bank_wait}
 use Rattle.tss_protocol.specs.UnitMachine.{is_enabled, can_decode_message}
-use Rattle.tss_banks.specs.Tables.{own_fill, tables_at}
+use Rattle.tss_banks.specs.Tables.{own_fill}
 use Rattle.tss_banks.proofs.BankCounts.{wait_in_bank}
 use Rattle.tss_renaming.specs.Bank.{RenamingState, tables_of, fill_in}
 use Rattle.tss_renaming.specs.Decoding.{wait_here}

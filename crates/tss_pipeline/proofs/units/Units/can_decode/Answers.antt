@@ -1,5 +1,5 @@
 -- An operand may be decoded where its own bank makes it wait for nothing.
-use Rattle.std.proofs.Common.{◌≡◌, refl, sym, ap, ◌∙◌, Some, None, option_map, is_none}
+use Rattle.std.proofs.Common.{sym, ap, ◌∙◌, Some, option_map, is_none}
 use Rattle.std.specs.FinMap.{get}
 use Rattle.tss_protocol.specs.Names.{bank_of}
 use Rattle.tss_protocol.specs.Renaming.{wait_number}

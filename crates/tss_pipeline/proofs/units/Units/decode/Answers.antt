@@ -1,7 +1,6 @@
 -- An operand is decoded in the bank of its object.
-use Rattle.std.proofs.Common.{◌≡◌, ℕ, ◌<◌, sym, ap, ◌∙◌, subst, arith}
+use Rattle.std.proofs.Common.{ℕ, sym, ap, ◌∙◌, subst, arith}
 use Rattle.std.specs.Prelude.{IfSome}
-use Rattle.std.specs.FinMap.{get}
 use Rattle.std.specs.Vec.{with_item}
 use Rattle.tss_base.specs.declared.event.Event.TheVariants as event
 use Rattle.tss_protocol.specs.Names.{bank_of}

@@ -1,5 +1,5 @@
 -- A version is gone from the bank of its object.
-use Rattle.std.proofs.Common.{◌≡◌, ℕ, refl, sym, ap, ◌∙◌, subst}
+use Rattle.std.proofs.Common.{ℕ, refl, sym, ap, ◌∙◌, subst}
 use Rattle.std.specs.Vec.{with_item}
 use Rattle.tss_base.specs.declared.event.Event.TheVariants as event
 use Rattle.tss_protocol.specs.Names.{bank_of}

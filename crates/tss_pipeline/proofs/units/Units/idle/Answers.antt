@@ -1,5 +1,5 @@
 -- A version that asks is answered.
-use Rattle.std.proofs.Common.{◌≡◌, ℕ, sym, ap, ◌∙◌, subst}
+use Rattle.std.proofs.Common.{ℕ, sym, ap, ◌∙◌, subst}
 use Rattle.std.specs.Vec.{with_item}
 use Rattle.tss_base.specs.declared.event.Event.TheVariants as event
 use Rattle.tss_banks.specs.Tables.{bank_of_base}
