@@ -1,5 +1,5 @@
 -- An operand is decoded in the bank of its object.
-use Rattle.std.proofs.Common.{◌≡◌, ℕ, ◌+◌, ◌*◌, ◌-◌, ◌^◌, ◌<◌, Bool, true, false, List, set, Option, Some, None, is_none, refl, sym, ap, ◌∙◌, subst, inl, inr}
+use Rattle.std.proofs.Common.{◌≡◌, ℕ, ◌+◌, ◌*◌, ◌-◌, ◌^◌, ◌<◌, Bool, true, false, List, set, Option, Some, None, is_none, refl, sym, ap, ◌∙◌, subst, inl, inr, length, get_or, arith}
 use Rattle.std.specs.Prelude.{slice_get, IsSome}
 use Rattle.std.specs.FinMap.{get, remove}
 use Rattle.std.specs.Vec.{with_item}
@@ -33,7 +33,7 @@ use Rattle.tss_events.specs.declared.message.Message.{Message}
 use Rattle.tss_events.specs.declared.message.Message.TheVariants as message
 use Rattle.tss_events.specs.Events.{messages_of}
 use Rattle.tss_mail.specs.Letters.{MailState, mail_of, with_letter, without_letter}
-use Rattle.tss_buffers.specs.Contents.{BuffersState}
+use Rattle.tss_buffers.specs.Contents.{BuffersState, HasBuffer}
 use Rattle.tss_conditions.specs.Decoding.{IsDecodable}
 use Rattle.tss_conditions.specs.Posting.{sent_by_event, decode_sends}
 use Rattle.tss_conditions.proofs.Decoding.{decodable}
@@ -50,7 +50,7 @@ use Rattle.tss_pipeline.proofs.LetterLemmas.{size_with_letter}
 use Rattle.tss_pipeline.proofs.BankChanges.{slice_get-set, banks_set}
 use Rattle.tss_pipeline.proofs.Lookups.{tables_here, no_place_here, no_buffer_here}
 use Rattle.tss_pipeline.proofs.Placing.{placed_opening}
-use Rattle.tss_pipeline.proofs.RenamingBanks.{wait_joined}
+use Rattle.tss_pipeline.proofs.RenamingBanks.{bank_there, wait_joined}
 use Rattle.tss_pipeline.proofs.RenamedState.{state_renamed, tables_within}
 use Rattle.tss_pipeline.proofs.RenamedPlacing.{placed_held}
 use Rattle.tss_pipeline.proofs.FreshContents.{contents_fresh}
@@ -136,7 +136,11 @@ module _ (g : Ground) (m : MailState) (o : OpName) (p : Operand) (own : Bank)
 -- ---- the bank
 
 module _ (u : Units) (fit : IsFit u) (o : OpName) (p : Operand) (sent_for : get u.mail.decodes o ≡ Some p) (b : Bank)
-    (there : slice_get u.banks.items (bank_of u.machine.sizes p.object) ≡ Some b) where
+    (k : ℕ) (is : k ≡ bank_of u.machine.sizes p.object) (within : k < length u.banks.items)
+    (read : b ≡ get_or u.banks.items k b) where
+  there : slice_get u.banks.items (bank_of u.machine.sizes p.object) ≡ Some b
+  there = bank_there u.banks.items k (bank_of u.machine.sizes p.object) b is within read
+
   abbrev number : ℕ
   number = bank_of u.machine.sizes p.object
 
@@ -174,6 +178,17 @@ module _ (u : Units) (fit : IsFit u) (o : OpName) (p : Operand) (sent_for : get 
       (entry_of_own u.machine.sizes tables fit.placed.tables p.object.base
       ∙ ap (λ (t : Tables). get t.entries p.object.base) here ∙ at)
 
+  -- a buffer that the bank has after it is one of the machine's
+  pub has_buffer : (sent : List Message) (r : RenamingState) → IsDecoded b.renaming r o p sent → (place : ℕ)
+      → place < r.sizes.buffers → HasBuffer u.buffers k place
+  has_buffer sent r done place held =
+      let count = fit.sized.banks.count in
+      let banks = fit.sized.buffer_banks in
+      let each = fit.sized.buffers in
+      let same = ap (λ s. s.sizes.buffers) done.exact in
+      let sizes = ap (λ s. s.buffers) own_sized.sizes in
+      (omega (arith, within, count, banks), omega (arith, held, same, sizes, each))
+
   row : IsRowOfTables u.machine.sizes tables number (after_decode u.machine.sizes (joined_tables tables) o p)
       (after_decode u.machine.sizes (tables_at tables number) o p)
   row =
@@ -190,8 +205,8 @@ module _ (u : Units) (fit : IsFit u) (o : OpName) (p : Operand) (sent_for : get 
   -- what it sends
   pub decode_sent : (sent : List Message) → messages_of sent ≡ (decoded_in b.renaming o p).sent
       → messages_of sent ≡ sent_by_event u.machine (state_of u) (event.Decode o)
-  decode_sent sent is =
-      is ∙ sym (row.sent ∙ ap (λ (d : Outcome Tables). d.sent) same_row)
+  decode_sent sent same =
+      same ∙ sym (row.sent ∙ ap (λ (d : Outcome Tables). d.sent) same_row)
       ∙ ap (decode_sends u.machine (state_of u) o) (sym sent_for)
 
   abbrev after_row : Outcome Tables
@@ -326,7 +341,8 @@ module _ (u : Units) (fit : IsFit u) (o : OpName) (p : Operand) (sent_for : get 
 
     placed_left : ArePlaced (ground_of opener)
     placed_left =
-        subst (λ (m : MailState). ArePlaced (record with_left { opens = m.opens; gones = m.gones; decodes = m.decodes }))
+        subst
+        (λ (m : MailState). ArePlaced (record with_left { opens = m.opens; gones = m.gones; decodes = m.decodes }))
         (sym same_mail) sent_placed
 
     -- ---- sizes
@@ -365,9 +381,17 @@ module _ (u : Units) (fit : IsFit u) (o : OpName) (p : Operand) (sent_for : get 
         }
 
     -- decode is done
-    pub decode_does : Does (event.Decode o) u (record u {
-      banks = with_item u.banks (bank_of u.machine.sizes p.object) (record b { renaming = r });
-      buffers = without_bytes u.buffers (bank_of u.machine.sizes p.object) (get r.buffers o);
-      mail = mail;
-    })
-    decode_does = does (event.Decode o) u opener fit may refl state_left sized placed_left
+    pub decode_does : (place : Option ℕ) → place ≡ get r.buffers o → (buffers : BuffersState)
+        → buffers ≡ without_bytes u.buffers k place
+        → Does (event.Decode o) u (record u {
+          banks = with_item u.banks k (record b { renaming = r });
+          buffers = buffers;
+          mail = mail;
+        })
+    decode_does place of_name buffers without =
+        let same = without ∙ (λ i. without_bytes u.buffers (is i) (of_name i)) in
+        subst
+        (λ (q : ℕ × BuffersState). Does (event.Decode o) u
+        (record u { banks = with_item u.banks q.0 own; buffers = q.1; mail = mail }))
+        (λ i. (sym is i, sym same i))
+        (does (event.Decode o) u opener fit may refl state_left sized placed_left)
