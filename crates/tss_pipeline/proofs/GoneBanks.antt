@@ -1,9 +1,9 @@
 -- What of the banks is left where a version is gone: tables, contents, and the state.
-use Rattle.std.proofs.Common.{◌≡◌, ℕ, zero, suc, ◌<◌, true, List, [], ◌∷◌, map, length, set, Option, Some, None, is_some, option_map, option_and_then, refl, sym, ap, ◌∙◌, subst}
+use Rattle.std.proofs.Common.{◌≡◌, ℕ, zero, suc, true, List, [], ◌∷◌, map, set, Option, Some, None, is_some, option_map, option_and_then, refl, sym, ap, ◌∙◌, subst}
 use Rattle.std.specs.Prelude.{slice_get, IsSome}
 use Rattle.std.specs.FinMap.{get, empty, remove}
 use Rattle.std.specs.Vec.{with_item}
-use Rattle.std.proofs.lemmas.List.{length-map, map-set}
+use Rattle.std.proofs.lemmas.List.{map-set}
 use Rattle.std.proofs.lemmas.Option.{none-some, slice_get_within, get_or_from_slice_get}
 use Rattle.tss_base.specs.declared.operand.OpName.{OpName}
 use Rattle.tss_base.specs.declared.event.Event.TheVariants as event
@@ -14,20 +14,19 @@ use Rattle.tss_protocol.specs.Names.{bank_of}
 use Rattle.tss_protocol.specs.Mail.{GoneContents, taken}
 use Rattle.tss_protocol.specs.Renaming.{Tables, after_gone, buffers_after_gone}
 use Rattle.tss_protocol.specs.Buffers.{contents_after_gone}
-use Rattle.tss_protocol.specs.State.{State}
 use Rattle.tss_protocol.specs.UnitMachine.{is_enabled, after_event, without, gone_message_taken}
-use Rattle.tss_banks.specs.Joined.{bank, joined, IsInNoOther, HaveKeysOf}
+use Rattle.tss_banks.specs.Joined.{joined, IsInNoOther, HaveKeysOf}
 use Rattle.tss_banks.specs.Collected.{collected}
 use Rattle.tss_banks.specs.Tables.{tables_at, places_of, buffers_of, joined_tables, silent, AreBankTables, IsRowOfTables}
 use Rattle.tss_banks.proofs.BankCounts.{name_alone}
 use Rattle.tss_banks.proofs.CollectedLemmas.{get-collected, collected-remove}
 use Rattle.tss_banks.proofs.JoinedLemmas.{get-no_bank, joined_remove, alone_within}
 use Rattle.tss_banks.proofs.RenamingRows.{gone_in_bank}
-use Rattle.tss_renaming.specs.Bank.{RenamingState, tables_of, of_bank, state_after_gone}
+use Rattle.tss_renaming.specs.Bank.{RenamingState, tables_of, state_after_gone}
 use Rattle.tss_renaming.proofs.BankLemmas.{gone_tables}
 use Rattle.tss_events.specs.declared.message.Gone.{Gone}
 use Rattle.tss_events.specs.Events.{gone_of}
-use Rattle.tss_mail.specs.Letters.{MailState, mail_of, without_letter}
+use Rattle.tss_mail.specs.Letters.{MailState, mail_of}
 use Rattle.tss_buffers.specs.Contents.{BuffersState, seat}
 use Rattle.tss_conditions.specs.Retiring.{HasGone}
 use Rattle.tss_conditions.proofs.Retiring as retiring

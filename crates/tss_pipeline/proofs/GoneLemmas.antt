@@ -1,5 +1,5 @@
 -- A version is gone: each thing that is left is in its place, since the state after it says that it is held.
-use Rattle.std.proofs.Common.{◌≡◌, ◌≢◌, ℕ, zero, suc, ◌+◌, arith, List, [], ◌∷◌, map, take, set, Option, Some, None, option_map, refl, sym, ap, ◌∙◌, subst, inl, inr}
+use Rattle.std.proofs.Common.{◌≡◌, ℕ, zero, suc, ◌+◌, arith, List, [], ◌∷◌, take, set, Option, Some, None, option_map, refl, sym, ap, ◌∙◌, subst, inl, inr}
 use Rattle.std.specs.Prelude.{slice_get}
 use Rattle.std.specs.FinMap.{get, remove}
 use Rattle.std.specs.Vec.{with_item}
@@ -17,15 +17,13 @@ use Rattle.tss_maps.proofs.MappedLemmas.{get-mapped}
 use Rattle.tss_tokens.specs.Pool.{TokenState}
 use Rattle.tss_model.specs.Access.{operands_of}
 use Rattle.tss_protocol.specs.Names.{bank_of}
-use Rattle.tss_protocol.specs.Mail.{Home, Buffer, StorageName, OpenContents, taken}
+use Rattle.tss_protocol.specs.Mail.{Home, Buffer, OpenContents, taken}
 use Rattle.tss_protocol.specs.Renaming.{buffers_after_gone}
 use Rattle.tss_protocol.specs.State.{State}
 use Rattle.tss_protocol.specs.UnitMachine.{after_event}
 use Rattle.tss_banks.specs.Tables.{AreBankTables}
 use Rattle.tss_banks.specs.Versions.{VersionsInBanks}
-use Rattle.tss_renaming.specs.Bank.{RenamingState, tables_of, state_after_gone}
-use Rattle.tss_renaming.specs.Holding.{AreApart}
-use Rattle.tss_versions.specs.declared.kept.Kept.{Kept}
+use Rattle.tss_renaming.specs.Bank.{RenamingState, state_after_gone}
 use Rattle.tss_versions.specs.declared.kept.Store.{Store}
 use Rattle.tss_versions.specs.declared.kept.Store.TheVariants as store
 use Rattle.tss_versions.specs.Known.{IsHeld, buffer_in, storage_in, version_of}
@@ -37,7 +35,7 @@ use Rattle.tss_mail.specs.Letters.{MailState, mail_of, without_letter}
 use Rattle.tss_buffers.specs.declared.copying.Copying.{Copying}
 use Rattle.tss_buffers.specs.Copies.{copy_of}
 use Rattle.tss_workers.specs.declared.running.Worker.{Worker}
-use Rattle.tss_workers.specs.Seen.{busy_of, workers_of}
+use Rattle.tss_workers.specs.Seen.{busy_of}
 use Rattle.tss_conditions.specs.Reached.{Reached}
 use Rattle.tss_conditions.specs.Opening.{HasOpenForm}
 use Rattle.tss_conditions.proofs.Opening.{registered, openable}
@@ -48,7 +46,7 @@ use Rattle.tss_pipeline.specs.declared.units.Units.{Units}
 use Rattle.tss_pipeline.specs.declared.bank.Bank.{Bank}
 use Rattle.tss_pipeline.specs.declared.bank.Job.{Job}
 use Rattle.tss_pipeline.specs.State.{bank_tables, bank_versions, job_copy, state_of}
-use Rattle.tss_pipeline.specs.Fit.{IsFit, AreSized, ArePlaced, Ground, ground_of, HoldsApart, HoldsOwn, HoldsLetters, HoldsPlace, HoldsBuffer, HoldsOpening, HoldsGone, HoldsStorages, IsEngaged}
+use Rattle.tss_pipeline.specs.Fit.{IsFit, AreSized, ArePlaced, Ground, ground_of, HoldsApart, HoldsOwn, HoldsPlace, HoldsBuffer, HoldsOpening, HoldsGone, IsEngaged}
 use Rattle.tss_pipeline.specs.Does.{May, Does}
 use Rattle.tss_pipeline.proofs.Grounds.{reached_new, does}
 use Rattle.tss_pipeline.proofs.Holds.{place_still, buffer_still}

@@ -6,10 +6,8 @@ use Rattle.std.specs.Vec.{with_item}
 use Rattle.tss_base.specs.declared.operand.OpName.{OpName}
 use Rattle.tss_base.specs.declared.event.Event.TheVariants as event
 use Rattle.tss_maps.proofs.MappedLemmas.{get-mapped}
-use Rattle.tss_protocol.specs.Mail as letter
-use Rattle.tss_protocol.specs.Mail.{IdleContents, posted_all, taken}
+use Rattle.tss_protocol.specs.Mail.{posted_all, taken}
 use Rattle.tss_protocol.specs.Renaming.{Tables, may_retire, after_idle}
-use Rattle.tss_protocol.specs.State.{State}
 use Rattle.tss_protocol.specs.UnitMachine.{is_enabled, after_event, without, idle_message_taken}
 use Rattle.tss_banks.specs.Tables.{bank_of_base, tables_at, joined_tables, on_entries, AreBankTables, IsRowOfTables}
 use Rattle.tss_banks.proofs.RenamingRows.{idle_in_bank}
@@ -21,7 +19,7 @@ use Rattle.tss_conditions.specs.Posting.{sent_by_event, idle_sends}
 use Rattle.tss_pipeline.specs.declared.units.Units.{Units}
 use Rattle.tss_pipeline.specs.declared.bank.Bank.{Bank}
 use Rattle.tss_pipeline.specs.Letters.{with_letters}
-use Rattle.tss_pipeline.specs.State.{bank_tables, contents_in, state_of}
+use Rattle.tss_pipeline.specs.State.{bank_tables, state_of}
 use Rattle.tss_pipeline.specs.Fit.{IsFit, AreSized, Ground, ArePlaced, ground_of}
 use Rattle.tss_pipeline.specs.Does.{May, Does}
 use Rattle.tss_pipeline.proofs.Grounds.{does}

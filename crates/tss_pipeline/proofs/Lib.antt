@@ -36,3 +36,5 @@ pub mod VersionRetiring
 pub mod FreeEvents
 pub mod FewEvents
 pub mod MainLemmas
+pub mod FreshContents
+pub mod DecodingLemmas

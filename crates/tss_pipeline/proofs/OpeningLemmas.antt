@@ -220,6 +220,10 @@ module _ (image : ImageState) (m : Machine) (accepted : IsAccepted image) (admis
           ∙ sym (line_at_first u.machine.sizes n)
           ∙ ap (line_of u.machine.sizes n) (sym (λ i. (mail i).decodes));
     };
+    names = record {
+      opening = λ o x there. absurd (in_nothing name_cmp u.mail.opens o x (λ i. (mail i).opens) there);
+      going = λ v x there. absurd (in_nothing name_cmp u.mail.gones v x (λ i. (mail i).gones) there);
+    };
     workers = λ w x at. absurd (in_nothing nat_cmp u.workers.entries w x (λ i. (workers i).entries) at);
   }
 

@@ -1,5 +1,5 @@
 -- Each thing is in its place, where one bank has other renaming tables.
-use Rattle.std.proofs.Common.{◌≡◌, ◌≢◌, ℕ, List, set, Option, Some, None, refl, sym, ap, ◌∙◌, subst}
+use Rattle.std.proofs.Common.{◌≡◌, ◌≢◌, ℕ, set, Some, refl, sym, ap, ◌∙◌, subst}
 use Rattle.std.specs.Prelude.{slice_get}
 use Rattle.std.specs.FinMap.{get}
 use Rattle.tss_base.specs.declared.operand.OpName.{OpName}
@@ -16,7 +16,7 @@ use Rattle.tss_banks.specs.Tables.{AreBankTables}
 use Rattle.tss_banks.specs.Versions.{VersionsInBanks}
 use Rattle.tss_renaming.specs.Bank.{RenamingState, tables_of}
 use Rattle.tss_pipeline.specs.declared.bank.Bank.{Bank}
-use Rattle.tss_pipeline.specs.State.{bank_tables, bank_versions}
+use Rattle.tss_pipeline.specs.State.{bank_tables}
 use Rattle.tss_pipeline.specs.Fit.{Ground, ArePlaced, AreNamed, HoldsApart, HoldsOwn, HoldsLetters, HoldsStorage, HoldsStorages}
 use Rattle.tss_pipeline.proofs.Holds.{HoldsAll, opening_held, gone_held, kept_held, engine_held}
 use Rattle.tss_pipeline.proofs.BankChanges.{each_bank, tables_set, versions_kept}

@@ -1,5 +1,5 @@
 -- The state where one bank has other renaming tables, and the messages of a renaming event.
-use Rattle.std.proofs.Common.{◌≡◌, ℕ, ◌+◌, ◌<◌, ◌≤◌, List, length, map, set, Some, refl, sym, ap, ◌∙◌, subst, arith}
+use Rattle.std.proofs.Common.{◌≡◌, ℕ, ◌+◌, ◌<◌, ◌≤◌, List, length, set, Some, refl, sym, ap, ◌∙◌, subst, arith}
 use Rattle.std.specs.Prelude.{slice_get}
 use Rattle.std.specs.Vec.{with_item}
 use Rattle.std.proofs.lemmas.List.{length-map}
@@ -9,7 +9,6 @@ use Rattle.tss_base.specs.Names.{Named}
 use Rattle.tss_protocol.specs.Mail as letter
 use Rattle.tss_protocol.specs.Mail.{Mail, message_count, taken}
 use Rattle.tss_protocol.specs.Renaming.{Tables}
-use Rattle.tss_protocol.specs.State.{State}
 use Rattle.tss_banks.specs.Joined.{joined}
 use Rattle.tss_banks.specs.Tables.{joined_tables}
 use Rattle.tss_renaming.specs.Bank.{RenamingState, tables_of}

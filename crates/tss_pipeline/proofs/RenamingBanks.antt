@@ -1,17 +1,17 @@
 -- What the joined tables say of a decode is what the bank of its object says.
-use Rattle.std.proofs.Common.{◌≡◌, ℕ, ◌<◌, Option, Some, None, option_map, is_none, is_some, Bool, not, true, false, refl, sym, ap, ◌∙◌, arith}
+use Rattle.std.proofs.Common.{◌≡◌, ℕ, ◌<◌, List, length, get_or, Option, Some, None, option_map, is_none, is_some, Bool, not, true, false, refl, sym, ap, ◌∙◌, arith}
 use Rattle.std.specs.Prelude.{slice_get}
 use Rattle.std.specs.FinMap.{get, len}
-use Rattle.std.proofs.lemmas.Option.{none-some}
+use Rattle.std.proofs.lemmas.Option.{none-some, slice_get_read}
 use Rattle.tss_base.specs.declared.machine.Key.TheVariants as key
 use Rattle.tss_base.specs.declared.operand.OpName.{OpName}
 use Rattle.tss_base.specs.declared.operand.Operand.{Operand}
 use Rattle.tss_base.specs.declared.event.Event.TheVariants as event
 use Rattle.tss_maps.proofs.MappedLemmas.{len-mapped}
 use Rattle.tss_protocol.specs.Names.{bank_of}
-use Rattle.tss_protocol.specs.Renaming.{Tables, Fill, bank_wait, line_of}
+use Rattle.tss_protocol.specs.Renaming.{bank_wait}
 use Rattle.tss_protocol.specs.UnitMachine.{is_enabled, can_decode_message}
-use Rattle.tss_banks.specs.Tables.{own_fill, tables_at}
+use Rattle.tss_banks.specs.Tables.{own_fill}
 use Rattle.tss_banks.proofs.BankCounts.{wait_in_bank}
 use Rattle.tss_renaming.specs.Bank.{RenamingState, tables_of, fill_in}
 use Rattle.tss_renaming.specs.Decoding.{wait_here}
@@ -62,6 +62,12 @@ fill_of_tables r = λ i. record {
   places = len-mapped (λ p. r.bank) r.places i;
   buffers = len-mapped (λ p. r.bank) r.buffers i;
 }
+
+-- what is read at the place of an object's bank stands there
+pub bank_there : (items : List Bank) (n own : ℕ) (b : Bank) → n ≡ own → n < length items → b ≡ get_or items n b
+    → slice_get items own ≡ Some b
+bank_there items n own b is within read =
+    ap (slice_get items) (sym is) ∙ slice_get_read items (length items) n b refl within read
 
 module _ (u : Units) (fit : IsFit u) where
   -- there is a bank

@@ -9,3 +9,4 @@ pub mod Opening
 pub mod Closing
 pub mod Enabling
 pub mod Ending
+pub mod Unsetting

@@ -1,11 +1,10 @@
 -- An operand may be decoded where its own bank makes it wait for nothing.
-use Rattle.std.proofs.Common.{◌≡◌, refl, sym, ap, ◌∙◌, Some, None, option_map, is_none, length}
-use Rattle.std.specs.Prelude.{slice_get}
+use Rattle.std.proofs.Common.{sym, ap, ◌∙◌, Some, option_map, is_none}
 use Rattle.std.specs.FinMap.{get}
-use Rattle.std.proofs.lemmas.Option.{slice_get_read}
+use Rattle.tss_protocol.specs.Names.{bank_of}
 use Rattle.tss_protocol.specs.Renaming.{wait_number}
 use Rattle.tss_renaming.specs.Decoding.{wait_here}
-use Rattle.tss_pipeline.proofs.RenamingBanks.{decode_letter_there, decode_letter_none, some_banks, wait_joined, none_to_decode, is_none_by, is_none-mapped}
+use Rattle.tss_pipeline.proofs.RenamingBanks.{decode_letter_there, decode_letter_none, some_banks, bank_there, wait_joined, none_to_decode, is_none_by, is_none-mapped}
 use Rattle.tss_pipeline.proofs.units.Units.can_decode.Goals as goal
 
 pub bank_of-bank-requires-clause-some : goal.bank_of-bank-requires-clause-some
@@ -23,9 +22,8 @@ returns-in-Some-Decode c =
         ∙ ap Some c.in-Some-Decode.field-0-is) in
     let b = c.index.result.now in
     let there =
-        ap (slice_get u.banks.items) (sym c.bank_of-bank.ensures.exact)
-        ∙ slice_get_read u.banks.items (length u.banks.items) c.bank_of-bank.result b refl c.bank_of-bank.ensures.within
-        c.index.ensures in
+        bank_there u.banks.items c.bank_of-bank.result (bank_of u.machine.sizes p.object) b c.bank_of-bank.ensures.exact
+        c.bank_of-bank.ensures.within c.index.ensures in
     is_none_by c.is_none.result c.wait_of.result (sym c.is_none.ensures)
     ∙ ap is_none c.wait_of.ensures
     ∙ is_none-mapped wait_number (wait_here b.renaming o p)

@@ -1,15 +1,13 @@
 -- A version is gone from the bank of its object.
-use Rattle.std.proofs.Common.{◌≡◌, ℕ, refl, sym, ap, ◌∙◌, length, Some, subst}
-use Rattle.std.specs.Prelude.{slice_get}
+use Rattle.std.proofs.Common.{ℕ, refl, sym, ap, ◌∙◌, subst}
 use Rattle.std.specs.Vec.{with_item}
-use Rattle.std.proofs.lemmas.Option.{slice_get_read}
 use Rattle.tss_base.specs.declared.event.Event.TheVariants as event
 use Rattle.tss_protocol.specs.Names.{bank_of}
 use Rattle.tss_renaming.specs.Bank.{RenamingState, state_after_gone}
 use Rattle.tss_events.specs.Events.{gone_of}
 use Rattle.tss_pipeline.specs.Does.{Does}
 use Rattle.tss_pipeline.specs.Fit.{HoldsGone}
-use Rattle.tss_pipeline.proofs.RenamingBanks.{some_banks}
+use Rattle.tss_pipeline.proofs.RenamingBanks.{some_banks, bank_there}
 use Rattle.tss_pipeline.proofs.GoneBanks.{gone_letter}
 use Rattle.tss_pipeline.proofs.GoneLemmas.{gone_does}
 use Rattle.tss_pipeline.proofs.units.Units.gone.Goals as goal
@@ -26,11 +24,9 @@ tokens c =
     let u = c.args.self.now in
     let x = c.take_gone-gone.result in
     let b = c.index_mut.result.now in
-    let items = u.banks.items in
     let there =
-        ap (slice_get items) (sym c.bank_of-bank.ensures.exact)
-        ∙ slice_get_read items (length items) c.bank_of-bank.result b refl c.bank_of-bank.ensures.within
-        c.index_mut.ensures.value in
+        bank_there u.banks.items c.bank_of-bank.result (bank_of u.machine.sizes x.object) b c.bank_of-bank.ensures.exact
+        c.bank_of-bank.ensures.within c.index_mut.ensures.value in
     (c.requires.fit.placed.letters (bank_of u.machine.sizes x.object) b there).gones c.args.v x
     c.take_gone-gone.ensures.exact refl
 
@@ -52,11 +48,9 @@ returns c =
     let v = c.args.v in
     let x = c.take_gone-gone.result in
     let b = c.index_mut.result.now in
-    let items = u.banks.items in
     let there =
-        ap (slice_get items) (sym c.bank_of-bank.ensures.exact)
-        ∙ slice_get_read items (length items) c.bank_of-bank.result b refl c.bank_of-bank.ensures.within
-        c.index_mut.ensures.value in
+        bank_there u.banks.items c.bank_of-bank.result (bank_of u.machine.sizes x.object) b c.bank_of-bank.ensures.exact
+        c.bank_of-bank.ensures.within c.index_mut.ensures.value in
     let left =
         c.gone.ensures.exact ∙ ap (λ w. state_after_gone b.renaming w (gone_of x)) c.take_gone-gone.ensures.named in
     subst

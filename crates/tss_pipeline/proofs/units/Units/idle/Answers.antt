@@ -1,8 +1,6 @@
 -- A version that asks is answered.
-use Rattle.std.proofs.Common.{◌≡◌, ℕ, refl, sym, ap, ◌∙◌, length, Some, subst}
-use Rattle.std.specs.Prelude.{slice_get}
+use Rattle.std.proofs.Common.{ℕ, sym, ap, ◌∙◌, subst}
 use Rattle.std.specs.Vec.{with_item}
-use Rattle.std.proofs.lemmas.Option.{slice_get_read}
 use Rattle.tss_base.specs.declared.event.Event.TheVariants as event
 use Rattle.tss_banks.specs.Tables.{bank_of_base}
 use Rattle.tss_renaming.specs.Bank.{RenamingState}
@@ -10,7 +8,7 @@ use Rattle.tss_protocol.specs.Mail.{posted_all}
 use Rattle.tss_events.specs.Events.{messages_of}
 use Rattle.tss_pipeline.specs.Letters.{with_letters}
 use Rattle.tss_pipeline.specs.Does.{Does}
-use Rattle.tss_pipeline.proofs.RenamingBanks.{some_banks}
+use Rattle.tss_pipeline.proofs.RenamingBanks.{some_banks, bank_there}
 use Rattle.tss_pipeline.proofs.RenamedState.{sent_fresh, sent_room}
 use Rattle.tss_pipeline.proofs.IdleLemmas.{idle_letter, idle_sent, idle_does}
 use Rattle.tss_pipeline.proofs.units.Units.idle.Goals as goal
@@ -21,25 +19,18 @@ take_idle-base-requires c = idle_letter c.args.self.now c.args.v c.requires.may
 pub bank_of-bank-requires-clause-some : goal.bank_of-bank-requires-clause-some
 bank_of-bank-requires-clause-some c = some_banks c.args.self.now c.requires.fit
 
--- the bank of the object
-own_bank : (c : goal.After-post_all-arg-1)
-    → slice_get c.args.self.now.banks.items (bank_of_base c.args.self.now.machine.sizes c.take_idle-base.result.0)
-    ≡ Some c.index_mut.result.now
-own_bank c =
-    let items = c.args.self.now.banks.items in
-    ap (slice_get items) (sym c.bank_of-bank.ensures.exact)
-    ∙ slice_get_read items (length items) c.bank_of-bank.result c.index_mut.result.now refl c.bank_of-bank.ensures.within
-    c.index_mut.ensures.value
-
 pub post_all-requires-clause-fresh : goal.post_all-requires-clause-fresh
 post_all-requires-clause-fresh c =
     let u = c.args.self.now in
     let v = c.args.v in
     let asked = c.take_idle-base.result in
     let b = c.index_mut.result.now in
+    let there =
+        bank_there u.banks.items c.bank_of-bank.result (bank_of_base u.machine.sizes asked.0) b
+        c.bank_of-bank.ensures.exact c.bank_of-bank.ensures.within c.index_mut.ensures.value in
     sent_fresh u c.requires.fit (event.Idle v) c.requires.may c.take_idle-base.new.mail
     (ap (λ m. m.size) c.take_idle-base.ensures.others) c.take_idle-base.ensures.taken c.idle-sent.result
-    (idle_sent u c.requires.fit v asked.0 asked.1 c.take_idle-base.ensures.exact b (own_bank c) c.idle-sent.result
+    (idle_sent u c.requires.fit v asked.0 asked.1 c.take_idle-base.ensures.exact b there c.idle-sent.result
     c.idle-sent.ensures.sent)
 
 pub post_all-requires-clause-room : goal.post_all-requires-clause-room
@@ -48,9 +39,12 @@ post_all-requires-clause-room c =
     let v = c.args.v in
     let asked = c.take_idle-base.result in
     let b = c.index_mut.result.now in
+    let there =
+        bank_there u.banks.items c.bank_of-bank.result (bank_of_base u.machine.sizes asked.0) b
+        c.bank_of-bank.ensures.exact c.bank_of-bank.ensures.within c.index_mut.ensures.value in
     sent_room u c.requires.fit (event.Idle v) c.requires.may c.take_idle-base.new.mail
     (ap (λ m. m.size) c.take_idle-base.ensures.others) c.take_idle-base.ensures.taken c.idle-sent.result
-    (idle_sent u c.requires.fit v asked.0 asked.1 c.take_idle-base.ensures.exact b (own_bank c) c.idle-sent.result
+    (idle_sent u c.requires.fit v asked.0 asked.1 c.take_idle-base.ensures.exact b there c.idle-sent.result
     c.idle-sent.ensures.sent)
 
 pub returns : goal.returns
@@ -59,11 +53,9 @@ returns c =
     let v = c.args.v in
     let asked = c.take_idle-base.result in
     let b = c.index_mut.result.now in
-    let items = u.banks.items in
     let there =
-        ap (slice_get items) (sym c.bank_of-bank.ensures.exact)
-        ∙ slice_get_read items (length items) c.bank_of-bank.result b refl c.bank_of-bank.ensures.within
-        c.index_mut.ensures.value in
+        bank_there u.banks.items c.bank_of-bank.result (bank_of_base u.machine.sizes asked.0) b
+        c.bank_of-bank.ensures.exact c.bank_of-bank.ensures.within c.index_mut.ensures.value in
     subst
     (λ (p : ℕ × RenamingState). Does (event.Idle v) u
     (record u { banks = with_item u.banks p.0 (record b { renaming = p.1 }); mail = c.post_all.new.mail }))
