@@ -7,3 +7,7 @@ pub mod LetterLemmas
 pub mod CopyLemmas
 pub mod ReleaseLemmas
 pub mod BusyLemmas
+pub mod BufferSeats
+pub mod SeatedTasks
+pub mod ImageRanges
+pub mod ExecLemmas
