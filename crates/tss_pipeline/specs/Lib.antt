@@ -4,3 +4,5 @@ pub mod State
 pub mod Fit
 pub mod Does
 pub mod Ending
+pub mod Beginning
+pub mod Pieces
