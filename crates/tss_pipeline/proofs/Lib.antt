@@ -11,3 +11,4 @@ pub mod BufferSeats
 pub mod SeatedTasks
 pub mod ImageRanges
 pub mod ExecLemmas
+pub mod StorageLemmas

@@ -102,14 +102,27 @@ impl Units {
         ensures { IsStored (ground_of self.now) operand.now told (Some result) }
     {
         match told {
-            Some(Storage::Buffer(_, name)) => {
+            Some(storage) => self.storage_now(operand, storage),
+            None => Storage::Home,
+        }
+    }
+
+    /// A storage with the place that its buffer has now.
+    fn storage_now(&self, operand: &Operand, storage: Storage) -> Storage
+        requires banks { AreBanks self.now.machine self.now.banks.items }
+        requires some { 0 < self.now.machine.sizes.banks }
+        requires held { IsHeldFor (ground_of self.now) operand.now (Some storage) }
+        ensures { IsStored (ground_of self.now) operand.now (Some storage) (Some result) }
+    {
+        match storage {
+            Storage::Buffer(_, name) => {
                 let bank = self.bank_of(&operand.object);
                 match self.banks[bank as usize].renaming.buffer(name) {
                     Some(place) => Storage::Buffer(place, name),
                     None => unreachable!(),
                 }
             }
-            Some(Storage::Home) | None => Storage::Home,
+            Storage::Home => Storage::Home,
         }
     }
 
