@@ -12,3 +12,4 @@ pub mod SeatedTasks
 pub mod ImageRanges
 pub mod ExecLemmas
 pub mod StorageLemmas
+pub mod TaskStarts
