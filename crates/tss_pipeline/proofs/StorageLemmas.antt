@@ -29,3 +29,7 @@ written_place (w ∷ ws) (suc n) y within = written_place ws n y (omega (arith, 
 
 pub written_beside : {X : Type 0} (xs : List X) (n i : ℕ) (y : X) → i ≢ n → slice_get (set xs n y) i ≡ slice_get xs i
 written_beside xs n i y apart = slice_get-set_beside xs n i y apart
+
+-- an idle worker isn't busy
+pub idle_not_busy : {X : Type 0} (o : Option X) → o ≡ None → IsSome o → ⊥
+idle_not_busy o e there = not_there o (sym e) there
