@@ -38,3 +38,9 @@ pub mod FewEvents
 pub mod MainLemmas
 pub mod FreshContents
 pub mod DecodingLemmas
+pub mod BufferSeats
+pub mod SeatedTasks
+pub mod ImageRanges
+pub mod ExecLemmas
+pub mod StorageLemmas
+pub mod TaskStarts

@@ -10,3 +10,5 @@ pub mod Closing
 pub mod Enabling
 pub mod Ending
 pub mod Unsetting
+pub mod Beginning
+pub mod Pieces
