@@ -1,5 +1,6 @@
 pub mod Letters
 pub mod Seen
 pub mod State
+pub mod Emptiness
 pub mod Fit
 pub mod Does

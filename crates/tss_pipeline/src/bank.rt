@@ -1,4 +1,7 @@
 // A bank of the tables for renaming and versioning, with its copy engine.
+ghost use Rattle.std.specs.Prelude.{◌≡◌};
+ghost use Rattle.tss_pipeline.specs.Emptiness.{is_empty};
+
 use tss_base::{OpName, Range, Storage};
 use std::mem;
 use tss_buffers::{CopyEngine, Moved};
@@ -130,7 +133,9 @@ impl Bank {
     }
 
     /// Whether nothing is in the bank.
-    pub(crate) fn is_empty(&self) -> bool {
+    pub(crate) fn is_empty(&self) -> bool
+        ensures { result ≡ is_empty self.now }
+    {
         self.renaming.entries() == 0
             && self.renaming.places() == 0
             && self.renaming.buffers() == 0
