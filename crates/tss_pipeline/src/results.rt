@@ -27,7 +27,8 @@ fn are_empty(banks: &[Bank]) -> bool
 fn operands_of(task: &Task) -> &[Operand]
     ensures { result.now ≡ operands_of task.now }
 {
-    &task.operands[..(task.count as usize).min(task.operands.len())]
+    let operands: &[Operand] = &task.operands;
+    &operands[..(task.count as usize).min(operands.len())]
 }
 
 /// Whether one of the operands is on an object.
