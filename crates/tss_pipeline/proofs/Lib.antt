@@ -6,3 +6,4 @@ pub mod Placing
 pub mod EmptyBanks
 pub mod BankFills
 pub mod DecodeLemmas
+pub mod MainCalls

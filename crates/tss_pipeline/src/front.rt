@@ -1,5 +1,5 @@
 // Main, the inbox and the gateway: main's event, take and ack.
-ghost use Rattle.std.specs.Prelude.{◌≡◌, option_map};
+ghost use Rattle.std.specs.Prelude.{◌≡◌, ◌&&◌, is_none, option_map};
 ghost use Rattle.tss_model.specs.MainStep.{awaited_object, call_of};
 ghost use Rattle.tss_protocol.specs.MainEvent.{is_at_home, may_await, may_call};
 ghost use Rattle.tss_base.specs.declared.event.Event.TheVariants as event;
@@ -21,7 +21,14 @@ impl Units {
         requires { IsFit self.now }
         ensures { result ≡ is_enabled self.now.machine (state_of self.now) event.Main }
     {
-        self.main.ending().is_none() && self.trap.is_none() && self.may_call(self.main.next_call(&self.code))
+        self.goes_on() && self.may_call(self.main.next_call(&self.code))
+    }
+
+    /// Whether main hasn't ended and no trap is held.
+    fn goes_on(&self) -> bool
+        ensures { result ≡ (is_none (state_of self.now).main.ending && is_none (state_of self.now).trap) }
+    {
+        self.main.ending().is_none() && self.trap.is_none()
     }
 
     /// Whether a call of this number needn't wait: a spawn waits for an empty inbox, a barrier for a drained state, and an
