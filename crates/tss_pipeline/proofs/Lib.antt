@@ -7,3 +7,4 @@ pub mod EmptyBanks
 pub mod BankFills
 pub mod DecodeLemmas
 pub mod MainCalls
+pub mod ReaderLemmas
