@@ -5,6 +5,6 @@ pub mod Lookups
 pub mod Placing
 pub mod EmptyBanks
 pub mod BankFills
-pub mod DecodeLemmas
+pub mod DecodingObjects
 pub mod MainCalls
 pub mod ReaderLemmas
