@@ -44,3 +44,8 @@ pub mod ImageRanges
 pub mod ExecLemmas
 pub mod StorageLemmas
 pub mod TaskStarts
+pub mod EmptyBanks
+pub mod BankFills
+pub mod DecodingObjects
+pub mod MainCalls
+pub mod ReaderLemmas

@@ -2,6 +2,7 @@ pub mod Letters
 pub mod Seen
 pub mod State
 pub mod Lines
+pub mod Emptiness
 pub mod Fit
 pub mod Registering
 pub mod Does

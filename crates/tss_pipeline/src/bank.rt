@@ -3,6 +3,7 @@ ghost use Rattle.std.specs.Prelude.{◌≡◌, IsSome, None, Some, option_map};
 ghost use Rattle.std.specs.FinMap as map;
 ghost use Rattle.tss_pipeline.specs.Registering.{is_home, CanBringHome, BringsHome};
 ghost use Rattle.tss_pipeline.specs.Pieces.{CopiesWithin, IsPieceOf, gone_with};
+ghost use Rattle.tss_pipeline.specs.Emptiness.{is_empty};
 
 use tss_base::{OpName, Range, Storage};
 use std::mem;
@@ -151,7 +152,9 @@ impl Bank {
     }
 
     /// Whether nothing is in the bank.
-    pub(crate) fn is_empty(&self) -> bool {
+    pub(crate) fn is_empty(&self) -> bool
+        ensures { result ≡ is_empty self.now }
+    {
         self.renaming.entries() == 0
             && self.renaming.places() == 0
             && self.renaming.buffers() == 0
