@@ -217,6 +217,7 @@ module _ (g : Ground) (decodes : Named Operand) (placed : ArePlaced g) where
         let t = from_lined g.sizes decodes 0 g.banks n x at in
         subst HoldsOwn (sym t.2) (own_lined t.0 (line_of g.sizes (0 + n) decodes) (placed.own n t.0 t.1));
     letters = letters_lined;
+    names = placed.names;
     workers = λ w x at.
         storages_by g moved x refl
         (λ n y there.
