@@ -8,7 +8,7 @@ use Rattle.tss_maps.proofs.Entries.{len_added}
 use Rattle.tss_model.specs.Spawn.{no_operand}
 use Rattle.tss_protocol.specs.Names.{operand_name}
 use Rattle.tss_protocol.specs.Gateway.{decodes_from}
-use Rattle.tss_protocol.specs.Mail.{Message, Decode, posted_all}
+use Rattle.tss_protocol.specs.Mail.{Decode, posted_all}
 use Rattle.tss_mail.specs.Letters.{MailState, mail_of}
 use Rattle.tss_conditions.specs.Posting.{MayPostAll, MayPostNext}
 use Rattle.tss_conditions.proofs.Postable.{post_next, nothing_there}

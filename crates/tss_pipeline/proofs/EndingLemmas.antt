@@ -73,7 +73,7 @@ both_there m (x ∷ xs) ys a b zero e at = a zero e at
 both_there m (x ∷ xs) ys a b (suc i) e at = both_there m xs ys (λ i e at. a (suc i) e at) b i e at
 
 -- of a mapped list each is that of something
-mapped_there : (f : OpName → Event) (ks : List OpName) (i : ℕ) (e : Event) → slice_get (map f ks) i ≡ Some e
+pub mapped_there : (f : OpName → Event) (ks : List OpName) (i : ℕ) (e : Event) → slice_get (map f ks) i ≡ Some e
     → (k : OpName) × (slice_get ks i ≡ Some k) × (f k ≡ e)
 mapped_there f [] i e at = absurd (none-some e at)
 mapped_there f (k ∷ ks) zero e at = (k, refl, same_Some (f k) e at)
@@ -119,7 +119,7 @@ names_there m =
 -- ---- no name
 
 -- as many names of a kind as there are messages of it
-names_of : {X : Type 0} (f : OpName → Event) (table : Named X) → length (map f (keys table)) ≡ len table
+pub names_of : {X : Type 0} (f : OpName → Event) (table : Named X) → length (map f (keys table)) ≡ len table
 names_of f table =
     length-map (keys table) f ∙ length-map (entries table) (λ e. e.0) ∙ sym (len-entries table)
 
@@ -132,32 +132,27 @@ nothing_first (x ∷ xs) e = absurd (none-some x (sym e))
 length_both : {X : Type 0} (xs ys : List X) (n k : ℕ) → length xs ≡ n → length ys ≡ k → length (xs ++ ys) ≡ n + k
 length_both xs ys n k e f = length-append xs ys ∙ (λ i. e i + f i)
 
+pub length-early_names : (m : Mail) → length (early_names m) ≡ early_count m
+length-early_names m =
+    length_both _ (map event.Link (keys m.links)) _ _ (length_both _ (map event.Ready (keys m.readies)) _ _
+    (length_both _ (map event.Use (keys m.uses)) _ _ (length_both _ (map event.Open (keys m.opens)) _ _
+    (length_both (map event.Decode (keys m.decodes)) (map event.Ack (keys m.acks)) _ _ (names_of event.Decode m.decodes)
+    (names_of event.Ack m.acks)) (names_of event.Open m.opens)) (names_of event.Use m.uses))
+    (names_of event.Ready m.readies)) (names_of event.Link m.links)
+
+pub length-late_names : (m : Mail) → length (late_names m) ≡ late_count m
+length-late_names m =
+    length_both _ (map event.Retire (keys m.retires)) _ _ (length_both _ (map event.Nack (keys m.nacks)) _ _
+    (length_both _ (map event.Idle (keys m.idles)) _ _
+    (length_both (map event.Release (keys m.releases)) (map event.Bye (keys m.byes)) _ _
+    (names_of event.Release m.releases) (names_of event.Bye m.byes)) (names_of event.Idle m.idles))
+    (names_of event.Nack m.nacks)) (names_of event.Retire m.retires)
+
 pub length-message_names : (m : Mail) → length (message_names m) ≡ message_count m
 length-message_names m =
-    let decodes = names_of event.Decode m.decodes in
-    let acks = names_of event.Ack m.acks in
-    let opens = names_of event.Open m.opens in
-    let uses = names_of event.Use m.uses in
-    let readies = names_of event.Ready m.readies in
-    let links = names_of event.Link m.links in
-    let releases = names_of event.Release m.releases in
-    let byes = names_of event.Bye m.byes in
-    let idles = names_of event.Idle m.idles in
-    let nacks = names_of event.Nack m.nacks in
-    let retires = names_of event.Retire m.retires in
-    let gones = names_of event.Gone m.gones in
-    let early =
-        length_both _ (map event.Link (keys m.links)) _ _ (length_both _ (map event.Ready (keys m.readies)) _ _
-        (length_both _ (map event.Use (keys m.uses)) _ _ (length_both _ (map event.Open (keys m.opens)) _ _
-        (length_both (map event.Decode (keys m.decodes)) (map event.Ack (keys m.acks)) _ _ decodes acks) opens) uses)
-        readies) links in
-    let late =
-        length_both _ (map event.Retire (keys m.retires)) _ _ (length_both _ (map event.Nack (keys m.nacks)) _ _
-        (length_both _ (map event.Idle (keys m.idles)) _ _
-        (length_both (map event.Release (keys m.releases)) (map event.Bye (keys m.byes)) _ _ releases byes) idles) nacks)
-        retires in
     length_both (early_names m ++ late_names m) (gone_names m) _ _
-    (length_both (early_names m) (late_names m) _ _ early late) gones
+    (length_both (early_names m) (late_names m) _ _ (length-early_names m) (length-late_names m))
+    (names_of event.Gone m.gones)
 
 -- a mail without a first name is empty
 pub none_named : (m : Mail) → slice_get (message_names m) 0 ≡ None → message_count m ≡ 0

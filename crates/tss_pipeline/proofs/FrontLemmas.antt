@@ -8,7 +8,7 @@ use Rattle.tss_workers.specs.Queue.{QueueState}
 use Rattle.tss_mail.specs.Letters.{MailState}
 use Rattle.tss_pipeline.specs.declared.units.Units.{Units}
 use Rattle.tss_pipeline.specs.State.{state_of}
-use Rattle.tss_pipeline.specs.Fit.{AreSized, ground_of, IsFit}
+use Rattle.tss_pipeline.specs.Fit.{ground_of, IsFit}
 use Rattle.tss_pipeline.specs.Does.{May, Does}
 use Rattle.tss_pipeline.proofs.Grounds.{does_elsewhere}
 

@@ -1,5 +1,5 @@
 -- Ready, link and bye: what the stations send, and that it is done.
-use Rattle.std.proofs.Common.{◌≡◌, ◌<◌, ◌≤◌, ℕ, Bool, true, List, [], ◌∷◌, length, Option, Some, None, option_map, refl, sym, ap, ◌∙◌, subst, arith}
+use Rattle.std.proofs.Common.{◌≡◌, ◌<◌, ◌≤◌, Bool, true, List, length, Option, Some, None, option_map, refl, sym, ap, ◌∙◌, subst, arith}
 use Rattle.std.specs.Prelude.{◌+◌}
 use Rattle.std.specs.Option.{is_some}
 use Rattle.std.specs.FinMap.{get}
@@ -11,11 +11,10 @@ use Rattle.tss_base.specs.declared.marks.LinkState.TheVariants as link
 use Rattle.tss_base.specs.declared.event.Event.{Event}
 use Rattle.tss_base.specs.declared.event.Event.TheVariants as event
 use Rattle.tss_maps.proofs.MappedLemmas.{get-mapped}
-use Rattle.tss_protocol.specs.Mail.{Source, taken, posted_all, message_count}
+use Rattle.tss_protocol.specs.Mail.{taken, posted_all, message_count}
 use Rattle.tss_protocol.specs.Stations.{after_ready, after_link, after_bye}
 use Rattle.tss_protocol.specs.UnitMachine.{is_enabled, after_event, without, queue_with, ready_message_taken, link_message_taken, bye_message_taken}
 use Rattle.tss_events.specs.declared.message.Message.{Message}
-use Rattle.tss_events.specs.declared.message.Message.TheVariants as message
 use Rattle.tss_events.specs.Events.{source_of, message_of, messages_of}
 use Rattle.tss_stations.specs.declared.operand_view.OperandView.{OperandView}
 use Rattle.tss_stations.specs.Slots.{StationsState, slots_after_ready, slots_after_link, slots_after_bye}
@@ -98,7 +97,8 @@ module _ (u : Units) (o : OpName) (fit : IsFit u) (may : May (event.Ready o) u) 
         → length u.queue.tasks < u.queue.size
     ready_room complete =
         subst (λ n. length u.queue.tasks < n) (sym fit.sized.queue)
-        ((ready_tells u.machine fit.reached.image (state_of u) o (source_of v storage) fit.reached.reached ready_told).queue complete)
+        ((ready_tells u.machine fit.reached.image (state_of u) o (source_of v storage) fit.reached.reached ready_told).queue
+        complete)
 
     module _ (stations : StationsState) (queue : QueueState) (left mail : MailState) (sent : List Message)
         (complete : Bool)

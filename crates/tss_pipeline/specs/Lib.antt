@@ -2,6 +2,7 @@ pub mod Letters
 pub mod Seen
 pub mod State
 pub mod Lines
+pub mod Emptiness
 pub mod Fit
 pub mod Registering
 pub mod Does
@@ -10,3 +11,5 @@ pub mod Closing
 pub mod Enabling
 pub mod Ending
 pub mod Unsetting
+pub mod Beginning
+pub mod Pieces

@@ -1,7 +1,9 @@
 // A bank of the tables for renaming and versioning, with its copy engine.
-ghost use Rattle.std.specs.Prelude.{◌≡◌, None};
+ghost use Rattle.std.specs.Prelude.{◌≡◌, IsSome, None, Some, option_map};
 ghost use Rattle.std.specs.FinMap as map;
 ghost use Rattle.tss_pipeline.specs.Registering.{is_home, CanBringHome, BringsHome};
+ghost use Rattle.tss_pipeline.specs.Pieces.{CopiesWithin, IsPieceOf, gone_with};
+ghost use Rattle.tss_pipeline.specs.Emptiness.{is_empty};
 
 use tss_base::{OpName, Range, Storage};
 use std::mem;
@@ -93,7 +95,10 @@ impl Bank {
 
     /// The next piece of what the bank copies: where it begins in the buffer and in memory, its length, and after the
     /// last piece that the version is gone.
-    pub(crate) fn next_piece(&mut self) -> Piece {
+    pub(crate) fn next_piece(&mut self) -> Piece
+        requires { CopiesWithin self.old.engine self.old.job }
+        ensures { IsPieceOf self.old self.old.engine self.old.job result self.new }
+    {
         let object = match &self.job {
             Some(job) => job.object,
             None => unreachable!(),
@@ -121,7 +126,11 @@ impl Bank {
     }
 
     /// The copy is over: the version is gone, with its buffer.
-    fn end_job(&mut self, token: Token) -> Gone {
+    fn end_job(&mut self, token: Token) -> Gone
+        requires { IsSome self.old.job }
+        ensures exact { option_map (λ j. gone_with j token) self.old.job ≡ Some result }
+        ensures left { self.new ≡ record self.old { job = None } }
+    {
         match self.job.take() {
             Some(Job {
                 version,
@@ -143,7 +152,9 @@ impl Bank {
     }
 
     /// Whether nothing is in the bank.
-    pub(crate) fn is_empty(&self) -> bool {
+    pub(crate) fn is_empty(&self) -> bool
+        ensures { result ≡ is_empty self.now }
+    {
         self.renaming.entries() == 0
             && self.renaming.places() == 0
             && self.renaming.buffers() == 0

@@ -1,7 +1,9 @@
 // Main, the inbox and the gateway: main's event, take and ack.
-ghost use Rattle.std.specs.Prelude.{◌≡◌, ◌+◌, ◌*◌, ◌<◌, ◌≤◌, None, length};
+ghost use Rattle.std.specs.Prelude.{◌≡◌, ◌+◌, ◌*◌, ◌<◌, ◌≤◌, None, length, ◌&&◌, is_none, option_map};
 ghost use Rattle.std.specs.FinMap as map;
 ghost use Rattle.tss_base.specs.declared.bounds.TheConstants.{MAX_OPERANDS};
+ghost use Rattle.tss_model.specs.MainStep.{awaited_object, call_of};
+ghost use Rattle.tss_protocol.specs.MainEvent.{is_at_home, may_await, may_call};
 ghost use Rattle.tss_base.specs.declared.event.Event.TheVariants as event;
 ghost use Rattle.tss_model.specs.Access.{operands_of};
 ghost use Rattle.tss_protocol.specs.Gateway.{sent_by_take};
@@ -25,13 +27,7 @@ use tss_events::Message;
 use tss_mail::Mail;
 
 /// An operand that is to be decoded comes into the line of its object's bank, and its decode is sent.
-fn expect_operand(
-    sizes: &Sizes,
-    banks: &mut [Bank],
-    mail: &mut Mail,
-    o: OpName,
-    operand: Operand,
-)
+fn expect_operand(sizes: &Sizes, banks: &mut [Bank], mail: &mut Mail, o: OpName, operand: Operand)
     requires banks { AwaitDecodes sizes.now mail.old.decodes banks.old }
     requires lines { map.len mail.old.decodes < sizes.now.window * MAX_OPERANDS }
     requires fresh { map.get mail.old.decodes o ≡ None }
@@ -71,14 +67,24 @@ impl Units {
         requires { IsFit self.now }
         ensures { result ≡ is_enabled self.now.machine (state_of self.now) event.Main }
     {
-        self.main.ending().is_none() && self.trap.is_none() && self.may_call(self.main.next_call(&self.code))
+        self.goes_on() && self.may_call(self.main.next_call(&self.code))
+    }
+
+    /// Whether main hasn't ended and no trap is held.
+    fn goes_on(&self) -> bool
+        ensures { result ≡ (is_none (state_of self.now).main.ending && is_none (state_of self.now).trap) }
+    {
+        self.main.ending().is_none() && self.trap.is_none()
     }
 
     /// Whether a call of this number needn't wait: a spawn waits for an empty inbox, a barrier for a drained state, and an
     /// await for its object.
-    fn may_call(&self, call: Option<u32>) -> bool {
+    fn may_call(&self, call: Option<u32>) -> bool
+        requires { IsFit self.now }
+        ensures { result ≡ may_call (state_of self.now) (option_map call_of call) }
+    {
         match call {
-            Some(SPAWN) => self.gateway.inbox().is_none(),
+            Some(SPAWN) => self.has_no_arrival(),
             Some(BARRIER) => self.is_drained(),
             Some(AWAIT) => self.may_await(),
             _ => true,
@@ -86,7 +92,10 @@ impl Units {
     }
 
     /// Whether the object that main awaits is at home, or there is none.
-    fn may_await(&self) -> bool {
+    fn may_await(&self) -> bool
+        requires { IsFit self.now }
+        ensures { result ≡ may_await (state_of self.now) (awaited_object self.now.main.main) }
+    {
         match self.main.awaited() {
             Some(object) => self.is_at_home(&object),
             None => true,
@@ -95,7 +104,10 @@ impl Units {
 
     /// Whether an object is at home: it has no entry, no operand of the inbox's task is on it, and none that is to be
     /// decoded.
-    fn is_at_home(&self, object: &Range) -> bool {
+    fn is_at_home(&self, object: &Range) -> bool
+        requires { IsFit self.now }
+        ensures { result ≡ is_at_home (state_of self.now) object.now }
+    {
         !self.has_entry(object) && !self.is_arriving(object) && !self.is_decoding(object)
     }
 

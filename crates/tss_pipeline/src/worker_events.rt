@@ -1,6 +1,7 @@
 // The events of the workers and of the copy engines: start, exec, finish and copy.
-ghost use Rattle.std.specs.Prelude.{◌≡◌, ◌&&◌, nat_lt, is_none, option_map};
+ghost use Rattle.std.specs.Prelude.{◌≡◌, ◌&&◌, ◌<◌, ◌≤◌, ℕ, nat_lt, is_none, option_map, slice_get, Some};
 ghost use Rattle.std.specs.FinMap.{get};
+ghost use Rattle.tss_base.specs.declared.bounds.TheConstants.{MAX_OPERANDS};
 ghost use Rattle.tss_base.specs.declared.event.Event.TheVariants as event;
 ghost use Rattle.tss_model.specs.Access.{writes};
 ghost use Rattle.tss_protocol.specs.Mail.{posted_all};
@@ -11,13 +12,14 @@ ghost use Rattle.tss_stations.specs.Views.{flight_of};
 ghost use Rattle.tss_mail.specs.Letters.{mail_of};
 ghost use Rattle.tss_conditions.specs.Posting.{MayPostAll};
 ghost use Rattle.tss_pipeline.specs.Does.{Does, May};
-ghost use Rattle.tss_pipeline.specs.Fit.{IsFit};
+ghost use Rattle.tss_pipeline.specs.Fit.{AreBanks, IsFit, ground_of};
+ghost use Rattle.tss_pipeline.specs.Beginning.{AreHeldFor, IsHeldFor, IsStored, IsStoredAt};
 ghost use Rattle.tss_pipeline.specs.Ending.{release_by, HasFewOperands};
 ghost use Rattle.tss_pipeline.specs.State.{state_of, held_trap};
 
 use crate::bank::Piece;
 use crate::units::{TaskTrap, Units};
-use tss_base::{Event, Mode, OpName, Storage, Task, Trap};
+use tss_base::{Event, Mode, OpName, Operand, Storage, Task, Trap};
 use tss_base::bounds::MAX_OPERANDS;
 use tss_events::Message;
 use tss_mail::Mail;
@@ -93,30 +95,70 @@ impl Units {
     }
 
     /// The storage that an operand was told, with the place that its buffer has now.
-    fn storage_of(&self, view: &OperandView) -> Storage {
-        match view.storage {
-            Some(Storage::Buffer(place, name)) => {
-                let bank = self.bank_of(&view.operand.object);
+    fn storage_of(&self, operand: &Operand, told: Option<Storage>) -> Storage
+        requires banks { AreBanks self.now.machine self.now.banks.items }
+        requires some { 0 < self.now.machine.sizes.banks }
+        requires held { IsHeldFor (ground_of self.now) operand.now told }
+        ensures { IsStored (ground_of self.now) operand.now told (Some result) }
+    {
+        match told {
+            Some(storage) => self.storage_now(operand, storage),
+            None => Storage::Home,
+        }
+    }
+
+    /// A storage with the place that its buffer has now.
+    fn storage_now(&self, operand: &Operand, storage: Storage) -> Storage
+        requires banks { AreBanks self.now.machine self.now.banks.items }
+        requires some { 0 < self.now.machine.sizes.banks }
+        requires held { IsHeldFor (ground_of self.now) operand.now (Some storage) }
+        ensures { IsStored (ground_of self.now) operand.now (Some storage) (Some result) }
+    {
+        match storage {
+            Storage::Buffer(_, name) => {
+                let bank = self.bank_of(&operand.object);
                 match self.banks[bank as usize].renaming.buffer(name) {
                     Some(place) => Storage::Buffer(place, name),
-                    None => Storage::Buffer(place, name),
+                    None => unreachable!(),
                 }
             }
-            Some(Storage::Home) | None => Storage::Home,
+            Storage::Home => Storage::Home,
+        }
+    }
+
+    /// The storage of the operand at a place of a task.
+    fn storage_at(&self, task: &Task, place: u32) -> Storage
+        requires banks { AreBanks self.now.machine self.now.banks.items }
+        requires some { 0 < self.now.machine.sizes.banks }
+        requires place { place < task.now.count }
+        requires count { task.now.count ≤ MAX_OPERANDS }
+        requires held { AreHeldFor (ground_of self.now) self.now.stations.slots task.now }
+        ensures { IsStoredAt (ground_of self.now) self.now.stations.slots task.now place (Some result) }
+    {
+        let o = OpName {
+            task: task.number,
+            place,
+        };
+        match self.stations.operand(o) {
+            Some(view) => self.storage_of(&task.operands[place as usize], view.storage),
+            None => Storage::Home,
         }
     }
 
     /// The storages of a task's operands.
-    fn storages_of(&self, task: &Task) -> [Storage; MAX_OPERANDS as usize] {
+    fn storages_of(&self, task: &Task) -> [Storage; MAX_OPERANDS as usize]
+        requires banks { AreBanks self.now.machine self.now.banks.items }
+        requires some { 0 < self.now.machine.sizes.banks }
+        requires count { task.now.count ≤ MAX_OPERANDS }
+        requires held { AreHeldFor (ground_of self.now) self.now.stations.slots task.now }
+        ensures { (k : ℕ) → k < task.now.count
+            → IsStoredAt (ground_of self.now) self.now.stations.slots task.now k (slice_get result k) }
+    {
         let mut storages = [Storage::Home; MAX_OPERANDS as usize];
-        for place in 0..task.count {
-            let o = OpName {
-                task: task.number,
-                place,
-            };
-            if let Some(view) = self.stations.operand(o) {
-                storages[place as usize] = self.storage_of(&view);
-            }
+        let mut place = 0;
+        while place < task.count {
+            storages[place as usize] = self.storage_at(task, place);
+            place += 1;
         }
         storages
     }

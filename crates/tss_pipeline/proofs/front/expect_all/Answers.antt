@@ -1,6 +1,6 @@
 -- Each operand's decode may be sent before those that are left.
-use Rattle.std.proofs.Common.{◌≡◌, ◌+◌, ◌*◌, ◌<◌, ◌≤◌, length, drop, get_or, refl, sym, ap, ◌∙◌, subst, arith}
-use Rattle.std.specs.FinMap.{insert, len}
+use Rattle.std.proofs.Common.{◌*◌, length, get_or, refl, sym, ap, ◌∙◌, subst, arith}
+use Rattle.std.specs.FinMap.{insert}
 use Rattle.std.proofs.lemmas.List.{drop_more, drop_all}
 use Rattle.tss_base.specs.declared.bounds.TheConstants.{MAX_OPERANDS}
 use Rattle.tss_model.specs.Access.{operands_of}
@@ -8,7 +8,7 @@ use Rattle.tss_model.specs.Spawn.{no_operand}
 use Rattle.tss_protocol.specs.Names.{operand_name}
 use Rattle.tss_protocol.specs.Gateway.{decodes_from}
 use Rattle.tss_protocol.specs.Mail.{posted_all}
-use Rattle.tss_mail.specs.Letters.{MailState, mail_of}
+use Rattle.tss_mail.specs.Letters.{mail_of}
 use Rattle.tss_pipeline.specs.Lines.{AwaitDecodes, lined}
 use Rattle.tss_pipeline.proofs.LineLemmas.{own_lines, lined_same, lined_again, await_more}
 use Rattle.tss_pipeline.proofs.DecodeLemmas.{length-decodes_from, next_decode, new_decode, others_may, same_end, same_many}
@@ -36,7 +36,7 @@ pub expect_operand-requires-clause-lines : goal.expect_operand-requires-clause-l
 expect_operand-requires-clause-lines c =
     let few = c.loop-place.invariant.room in
     let left =
-        ap (λ xs. length xs) (drop_more (operands_of c.args.task.now) c.loop-place.place no_operand c.loop-place-test.true) in
+    ap (λ xs. length xs) (drop_more (operands_of c.args.task.now) c.loop-place.place no_operand c.loop-place-test.true) in
     omega (arith, few, left)
 
 pub expect_operand-requires-clause-fresh : goal.expect_operand-requires-clause-fresh
@@ -89,5 +89,5 @@ returns-clause-sent c =
     let task = c.args.task.now in
     let k = c.loop-place.place in
     let past = c.loop-place-test.false in
-    sym (ap (λ os. posted_all (mail_of m) (decodes_from task.number k os)) (drop_all k (operands_of task) (omega (arith, past))))
-    ∙ c.loop-place.invariant.sent
+    let none = drop_all k (operands_of task) (omega (arith, past)) in
+    sym (ap (λ os. posted_all (mail_of m) (decodes_from task.number k os)) none) ∙ c.loop-place.invariant.sent

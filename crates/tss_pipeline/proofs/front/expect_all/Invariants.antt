@@ -2,7 +2,6 @@
 use Rattle.std.proofs.Common.{◌≡◌, ◌+◌, ◌*◌, ◌≤◌, length, drop}
 use Rattle.std.specs.FinMap.{len}
 use Rattle.tss_base.specs.declared.bounds.TheConstants.{MAX_OPERANDS}
-use Rattle.tss_model.specs.Access.{operands_of}
 use Rattle.tss_protocol.specs.Mail.{posted_all}
 use Rattle.tss_protocol.specs.Gateway.{decodes_from, sent_by_take}
 use Rattle.tss_mail.specs.Letters.{mail_of}

@@ -13,14 +13,16 @@ post_all-requires-clause-fresh c =
     sent_fresh (event.Link c.args.o) c.args.self.now c.requires.fit c.requires.may c.take_link-next.new.mail
     c.link-sent.result c.take_link-next.ensures.taken
     (c.link-sent.ensures.sent
-    ∙ sym (link_sent c.args.self.now c.args.o c.requires.fit c.requires.may c.take_link-next.result c.take_link-next.ensures.exact))
+    ∙ sym (link_sent c.args.self.now c.args.o c.requires.fit c.requires.may c.take_link-next.result
+    c.take_link-next.ensures.exact))
 
 pub post_all-requires-clause-room : goal.post_all-requires-clause-room
 post_all-requires-clause-room c =
     sent_room (event.Link c.args.o) c.args.self.now c.requires.fit c.requires.may c.take_link-next.new.mail
     c.link-sent.result c.take_link-next.ensures.taken
     (c.link-sent.ensures.sent
-    ∙ sym (link_sent c.args.self.now c.args.o c.requires.fit c.requires.may c.take_link-next.result c.take_link-next.ensures.exact))
+    ∙ sym (link_sent c.args.self.now c.args.o c.requires.fit c.requires.may c.take_link-next.result
+    c.take_link-next.ensures.exact))
     (ap (λ (m : MailState). m.size) c.take_link-next.ensures.others)
 
 pub returns : goal.returns

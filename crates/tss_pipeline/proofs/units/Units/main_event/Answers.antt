@@ -1,23 +1,27 @@
-use Rattle.std.proofs.Common.{rules, ◌≡◌, ℕ, ◌+◌, ◌-◌, ◌*◌, ◌<◌, ◌≤◌, length, ◌/◌, ◌%◌, Bool, true, false, nat_eq, nat_lt, List, [], ◌∷◌, ◌++◌, slice_index_or, slice_set, bit_and, bit_or, Fits, w8, w32, w64, Bor, MutBor}
-use Rattle.tss_base.specs.declared.event.Event.TheVariants as event
-use Rattle.tss_protocol.specs.UnitMachine.{is_enabled}
-use Rattle.tss_pipeline.specs.Does.{Does, May}
-use Rattle.tss_pipeline.specs.Fit.{IsFit}
-use Rattle.tss_pipeline.specs.State.{state_of}
+-- Main's step is a call exactly where there is a number, and a spawn finds the inbox empty.
+use Rattle.std.proofs.Common.{Some, None, refl}
+use Rattle.tss_pipeline.proofs.MainLemmas.{does_stretch, does_call, inbox_empty, does_spawn}
 use Rattle.tss_pipeline.proofs.units.Units.main_event.Goals as goal
 
--- src/front.rt:59:13
 pub returns-then-is_none : goal.returns-then-is_none
-returns-then-is_none c = ?
+returns-then-is_none c =
+    does_stretch c.args.self.now c.requires.fit c.requires.may c.next_call.result c.next_call.ensures.exact
+    c.if-is_none.ensures c.stretch.new.self c.stretch.new.space c.stretch.ensures.exact c.stretch.ensures.limits
 
--- src/front.rt:64:27
 pub unreachable-requires : goal.unreachable-requires
-unreachable-requires c = ?
+unreachable-requires c =
+    c.in-Err.ensures.blocked.0 refl
+    (inbox_empty c.args.self.now c.requires.fit c.requires.may c.next_call.result c.next_call.ensures.exact
+    c.if-is_none.ensures c.next_call.ensures.number c.call.new.self (Some c.in-Some.task) c.in-Some.ensures.exact
+    c.call.ensures.limits c.in-Some.task refl)
 
--- src/front.rt:51:5
 pub returns-in-Ok : goal.returns-in-Ok
-returns-in-Ok c = ?
+returns-in-Ok c =
+    does_spawn c.args.self.now c.requires.fit c.requires.may c.next_call.result c.next_call.ensures.exact
+    c.if-is_none.ensures c.next_call.ensures.number c.call.new.self (Some c.in-Some.task) c.in-Some.ensures.exact
+    c.call.ensures.limits c.in-Some.task refl c.accept.new.self c.in-Ok.ensures.ok
 
--- src/front.rt:51:5
 pub returns-in_default : goal.returns-in_default
-returns-in_default c = ?
+returns-in_default c =
+    does_call c.args.self.now c.requires.fit c.requires.may c.next_call.result c.next_call.ensures.exact
+    c.if-is_none.ensures c.next_call.ensures.number c.call.new.self None c.in_default.ensures.exact c.call.ensures.limits refl

@@ -1,6 +1,5 @@
 -- The operand of a ready waits to be told, and what it passes on may be sent.
 use Rattle.std.proofs.Common.{sym, ap, ◌∙◌}
-use Rattle.std.specs.Option.{is_some}
 use Rattle.tss_mail.specs.Letters.{MailState}
 use Rattle.tss_base.specs.declared.event.Event.TheVariants as event
 use Rattle.tss_pipeline.proofs.StationLemmas.{sent_fresh, sent_room, ready_there, ready_sent, ready_room, does_ready}

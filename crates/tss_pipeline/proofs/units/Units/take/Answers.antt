@@ -1,60 +1,52 @@
-use Rattle.std.proofs.Common.{rules, ◌≡◌, ◌+◌, ◌*◌, ◌<◌, ◌≤◌, None, length, ℕ, ◌-◌, ◌/◌, ◌%◌, Bool, true, false, nat_eq, nat_lt, List, [], ◌∷◌, ◌++◌, slice_index_or, slice_set, bit_and, bit_or, Fits, w8, w32, w64, Bor, MutBor}
-use Rattle.std.specs.FinMap as map
-use Rattle.tss_base.specs.declared.bounds.TheConstants.{MAX_OPERANDS}
-use Rattle.tss_base.specs.declared.event.Event.TheVariants as event
-use Rattle.tss_model.specs.Access.{operands_of}
-use Rattle.tss_protocol.specs.Gateway.{sent_by_take}
-use Rattle.tss_protocol.specs.Mail.{message_count, posted_all}
-use Rattle.tss_protocol.specs.UnitMachine.{is_enabled}
-use Rattle.tss_events.specs.declared.message.Message.TheVariants as message
-use Rattle.tss_mail.specs.Letters.{mail_of, with_letter}
-use Rattle.tss_conditions.specs.Posting.{ArePostable}
-use Rattle.tss_pipeline.specs.Does.{Does, May}
-use Rattle.tss_pipeline.specs.Fit.{IsFit}
-use Rattle.tss_pipeline.specs.Lines.{AwaitDecodes, lined}
-use Rattle.tss_pipeline.specs.State.{state_of}
+-- The inbox's task has a slot, and its decodes may be sent.
+use Rattle.std.proofs.Common.{refl, sym, ap, ◌∙◌, subst, length}
+use Rattle.tss_pipeline.specs.Lines.{lined, AwaitDecodes}
+use Rattle.tss_pipeline.proofs.TakeLemmas.{arrives, not_blocked, await_first, slot_free, queue_free, lines_free, decodes_fresh, decodes_free, does_take}
 use Rattle.tss_pipeline.proofs.units.Units.take.Goals as goal
 
--- src/front.rt:139:24
 pub take-requires : goal.take-requires
-take-requires c = ?
+take-requires c = record { later = λ t there. (arrives c.args.self.now c.requires.fit t there).later }
 
--- src/front.rt:140:13
 pub unreachable-requires : goal.unreachable-requires
-unreachable-requires c = ?
+unreachable-requires c =
+    not_blocked c.args.self.now c.requires.fit c.requires.may (c.in_default.ensures.blocked.0 refl)
 
--- src/front.rt:142:9
 pub enter-requires-clause-room : goal.enter-requires-clause-room
-enter-requires-clause-room c = ?
+enter-requires-clause-room c = slot_free c.args.self.now c.requires.fit c.requires.may c.in-Ok.task c.in-Ok.ensures.task
 
--- src/front.rt:142:9
 pub enter-requires-clause-fresh : goal.enter-requires-clause-fresh
-enter-requires-clause-fresh c = ?
+enter-requires-clause-fresh c = (arrives c.args.self.now c.requires.fit c.in-Ok.task c.in-Ok.ensures.task).fresh
 
--- src/front.rt:143:9
 pub queue_where-requires : goal.queue_where-requires
-queue_where-requires c = ?
+queue_where-requires c = queue_free c.args.self.now c.requires.fit c.requires.may c.in-Ok.task c.in-Ok.ensures.task
 
--- src/front.rt:144:9
 pub expect_all-requires-clause-banks : goal.expect_all-requires-clause-banks
-expect_all-requires-clause-banks c = ?
+expect_all-requires-clause-banks c =
+    subst (AwaitDecodes c.args.self.now.machine.sizes c.args.self.now.mail.decodes) (sym c.deref_mut.ensures.value)
+    (await_first c.args.self.now c.requires.fit c.requires.may)
 
--- src/front.rt:144:9
 pub expect_all-requires-clause-count : goal.expect_all-requires-clause-count
-expect_all-requires-clause-count c = ?
+expect_all-requires-clause-count c =
+    (arrives c.args.self.now c.requires.fit c.in-Ok.task c.in-Ok.ensures.task).proper.count
 
--- src/front.rt:144:9
 pub expect_all-requires-clause-lines : goal.expect_all-requires-clause-lines
-expect_all-requires-clause-lines c = ?
+expect_all-requires-clause-lines c =
+    lines_free c.args.self.now c.requires.fit c.requires.may c.in-Ok.task c.in-Ok.ensures.task
 
--- src/front.rt:144:9
 pub expect_all-requires-clause-fresh : goal.expect_all-requires-clause-fresh
-expect_all-requires-clause-fresh c = ?
+expect_all-requires-clause-fresh c =
+    decodes_fresh c.args.self.now c.requires.fit c.requires.may c.in-Ok.task c.in-Ok.ensures.task
 
--- src/front.rt:144:9
 pub expect_all-requires-clause-room : goal.expect_all-requires-clause-room
-expect_all-requires-clause-room c = ?
+expect_all-requires-clause-room c =
+    decodes_free c.args.self.now c.requires.fit c.requires.may c.in-Ok.task c.in-Ok.ensures.task
 
--- src/front.rt:134:5
 pub returns : goal.returns
-returns c = ?
+returns c =
+    does_take c.args.self.now c.requires.fit c.requires.may c.in-Ok.task c.in-Ok.ensures.task c.take.new.self
+    c.enter.new.self c.queue_where.new.queue c.expect_all.new.banks c.expect_all.new.mail c.in-Ok.ensures.ok
+    c.enter.ensures.exact c.enter.ensures.flight c.queue_where.ensures
+    (c.expect_all.ensures.lines
+    ∙ ap (lined c.args.self.now.machine.sizes c.expect_all.new.mail.decodes 0) c.deref_mut.ensures.value)
+    c.expect_all.ensures.mail c.expect_all.ensures.sent
+    (ap (λ bs. length bs) (sym c.deref_mut.ensures.value) ∙ c.deref_mut.ensures.len)
