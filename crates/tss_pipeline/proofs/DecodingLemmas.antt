@@ -288,8 +288,8 @@ module _ (u : Units) (fit : IsFit u) (o : OpName) (p : Operand) (sent_for : get 
           place_within =
               subst (λ (x : RenamingState). (w : OpName) (q : ℕ) → get x.places w ≡ Some q → q < x.sizes.versions)
               (sym done.exact)
-              (within_more b.renaming.places b.renaming.sizes.versions o done.place (takes_place entry p.mode) done.fresh
-              h.place_within);
+              (within_more b.renaming.places b.renaming.sizes.versions o done.place (takes_place entry p.mode)
+              done.fresh h.place_within);
           buffer_within =
               subst (λ (x : RenamingState). (w : OpName) (q : ℕ) → get x.buffers w ≡ Some q → q < x.sizes.buffers)
               (sym done.exact)

@@ -98,7 +98,8 @@ module _ (m : Machine) (buffers : BuffersState) (bs : List Bank) (banks : AreBan
       → contents_of (without_bytes buffers n (get (buffers_after_decode b.renaming.buffers o place t) o)) (set bs n own)
       ≡ contents_of buffers bs
   contents_by true place are free =
-      ap (λ p. contents_of (without_bytes buffers n p) (set bs n own)) (at_inserted name_order b.renaming.buffers o place)
+      ap (λ p. contents_of (without_bytes buffers n p) (set bs n own))
+      (at_inserted name_order b.renaming.buffers o place)
       ∙ contents_taken place are (free refl).free
   contents_by false place are free =
       ap (λ p. contents_of (without_bytes buffers n p) (set bs n own)) new

@@ -52,9 +52,12 @@ pub contents_keys : (buffers : BuffersState) (bs : List Bank)
 contents_keys buffers [] i k y e = absurd (none-some y (sym (get-no_bank name_cmp i k) ∙ e))
 contents_keys buffers (b ∷ bs) zero k y e =
     let f = λ (name : OpName) (place : ℕ). get buffers.contents (seat b.renaming.bank place) in
-    let t = from_answer (f k) (get b.renaming.buffers k) y (sym (get-collected name_order f b.renaming.buffers k) ∙ e) in
-    (b.renaming.bank,
-    get-mapped (λ p. b.renaming.bank) b.renaming.buffers k ∙ ap (option_map (λ p. b.renaming.bank)) t.1)
+    let has = sym (get-collected name_order f b.renaming.buffers k) ∙ e in
+    let held = (from_answer (f k) (get b.renaming.buffers k) y has).1 in
+    (
+      b.renaming.bank,
+      get-mapped (λ p. b.renaming.bank) b.renaming.buffers k ∙ ap (option_map (λ p. b.renaming.bank)) held,
+    )
 contents_keys buffers (b ∷ bs) (suc i) k y e = contents_keys buffers bs i k y e
 
 module _ (buffers : BuffersState) (bs : List Bank) (n : ℕ) (b : Bank) (there : slice_get bs n ≡ Some b) where

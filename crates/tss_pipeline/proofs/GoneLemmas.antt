@@ -58,7 +58,7 @@ use Rattle.tss_pipeline.proofs.RenamedPlacing.{placed_renamed, storages_still}
 
 -- ---- maps and lists
 
--- what buffers are left was there
+-- a buffer that is left was there
 left_buffer : (m : Named ℕ) (o : Option OpName) (w : OpName) (p : ℕ) → get (buffers_after_gone m o) w ≡ Some p
     → get m w ≡ Some p
 left_buffer m None w p e = e
@@ -74,6 +74,7 @@ taken_at (suc n) (w ∷ ws) [] k x y e f = absurd (none-some y f)
 taken_at (suc n) (w ∷ ws) (z ∷ zs) zero x y e f = f
 taken_at (suc n) (w ∷ ws) (z ∷ zs) (suc k) x y e f = taken_at n ws zs k x y e f
 
+-- a number counted from the first
 from_first : (k : ℕ) → k ≡ 0 + k
 from_first k = omega arith
 
@@ -143,7 +144,8 @@ module _ (u : Units) (fit : IsFit u) (v : OpName) (x : Gone) (sent : get u.mail.
 
   tables : AreBankTables u.machine.sizes (bank_tables banks)
   tables =
-      subst (AreBankTables u.machine.sizes) (sym (tables_set u.banks.items n b own there)) (gone_banks u fit v x sent b there)
+      subst (AreBankTables u.machine.sizes) (sym (tables_set u.banks.items n b own there))
+      (gone_banks u fit v x sent b there)
 
   versions : VersionsInBanks u.machine.sizes (bank_versions banks)
   versions =
@@ -212,7 +214,10 @@ module _ (u : Units) (fit : IsFit u) (v : OpName) (x : Gone) (sent : get u.mail.
                   buffer_left held (law.buffer held.name (stored_in y.store held f) ∙ ap Some own_bank)
                   ((h.versions w y e).buffer held f);
             };
-        engine = engine_left b.engine b.job (ap (get S.copies) (from_first n) ∙ get-copies_from 0 banks n own own_there) h.engine;
+        engine =
+            engine_left b.engine b.job
+            (ap (get S.copies) (from_first n) ∙ get-copies_from 0 banks n own own_there)
+            h.engine;
       }
 
   -- ---- letters
@@ -291,8 +296,8 @@ module _ (u : Units) (fit : IsFit u) (v : OpName) (x : Gone) (sent : get u.mail.
         going = λ w y e. fit.placed.names.going w y (from_removed name_order u.mail.gones v w y e).1;
       })
       (λ w y e.
-      storages_still (ground_of u) fit.placed n b there left (remove u.mail.gones v) u.mail.decodes y (worker_left w y e)
-      (fit.placed.workers w y e))
+      storages_still (ground_of u) fit.placed n b there left (remove u.mail.gones v) u.mail.decodes y
+      (worker_left w y e) (fit.placed.workers w y e))
 
   same_ground : ground_of leaver ≡ with_left
   same_ground = λ i. record with_left { opens = (exact i).opens; gones = (exact i).gones; decodes = (exact i).decodes }

@@ -1,5 +1,5 @@
 -- A version that asks is answered by the bank of its object.
-use Rattle.std.proofs.Common.{◌≡◌, ℕ, Bool, true, false, List, set, Option, Some, None, is_some, option_map, refl, sym, ap, ◌∙◌, subst}
+use Rattle.std.proofs.Common.{◌≡◌, ℕ, Bool, true, false, List, set, Option, Some, None, is_some, option_map, refl, sym, ap, ◌∙◌, subst, length, get_or, ◌<◌}
 use Rattle.std.specs.Prelude.{slice_get, IsSome}
 use Rattle.std.specs.FinMap.{get}
 use Rattle.std.specs.Vec.{with_item}
@@ -26,6 +26,7 @@ use Rattle.tss_pipeline.proofs.Grounds.{does}
 use Rattle.tss_pipeline.proofs.BankChanges.{contents_kept, banks_set}
 use Rattle.tss_pipeline.proofs.Holds.{HoldsAll}
 use Rattle.tss_pipeline.proofs.Lookups.{tables_here}
+use Rattle.tss_pipeline.proofs.RenamingBanks.{bank_there}
 use Rattle.tss_pipeline.proofs.RenamedState.{state_renamed, tables_within}
 use Rattle.tss_pipeline.proofs.RenamedPlacing.{placed_held}
 
@@ -59,7 +60,11 @@ answer_size m v false = refl
 -- ---- the bank
 
 module _ (u : Units) (fit : IsFit u) (v : OpName) (base count : ℕ) (asked : get u.mail.idles v ≡ Some (base, count))
-    (b : Bank) (there : slice_get u.banks.items (bank_of_base u.machine.sizes base) ≡ Some b) where
+    (b : Bank) (k : ℕ) (is : k ≡ bank_of_base u.machine.sizes base) (within : k < length u.banks.items)
+    (read : b ≡ get_or u.banks.items k b) where
+  there : slice_get u.banks.items (bank_of_base u.machine.sizes base) ≡ Some b
+  there = bank_there u.banks.items k (bank_of_base u.machine.sizes base) b is within read
+
   abbrev number : ℕ
   number = bank_of_base u.machine.sizes base
 
@@ -85,7 +90,7 @@ module _ (u : Units) (fit : IsFit u) (v : OpName) (base count : ℕ) (asked : ge
   -- what it sends
   pub idle_sent : (sent : List Message) → messages_of sent ≡ (after_idle b.renaming.entries v base count).sent
       → messages_of sent ≡ sent_by_event u.machine (state_of u) (event.Idle v)
-  idle_sent sent is = is ∙ sym same_sent ∙ ap (idle_sends (state_of u) v) (sym told)
+  idle_sent sent same = same ∙ sym same_sent ∙ ap (idle_sends (state_of u) v) (sym told)
 
   -- ---- after it
 
@@ -125,7 +130,8 @@ module _ (u : Units) (fit : IsFit u) (v : OpName) (base count : ℕ) (asked : ge
     state_left : state_of asker ≡ after_event u.machine (state_of u) (event.Idle v)
     state_left =
         state_renamed u number b there left u.buffers mail after_tables (state_of u).contents
-        (posted_all (taken (mail_of u.mail) (event.Idle v)) (after_idle (joined_tables tables).entries v base count).sent)
+        (posted_all (taken (mail_of u.mail) (event.Idle v))
+        (after_idle (joined_tables tables).entries v base count).sent)
         joined_left
         (contents_kept u.banks.items number b (record b { renaming = left }) there u.buffers refl)
         (posted ∙ ap (posted_all (taken (mail_of u.mail) (event.Idle v))) (as_sent ∙ sym same_sent))
@@ -184,10 +190,12 @@ module _ (u : Units) (fit : IsFit u) (v : OpName) (base count : ℕ) (asked : ge
         (fit.placed.letters number b there).line (λ i other. refl)
 
     -- idle is done
-    pub idle_does : Does (event.Idle v) u (record u {
-      banks = with_item u.banks (bank_of_base u.machine.sizes base)
-          (record b { renaming = record b.renaming { entries = (after_idle b.renaming.entries v base count).part } });
-      mail = mail;
-    })
-    idle_does =
-        does (event.Idle v) u asker fit may refl state_left sized (subst ArePlaced (sym same_ground) placed_left)
+    pub idle_does : (r : RenamingState)
+        → r ≡ record b.renaming { entries = (after_idle b.renaming.entries v base count).part }
+        → Does (event.Idle v) u (record u { banks = with_item u.banks k (record b { renaming = r }); mail = mail })
+    idle_does r same =
+        subst
+        (λ (q : ℕ × RenamingState). Does (event.Idle v) u
+        (record u { banks = with_item u.banks q.0 (record b { renaming = q.1 }); mail = mail }))
+        (λ i. (sym is i, sym same i))
+        (does (event.Idle v) u asker fit may refl state_left sized (subst ArePlaced (sym same_ground) placed_left))

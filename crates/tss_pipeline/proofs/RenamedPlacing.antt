@@ -22,26 +22,30 @@ use Rattle.tss_pipeline.proofs.Holds.{HoldsAll, opening_held, gone_held, kept_he
 use Rattle.tss_pipeline.proofs.BankChanges.{each_bank, tables_set, versions_kept}
 use Rattle.tss_pipeline.proofs.Placing.{letters_fewer}
 
+-- the ground with other renaming tables of a bank, and other messages
+abbrev pub renamed : Ground → ℕ → Bank → RenamingState → Named Gone → Named Operand → Ground
+renamed g n b r gones decodes =
+    record g { banks = set g.banks n (record b { renaming = r }); gones = gones; decodes = decodes }
+
 module _ (g : Ground) (placed : ArePlaced g) (n : ℕ) (b : Bank) (there : slice_get g.banks n ≡ Some b)
     (r : RenamingState) (gones : Named Gone) (decodes : Named Operand) where
-  -- the bank with other renaming tables, and the ground with it
   abbrev own : Bank
   own = record b { renaming = r }
 
   abbrev new : Ground
-  new = record g { banks = set g.banks n own; gones = gones; decodes = decodes }
+  new = renamed g n b r gones decodes
 
   -- the parts together
   pub placed_renamed : AreBankTables g.sizes (set (bank_tables g.banks) n (tables_of r))
       → HoldsOwn (record b { renaming = r })
       → ((i : ℕ) (x : Bank) → i ≢ n → slice_get g.banks i ≡ Some x
-      → HoldsLetters (record g { banks = set g.banks n (record b { renaming = r }); gones = gones; decodes = decodes }) i x)
-      → HoldsLetters (record g { banks = set g.banks n (record b { renaming = r }); gones = gones; decodes = decodes }) n
+      → HoldsLetters (renamed g n b r gones decodes) i x)
+      → HoldsLetters (renamed g n b r gones decodes) n
       (record b { renaming = r })
       → AreNamed g.opens gones
       → ((w : ℕ) (x : Worker) → get g.workers w ≡ Some x
-      → HoldsStorages (record g { banks = set g.banks n (record b { renaming = r }); gones = gones; decodes = decodes }) x)
-      → ArePlaced (record g { banks = set g.banks n (record b { renaming = r }); gones = gones; decodes = decodes })
+      → HoldsStorages (renamed g n b r gones decodes) x)
+      → ArePlaced (renamed g n b r gones decodes)
   placed_renamed tables holds others letters names workers = record {
     tables = subst (AreBankTables g.sizes) (sym (tables_set g.banks n b own there)) tables;
     versions = subst (VersionsInBanks g.sizes) (sym (versions_kept g.banks n b own there refl)) placed.versions;
@@ -53,8 +57,8 @@ module _ (g : Ground) (placed : ArePlaced g) (n : ℕ) (b : Bank) (there : slice
 
   -- a recorded storage, by what the bank holds still
   storage_still : (o : Operand) (s : Storage)
-      → ((p : ℕ) (m : OpName) → s ≡ storage.Buffer p m → bank_of g.sizes o.object ≡ n → get b.renaming.buffers m ≡ Some p
-      → get r.buffers m ≡ Some p)
+      → ((p : ℕ) (m : OpName) → s ≡ storage.Buffer p m → bank_of g.sizes o.object ≡ n
+      → get b.renaming.buffers m ≡ Some p → get r.buffers m ≡ Some p)
       → HoldsStorage g o s → HoldsStorage new o s
   storage_still o storage.Home still h = tt
   storage_still o (storage.Buffer p m) still h = λ x at.
@@ -68,7 +72,7 @@ module _ (g : Ground) (placed : ArePlaced g) (n : ℕ) (b : Bank) (there : slice
       → slice_get x.storages k ≡ Some (storage.Buffer p m) → bank_of g.sizes o.object ≡ n
       → get b.renaming.buffers m ≡ Some p → get r.buffers m ≡ Some p)
       → HoldsStorages g x
-      → HoldsStorages (record g { banks = set g.banks n (record b { renaming = r }); gones = gones; decodes = decodes }) x
+      → HoldsStorages (renamed g n b r gones decodes) x
   storages_still x still h k o s at stored =
       storage_still o s (λ p m is. still k o p m at (stored ∙ ap Some is)) (h k o s at stored)
 

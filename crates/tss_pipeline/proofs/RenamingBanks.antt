@@ -72,11 +72,14 @@ bank_there items n own b is within read =
 module _ (u : Units) (fit : IsFit u) where
   -- there is a bank
   pub some_banks : 0 < u.machine.sizes.banks
-  some_banks = let least = (fit.reached.reached.admissible.sizes key.Banks u.machine.sizes.banks refl).0 in omega (arith, least)
+  some_banks =
+      let least = (fit.reached.reached.admissible.sizes key.Banks u.machine.sizes.banks refl).0 in
+      omega (arith, least)
 
-  module _ (o : OpName) (p : Operand) (b : Bank) (there : slice_get u.banks.items (bank_of u.machine.sizes p.object) ≡ Some b) where
+  module _ (o : OpName) (p : Operand) (b : Bank)
+      (there : slice_get u.banks.items (bank_of u.machine.sizes p.object) ≡ Some b) where
     -- an operand waits in its bank for what it waits for in all
-    pub wait_joined : (get u.mail.decodes o ≡ Some p)
+    pub wait_joined : get u.mail.decodes o ≡ Some p
         → is_enabled u.machine (state_of u) (event.Decode o) ≡ is_none (wait_here b.renaming o p)
     unfolding is_enabled
     wait_joined at =

@@ -90,8 +90,8 @@ impl Units {
         post_all(&mut self.mail, sent);
     }
 
-    /// A version is gone: its place is free, and its buffer where that ends with it. What the buffer has is of no meaning
-    /// from then on.
+    /// A version is gone: its place is free, and its buffer where that ends with it. What the buffer has is of no
+    /// meaning from then on.
     pub(crate) fn gone(&mut self, v: OpName)
         requires fit { IsFit self.old }
         requires may { May (event.Gone v) self.old }

@@ -1,17 +1,12 @@
 -- An operand is decoded in the bank of its object.
-use Rattle.std.proofs.Common.{ℕ, sym, ap, ◌∙◌, subst, arith}
+use Rattle.std.proofs.Common.{ap, ◌∙◌, subst}
 use Rattle.std.specs.Prelude.{IfSome}
-use Rattle.std.specs.Vec.{with_item}
 use Rattle.tss_base.specs.declared.event.Event.TheVariants as event
-use Rattle.tss_protocol.specs.Names.{bank_of}
 use Rattle.tss_protocol.specs.Mail.{posted_all}
 use Rattle.tss_renaming.specs.Holding.{HoldsAlone}
 use Rattle.tss_events.specs.Events.{messages_of}
-use Rattle.tss_buffers.specs.Contents.{BuffersState}
 use Rattle.tss_pipeline.specs.Letters.{with_letters}
-use Rattle.tss_pipeline.specs.Unsetting.{without_bytes}
-use Rattle.tss_pipeline.specs.Does.{Does}
-use Rattle.tss_pipeline.proofs.RenamingBanks.{some_banks, bank_there}
+use Rattle.tss_pipeline.proofs.RenamingBanks.{some_banks}
 use Rattle.tss_pipeline.proofs.RenamedState.{sent_fresh, sent_room}
 use Rattle.tss_pipeline.proofs.DecodingLemmas.{decode_letter_by, waits_for_nothing, new_place, new_buffer, room_for_use, has_buffer, decode_sent, decode_does}
 use Rattle.tss_pipeline.proofs.units.Units.decode.Goals as goal
@@ -24,27 +19,27 @@ bank_of-bank-requires-clause-some c = some_banks c.args.self.now c.requires.fit
 
 pub decode_at_once-sent-requires-clause-may : goal.decode_at_once-sent-requires-clause-may
 decode_at_once-sent-requires-clause-may c =
-    waits_for_nothing c.args.self.now c.requires.fit c.args.o c.take_decode-operand.result c.take_decode-operand.ensures.exact
-    c.index_mut.result.now c.bank_of-bank.result
+    waits_for_nothing c.args.self.now c.requires.fit c.args.o c.take_decode-operand.result
+    c.take_decode-operand.ensures.exact c.index_mut.result.now c.bank_of-bank.result
     c.bank_of-bank.ensures.exact c.bank_of-bank.ensures.within c.index_mut.ensures.value
     c.requires.may
 
 pub decode_at_once-sent-requires-clause-place : goal.decode_at_once-sent-requires-clause-place
 decode_at_once-sent-requires-clause-place c =
-    new_place c.args.self.now c.requires.fit c.args.o c.take_decode-operand.result c.take_decode-operand.ensures.exact
-    c.index_mut.result.now c.bank_of-bank.result
+    new_place c.args.self.now c.requires.fit c.args.o c.take_decode-operand.result
+    c.take_decode-operand.ensures.exact c.index_mut.result.now c.bank_of-bank.result
     c.bank_of-bank.ensures.exact c.bank_of-bank.ensures.within c.index_mut.ensures.value
 
 pub decode_at_once-sent-requires-clause-buffer : goal.decode_at_once-sent-requires-clause-buffer
 decode_at_once-sent-requires-clause-buffer c =
-    new_buffer c.args.self.now c.requires.fit c.args.o c.take_decode-operand.result c.take_decode-operand.ensures.exact
-    c.index_mut.result.now c.bank_of-bank.result
+    new_buffer c.args.self.now c.requires.fit c.args.o c.take_decode-operand.result
+    c.take_decode-operand.ensures.exact c.index_mut.result.now c.bank_of-bank.result
     c.bank_of-bank.ensures.exact c.bank_of-bank.ensures.within c.index_mut.ensures.value
 
 pub decode_at_once-sent-requires-clause-uses : goal.decode_at_once-sent-requires-clause-uses
 decode_at_once-sent-requires-clause-uses c =
-    room_for_use c.args.self.now c.requires.fit c.args.o c.take_decode-operand.result c.take_decode-operand.ensures.exact
-    c.index_mut.result.now c.bank_of-bank.result
+    room_for_use c.args.self.now c.requires.fit c.args.o c.take_decode-operand.result
+    c.take_decode-operand.ensures.exact c.index_mut.result.now c.bank_of-bank.result
     c.bank_of-bank.ensures.exact c.bank_of-bank.ensures.within c.index_mut.ensures.value
 
 pub unset_if_any-requires : goal.unset_if_any-requires
@@ -54,9 +49,9 @@ unset_if_any-requires c = λ place is.
         (λ p. IfSome p (HoldsAlone c.decode_at_once-sent.new.renaming.buffers
         c.decode_at_once-sent.new.renaming.sizes.buffers c.args.o))
         is c.buffer-buffer.ensures.alone in
-    has_buffer c.args.self.now c.requires.fit c.args.o c.take_decode-operand.result c.take_decode-operand.ensures.exact
-    c.index_mut.result.now c.bank_of-bank.result c.bank_of-bank.ensures.exact c.bank_of-bank.ensures.within
-    c.index_mut.ensures.value c.decode_at_once-sent.result c.decode_at_once-sent.new.renaming
+    has_buffer c.args.self.now c.requires.fit c.args.o c.take_decode-operand.result
+    c.take_decode-operand.ensures.exact c.index_mut.result.now c.bank_of-bank.result c.bank_of-bank.ensures.exact
+    c.bank_of-bank.ensures.within c.index_mut.ensures.value c.decode_at_once-sent.result c.decode_at_once-sent.new.renaming
     c.decode_at_once-sent.ensures.exact place held.within
 
 pub post_all-requires-clause-fresh : goal.post_all-requires-clause-fresh
@@ -82,8 +77,8 @@ post_all-requires-clause-room c =
 pub returns : goal.returns
 returns c =
     let sent = c.decode_at_once-sent.result in
-    decode_does c.args.self.now c.requires.fit c.args.o c.take_decode-operand.result c.take_decode-operand.ensures.exact
-    c.index_mut.result.now c.bank_of-bank.result
+    decode_does c.args.self.now c.requires.fit c.args.o c.take_decode-operand.result
+    c.take_decode-operand.ensures.exact c.index_mut.result.now c.bank_of-bank.result
     c.bank_of-bank.ensures.exact c.bank_of-bank.ensures.within c.index_mut.ensures.value
     c.requires.may sent c.decode_at_once-sent.new.renaming c.decode_at_once-sent.ensures.exact
     c.decode_at_once-sent.ensures.sent c.post_all.new.mail
