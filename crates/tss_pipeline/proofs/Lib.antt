@@ -13,3 +13,4 @@ pub mod ImageRanges
 pub mod ExecLemmas
 pub mod StorageLemmas
 pub mod TaskStarts
+pub mod BankCopies
