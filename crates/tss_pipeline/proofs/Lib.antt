@@ -49,3 +49,4 @@ pub mod BankFills
 pub mod DecodingObjects
 pub mod MainCalls
 pub mod ReaderLemmas
+pub mod BankCopies

@@ -1,5 +1,10 @@
 -- The next piece of what a bank copies, and what the bank has after it.
-use Rattle.std.specs.Prelude.{◌≡◌, ℕ, ◌+◌, ◌^◌, ◌<◌, Bool, true, false, Option, Some, None}
+use Rattle.std.specs.Prelude.{◌≡◌, ℕ, ◌+◌, ◌^◌, ◌<◌, Bool, true, false, List, [], ◌∷◌, Option, Some, None}
+use Rattle.std.specs.FinMap.{insert}
+use Rattle.tss_base.specs.Names.{Named}
+use Rattle.tss_protocol.specs.Mail.{Message}
+use Rattle.tss_protocol.specs.Mail as mail
+use Rattle.tss_events.specs.Events.{gone_of}
 use Rattle.tss_tokens.specs.Pool.{TokenState}
 use Rattle.tss_events.specs.declared.message.Gone.{Gone}
 use Rattle.tss_buffers.specs.declared.copying.Copying.{Copying}
@@ -47,3 +52,12 @@ abbrev pub CopiesWithin : Option Copying → Option Job → Type 0
 CopiesWithin None j = ⊥
 CopiesWithin (Some c) None = ⊥
 CopiesWithin (Some c) (Some j) = j.object.base + c.moved < 2 ^ 32
+
+-- the message that it is gone, and the mail's with it
+abbrev pub gone_messages : Option Gone → List Message
+gone_messages None = []
+gone_messages (Some g) = mail.Gone g.version (gone_of g) ∷ []
+
+abbrev pub gones_with : Named Gone → Option Gone → Named Gone
+gones_with gones None = gones
+gones_with gones (Some g) = insert gones g.version g

@@ -1,9 +1,11 @@
 // The events of the workers and of the copy engines: start, exec, finish and copy.
-ghost use Rattle.std.specs.Prelude.{◌≡◌, ◌&&◌, ◌<◌, ◌≤◌, ℕ, nat_lt, is_none, option_map, slice_get, Some};
+ghost use Rattle.std.specs.Prelude.{◌≡◌, ◌+◌, ◌&&◌, ◌<◌, ◌≤◌, ℕ, drop, is_none, length, nat_lt, option_map, slice_get, Some, take};
 ghost use Rattle.std.specs.FinMap.{get};
 ghost use Rattle.tss_base.specs.declared.bounds.TheConstants.{MAX_OPERANDS};
 ghost use Rattle.tss_base.specs.declared.event.Event.TheVariants as event;
 ghost use Rattle.tss_model.specs.Access.{writes};
+ghost use Rattle.tss_model.specs.Memory.{put_bytes};
+ghost use Rattle.tss_memory.specs.Ranges.{CanWrite};
 ghost use Rattle.tss_protocol.specs.Mail.{posted_all};
 ghost use Rattle.tss_protocol.specs.Stations.{flight_after_finish};
 ghost use Rattle.tss_protocol.specs.UnitMachine.{is_enabled};
@@ -15,14 +17,16 @@ ghost use Rattle.tss_pipeline.specs.Does.{Does, May};
 ghost use Rattle.tss_pipeline.specs.Fit.{AreBanks, IsFit, ground_of};
 ghost use Rattle.tss_pipeline.specs.Beginning.{AreHeldFor, IsHeldFor, IsStored, IsStoredAt};
 ghost use Rattle.tss_pipeline.specs.Ending.{release_by, HasFewOperands};
+ghost use Rattle.tss_pipeline.specs.Pieces.{gone_messages, gones_with};
 ghost use Rattle.tss_pipeline.specs.State.{state_of, held_trap};
 
 use crate::bank::Piece;
 use crate::units::{TaskTrap, Units};
 use tss_base::{Event, Mode, OpName, Operand, Storage, Task, Trap};
 use tss_base::bounds::MAX_OPERANDS;
-use tss_events::Message;
+use tss_events::{Gone, Message};
 use tss_mail::Mail;
+use tss_memory::Space;
 use tss_stations::{OperandView, Stations};
 
 /// Whether a task writes an object with this mode.
@@ -75,6 +79,26 @@ fn hold(held: &mut Option<TaskTrap>, task: u32, trap: Option<Trap>)
     match held {
         Some(other) if other.task <= task => {}
         _ => *held = Some(TaskTrap { task, trap }),
+    }
+}
+
+/// The bytes of a buffer from a place on go to an address.
+fn copy_part(space: &mut Space, bytes: &[u8], from: u32, to: u32, len: u32)
+    requires there { from + len ≤ length bytes.now }
+    requires within { CanWrite space.old.ranges to len }
+    ensures { space.new ≡ put_bytes space.old to (take len (drop from bytes.now)) }
+{
+    space.copy_in(to, &bytes[from as usize..from as usize + len as usize]);
+}
+
+/// The message of a version that is gone.
+fn post_gone(mail: &mut Mail, gone: Option<Gone>)
+    requires { MayPostAll mail.old.size (mail_of mail.old) (gone_messages gone) }
+    ensures posted { mail_of mail.new ≡ posted_all (mail_of mail.old) (gone_messages gone) }
+    ensures rest { mail.new ≡ record mail.old { gones = gones_with mail.old.gones gone } }
+{
+    if let Some(gone) = gone {
+        mail.post(Message::Gone(gone));
     }
 }
 
@@ -253,10 +277,7 @@ impl Units {
             gone,
         } = self.banks[b as usize].next_piece();
         let bytes = self.buffers.bytes(b, place);
-        self.space
-            .copy_in(to, &bytes[from as usize..from as usize + len as usize]);
-        if let Some(gone) = gone {
-            self.mail.post(Message::Gone(gone));
-        }
+        copy_part(&mut self.space, bytes, from, to, len);
+        post_gone(&mut self.mail, gone);
     }
 }
