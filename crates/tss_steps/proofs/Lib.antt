@@ -11,3 +11,4 @@ pub mod PrintedLemmas
 pub mod SpawnPlaces
 pub mod CallLemmas
 pub mod AwaitLemmas
+pub mod PieceLemmas
