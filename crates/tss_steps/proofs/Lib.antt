@@ -12,3 +12,4 @@ pub mod SpawnPlaces
 pub mod CallLemmas
 pub mod AwaitLemmas
 pub mod PieceLemmas
+pub mod RiseLemmas
