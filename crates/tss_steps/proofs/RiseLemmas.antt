@@ -1,5 +1,5 @@
 -- Pieces that rise go on rising with one piece more, or one task more.
-use Rattle.std.proofs.Common.{◌≡◌, ℕ, ◌<◌, ◌≤◌, List, [], ◌∷◌, ◌++◌, arith}
+use Rattle.std.proofs.Common.{◌≡◌, ℕ, ◌≤◌, List, [], ◌∷◌, ◌++◌, arith}
 use Rattle.tss_model.specs.MainStep.{Piece}
 use Rattle.tss_steps.specs.Printing.{RiseTo}
 

@@ -1,5 +1,5 @@
 -- A piece is printed where it has room.
-use Rattle.std.proofs.Common.{◌≡◌, ℕ, List, length, refl, sym, ap, subst, ◌∙◌, arith}
+use Rattle.std.proofs.Common.{◌≡◌, length, refl, sym, ap, subst, ◌∙◌, arith}
 use Rattle.std.proofs.lemmas.List.FromFn.{length-map-range_with_len}
 use Rattle.tss_model.specs.Memory.{byte_at}
 use Rattle.tss_model.specs.MainStep.{Piece}

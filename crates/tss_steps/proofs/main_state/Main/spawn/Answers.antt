@@ -1,5 +1,5 @@
 -- An accepted spawn, and the task that it hands over.
-use Rattle.std.proofs.Common.{◌≤◌, ℕ, Some, refl, sym, ap, subst, ◌∙◌, arith}
+use Rattle.std.proofs.Common.{Some, refl, sym, ap, subst, ◌∙◌, arith}
 use Rattle.tss_model.specs.MainStep.{Spawn}
 use Rattle.tss_operands.specs.Naming.{EpochState}
 use Rattle.tss_steps.specs.Limited.{LimitedMain, Calls}
@@ -39,9 +39,9 @@ pub invariant_of-self : goal.invariant_of-self
 invariant_of-self c =
     let i = c.self.inside in
     let next =
-        number-spawn_of i.limits
-        (record { entry = c.get.result; list = c.get-2.result; count = c.get-3.result; argument = c.get-4.result })
-        c.args.space.now i.epoch.objects i.spawned c.in-Ok.task (sym c.in-Ok.ensures.exact) in
+    number-spawn_of i.limits
+    (record { entry = c.get.result; list = c.get-2.result; count = c.get-3.result; argument = c.get-4.result })
+    c.args.space.now i.epoch.objects i.spawned c.in-Ok.task (sym c.in-Ok.ensures.exact) in
     record {
       few = c.self.invariant.few;
       objects = ap (λ (s : EpochState). s.limit) c.name_all.ensures ∙ c.self.invariant.objects;

@@ -1,8 +1,6 @@
 -- A piece is that of its mark.
-use Rattle.std.proofs.Common.{◌≡◌, ℕ, List, Some, length, sym, ap, ◌∙◌, arith}
+use Rattle.std.proofs.Common.{ℕ, List, Some, length, sym, ap, ◌∙◌, arith}
 use Rattle.std.specs.Prelude.{slice_get}
-use Rattle.tss_model.specs.MainStep.{Piece}
-use Rattle.tss_steps.specs.declared.printed.Mark.{Mark}
 use Rattle.tss_steps.specs.Printing.{PrintedState, part, start_at}
 use Rattle.tss_steps.proofs.PieceLemmas.{piece_within, mark_read, some_piece, no_piece}
 use Rattle.tss_steps.proofs.printed.Printed.piece_at.Goals as goal
