@@ -8,3 +8,5 @@ pub mod BankFills
 pub mod DecodeLemmas
 pub mod MainCalls
 pub mod ReaderLemmas
+pub mod BankPartLemmas
+pub mod SeenBanks

@@ -1,5 +1,5 @@
 // A bank of the tables for renaming and versioning, with its copy engine.
-ghost use Rattle.std.specs.Prelude.{◌≡◌};
+ghost use Rattle.std.specs.Prelude.{◌≡◌, option_map};
 ghost use Rattle.tss_pipeline.specs.Emptiness.{is_empty};
 
 use tss_base::{OpName, Range, Storage};
@@ -141,6 +141,16 @@ impl Bank {
             && self.renaming.buffers() == 0
             && self.versions.count() == 0
             && self.job.is_none()
+    }
+
+    /// What the bank copies home: the version, and its object.
+    pub(crate) fn copy(&self) -> Option<(OpName, Range)>
+        ensures { result ≡ option_map (λ j. (j.version, j.object)) self.now.job }
+    {
+        match &self.job {
+            Some(job) => Some((job.version, job.object)),
+            None => None,
+        }
     }
 
     /// Ends a bank with nothing in it.
