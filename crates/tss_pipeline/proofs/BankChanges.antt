@@ -99,15 +99,76 @@ module _ (bs : List Bank) (n : ℕ) (b new : Bank) (there : slice_get bs n ≡ S
 
 -- ---- copies
 
+module _ {X : Type 0} (m : Numbered X) (k : ℕ) (o p : Option X) where
+  -- what is put at a key twice
+  with_again : with_at (with_at m k o) k p ≡ with_at m k p
+  with_again = same_by_get nat_order _ _ (λ j. elim (decide_key nat_order j k) [
+    | inl here ↦
+        ap (get (with_at (with_at m k o) k p)) here
+        ∙ at_with nat_order (with_at m k o) k p
+        ∙ sym (at_with nat_order m k p)
+        ∙ ap (get (with_at m k p)) (sym here)
+    | inr apart ↦
+        beside_with nat_order (with_at m k o) k p j apart
+        ∙ beside_with nat_order m k o j apart
+        ∙ sym (beside_with nat_order m k p j apart)
+  ])
+
+  -- what is put at two keys, in any order
+  with_apart : (q : ℕ) → k ≢ q → with_at (with_at m k o) q p ≡ with_at (with_at m q p) k o
+  with_apart q other = same_by_get nat_order _ _ (λ j. elim (decide_key nat_order j q) [
+    | inl here ↦
+        ap (get (with_at (with_at m k o) q p)) here
+        ∙ at_with nat_order (with_at m k o) q p
+        ∙ sym (at_with nat_order m q p)
+        ∙ sym (beside_with nat_order (with_at m q p) k o q (λ e. other (sym e)))
+        ∙ ap (get (with_at (with_at m q p) k o)) (sym here)
+    | inr apart ↦ beside_with nat_order (with_at m k o) q p j apart ∙ elim (decide_key nat_order j k) [
+      | inl there ↦
+          ap (get (with_at m k o)) there
+          ∙ at_with nat_order m k o
+          ∙ sym (at_with nat_order (with_at m q p) k o)
+          ∙ ap (get (with_at (with_at m q p) k o)) (sym there)
+      | inr further ↦
+          beside_with nat_order m k o j further
+          ∙ sym (beside_with nat_order m q p j apart)
+          ∙ sym (beside_with nat_order (with_at m q p) k o j further)
+    ]
+  ])
+
+later_number : (k n : ℕ) → suc k + n ≡ k + suc n
+later_number k n = omega arith
+
+same_number : (k : ℕ) → k + 0 ≡ k
+same_number k = omega arith
+
+not_later : (k n : ℕ) → k ≢ suc k + n
+not_later k n e = omega (arith, e)
+
 -- a bank's copy
 pub get-copies_from : (k : ℕ) (bs : List Bank) (n : ℕ) (b : Bank) → slice_get bs n ≡ Some b
     → get (copies_from k bs) (k + n) ≡ bank_copy b
-get-copies_from k bs n b there = ?copy_there
+get-copies_from k [] n b there = absurd (none-some b there)
+get-copies_from k (x ∷ xs) zero b there =
+    ap (get (copies_from k (x ∷ xs))) (same_number k)
+    ∙ at_with nat_order (copies_from (suc k) xs) k (bank_copy x)
+    ∙ ap bank_copy (same_Some x b there)
+get-copies_from k (x ∷ xs) (suc n) b there =
+    ap (get (copies_from k (x ∷ xs))) (sym (later_number k n))
+    ∙ beside_with nat_order (copies_from (suc k) xs) k (bank_copy x) (suc k + n) (λ e. not_later k n (sym e))
+    ∙ get-copies_from (suc k) xs n b there
 
 -- where one bank is another
 pub copies_set : (k : ℕ) (bs : List Bank) (n : ℕ) (b new : Bank) → slice_get bs n ≡ Some b
     → copies_from k (set bs n new) ≡ with_at (copies_from k bs) (k + n) (bank_copy new)
-copies_set k bs n b new there = ?copies
+copies_set k [] n b new there = absurd (none-some b there)
+copies_set k (x ∷ xs) zero b new there =
+    sym (with_again (copies_from (suc k) xs) k (bank_copy x) (bank_copy new))
+    ∙ ap (λ j. with_at (copies_from k (x ∷ xs)) j (bank_copy new)) (sym (same_number k))
+copies_set k (x ∷ xs) (suc n) b new there =
+    ap (λ m. with_at m k (bank_copy x)) (copies_set (suc k) xs n b new there)
+    ∙ sym (with_apart (copies_from (suc k) xs) k (bank_copy x) (bank_copy new) (suc k + n) (not_later k n))
+    ∙ ap (λ j. with_at (copies_from k (x ∷ xs)) j (bank_copy new)) (later_number k n)
 
 -- with the same copy
 pub copies_kept : (k : ℕ) (bs : List Bank) (n : ℕ) (b new : Bank) → slice_get bs n ≡ Some b

@@ -1,57 +1,66 @@
--- Whether an operand on an object is to be decoded, by the decodes in order.
-use Rattle.std.proofs.Common.{◌≡◌, ◌≢◌, ℕ, ◌<◌, ◌≤◌, Bool, true, false, not, List, length, Option, Some, None, refl, sym, ap, ◌∙◌, arith}
-use Rattle.std.specs.Prelude.{slice_get, option_and_then}
-use Rattle.std.specs.FinMap.{get, keys}
-use Rattle.std.proofs.lemmas.Option.{none-some, slice_get_within}
-use Rattle.tss_base.specs.declared.operand.OpName.{OpName}
+-- The decodes of a task's operands, sent one by one.
+use Rattle.std.proofs.Common.{◌≡◌, ◌<◌, ◌≤◌, ℕ, suc, ◌+◌, List, [], ◌∷◌, length, drop, get_or, None, refl, sym, ap, ◌∙◌, subst, arith}
+use Rattle.std.specs.FinMap.{get, insert, len}
+use Rattle.std.proofs.lemmas.List.{drop_more}
 use Rattle.tss_base.specs.declared.operand.Operand.{Operand}
-use Rattle.tss_base.specs.declared.range.Range.{Range}
-use Rattle.tss_base.specs.Names.{Named}
-use Rattle.tss_maps.specs.Sums.{count_of}
-use Rattle.tss_maps.specs.Ordered.{key_at}
 use Rattle.tss_maps.proofs.Keys.{name_order}
-use Rattle.tss_maps.proofs.OrderedLemmas.{key_from_get}
-use Rattle.tss_maps.proofs.Sums.{counted, count_none}
-use Rattle.tss_banks.proofs.BankCounts.{same_number, other_number}
-use Rattle.tss_protocol.specs.MainEvent.{is_operand_on, has_no_decode}
-use Rattle.tss_pipeline.specs.Emptiness.{decode_at}
+use Rattle.tss_maps.proofs.Entries.{len_added}
+use Rattle.tss_model.specs.Spawn.{no_operand}
+use Rattle.tss_protocol.specs.Names.{operand_name}
+use Rattle.tss_protocol.specs.Gateway.{decodes_from}
+use Rattle.tss_protocol.specs.Mail.{Decode, posted_all}
+use Rattle.tss_mail.specs.Letters.{MailState, mail_of}
+use Rattle.tss_conditions.specs.Posting.{MayPostAll, MayPostNext}
+use Rattle.tss_conditions.proofs.Postable.{post_next, nothing_there}
 
-module _ (decodes : Named Operand) where
-  -- an operand at a place stands under a name
-  from_name : (o : Option OpName) (p : Operand) → option_and_then (get decodes) o ≡ Some p
-      → (n : OpName) × (get decodes n ≡ Some p)
-  from_name None p e = absurd (none-some p e)
-  from_name (Some n) p e = (n, e)
+-- there are as many as operands
+pub length-decodes_from : (task place : ℕ) (ops : List Operand) → length (decodes_from task place ops) ≡ length ops
+length-decodes_from task place [] = refl
+length-decodes_from task place (p ∷ ps) = ap suc (length-decodes_from task (suc place) ps)
 
-  -- and the other way round
-  place_of_decode : (o : OpName) (p : Operand) → get decodes o ≡ Some p
-      → (i : ℕ) × (i < length (keys decodes)) × (decode_at decodes i ≡ Some p)
-  unfolding key_at
-  place_of_decode o p e =
-      let t = key_from_get name_order decodes o p e in
-      (t.0, slice_get_within (keys decodes) t.0 o t.1, ap (option_and_then (get decodes)) t.1 ∙ e)
+next_place : (k : ℕ) → suc k ≡ k + 1
+next_place k = omega arith
 
-module _ (object : Range) (decodes : Named Operand) where
-  abbrev on_it : OpName → Operand → Bool
-  on_it o p = is_operand_on object p
+module _ (task : ℕ) (ops : List Operand) (k : ℕ) (within : k < length ops) where
+  -- the first of those that are left
+  left : decodes_from task k (drop k ops)
+      ≡ Decode (operand_name task k) (get_or ops k no_operand) ∷ decodes_from task (k + 1) (drop (k + 1) ops)
+  left =
+      ap (decodes_from task k) (drop_more ops k no_operand within)
+      ∙ ap (λ n. Decode (operand_name task k) (get_or ops k no_operand) ∷ decodes_from task n (drop (k + 1) ops))
+      (next_place k)
 
-  some_number : (n : ℕ) → 1 ≤ n → n ≢ 0
-  some_number n h e = omega (arith, h, e)
+  module _ (m : MailState) (may : MayPostAll m.size (mail_of m) (decodes_from task k (drop k ops))) where
+    -- it may be sent, and then the others
+    pub next_decode : MayPostNext m.size (mail_of m) (Decode (operand_name task k) (get_or ops k no_operand))
+        (decodes_from task (k + 1) (drop (k + 1) ops))
+    next_decode =
+        post_next m.size (mail_of m) (Decode (operand_name task k) (get_or ops k no_operand))
+        (decodes_from task (k + 1) (drop (k + 1) ops)) (subst (MayPostAll m.size (mail_of m)) left may)
 
-  -- one is on the object
-  pub decode_found : (i : ℕ) (p : Operand) → decode_at decodes i ≡ Some p → is_operand_on object p ≡ true
-      → true ≡ not (has_no_decode object decodes)
-  decode_found i p at on =
-      let t = from_name decodes (slice_get (keys decodes) i) p at in
-      let most = counted name_order on_it decodes t.0 p t.1 on in
-      sym (ap not (other_number (count_of on_it decodes) 0 (some_number (count_of on_it decodes) most)))
+    pub new_decode : get m.decodes (operand_name task k) ≡ None
+    new_decode =
+        nothing_there (Decode (operand_name task k)) (get m.decodes (operand_name task k)) next_decode.fresh
 
-  -- none is
-  pub decode_nowhere : (i : ℕ) → length (keys decodes) ≤ i
-      → ((k : ℕ) (p : Operand) → k < i → decode_at decodes k ≡ Some p → is_operand_on object p ≡ false)
-      → false ≡ not (has_no_decode object decodes)
-  decode_nowhere i all each =
-      sym (ap not (same_number (count_of on_it decodes) 0 (count_none name_order on_it decodes (λ o p e.
-      let t = place_of_decode decodes o p e in
-      let low = t.1 in
-      each t.0 p (omega (arith, low, all)) t.2))))
+    module _ (n : MailState)
+        (sent : n ≡ record m { decodes = insert m.decodes (operand_name task k) (get_or ops k no_operand) }) where
+      pub others_may : MayPostAll n.size (mail_of n) (decodes_from task (k + 1) (drop (k + 1) ops))
+      others_may =
+          subst (λ (x : MailState). MayPostAll x.size (mail_of x) (decodes_from task (k + 1) (drop (k + 1) ops))) (sym sent)
+          next_decode.rest
+
+      -- with the others it is the same mail
+      pub same_end : posted_all (mail_of n) (decodes_from task (k + 1) (drop (k + 1) ops))
+          ≡ posted_all (mail_of m) (decodes_from task k (drop k ops))
+      same_end =
+          ap (λ (x : MailState). posted_all (mail_of x) (decodes_from task (k + 1) (drop (k + 1) ops))) sent
+          ∙ ap (posted_all (mail_of m)) (sym left)
+
+      -- and the same number
+      pub same_many : (most : ℕ) → len m.decodes + length (drop k ops) ≤ most
+          → len n.decodes + length (drop (k + 1) ops) ≤ most
+      same_many most few =
+          let one = len_added name_order m.decodes (operand_name task k) (get_or ops k no_operand) new_decode in
+          let now = ap (λ (x : MailState). len x.decodes) sent in
+          let rest = ap (λ (xs : List Operand). length xs) (drop_more ops k no_operand within) in
+          omega (arith, one, now, rest, few)

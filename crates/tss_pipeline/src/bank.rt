@@ -1,5 +1,8 @@
 // A bank of the tables for renaming and versioning, with its copy engine.
-ghost use Rattle.std.specs.Prelude.{◌≡◌, option_map};
+ghost use Rattle.std.specs.Prelude.{◌≡◌, IsSome, None, Some, option_map};
+ghost use Rattle.std.specs.FinMap as map;
+ghost use Rattle.tss_pipeline.specs.Registering.{is_home, CanBringHome, BringsHome};
+ghost use Rattle.tss_pipeline.specs.Pieces.{CopiesWithin, IsPieceOf, gone_with};
 ghost use Rattle.tss_pipeline.specs.Emptiness.{is_empty};
 
 use tss_base::{OpName, Range, Storage};
@@ -39,15 +42,24 @@ pub(crate) struct Bank {
 
 impl Bank {
     /// Whether a version lies at home.
-    pub(crate) fn is_home(&self, v: OpName) -> bool {
+    pub(crate) fn is_home(&self, v: OpName) -> bool
+        ensures { result ≡ is_home (map.get self.now.versions.versions v) }
+    {
         match self.versions.version(v) {
-            Some(version) => version.storage == Some(Storage::Home),
+            Some(version) => match version.storage {
+                Some(Storage::Home) => true,
+                Some(Storage::Buffer(_, _)) => false,
+                None => false,
+            },
             None => false,
         }
     }
 
     /// Begins to copy a version that has retired home, where its value lies in a buffer. Else it is gone at once.
-    pub(crate) fn bring_home(&mut self, gone: Gone) -> Option<Gone> {
+    pub(crate) fn bring_home(&mut self, gone: Gone) -> Option<Gone>
+        requires { CanBringHome self.old gone.buffer }
+        ensures { BringsHome self.old gone gone.buffer result self.new }
+    {
         let Gone {
             version,
             object,
@@ -83,7 +95,10 @@ impl Bank {
 
     /// The next piece of what the bank copies: where it begins in the buffer and in memory, its length, and after the
     /// last piece that the version is gone.
-    pub(crate) fn next_piece(&mut self) -> Piece {
+    pub(crate) fn next_piece(&mut self) -> Piece
+        requires { CopiesWithin self.old.engine self.old.job }
+        ensures { IsPieceOf self.old self.old.engine self.old.job result self.new }
+    {
         let object = match &self.job {
             Some(job) => job.object,
             None => unreachable!(),
@@ -111,7 +126,11 @@ impl Bank {
     }
 
     /// The copy is over: the version is gone, with its buffer.
-    fn end_job(&mut self, token: Token) -> Gone {
+    fn end_job(&mut self, token: Token) -> Gone
+        requires { IsSome self.old.job }
+        ensures exact { option_map (λ j. gone_with j token) self.old.job ≡ Some result }
+        ensures left { self.new ≡ record self.old { job = None } }
+    {
         match self.job.take() {
             Some(Job {
                 version,
@@ -154,7 +173,11 @@ impl Bank {
     }
 
     /// Ends a bank with nothing in it.
-    pub(crate) fn close_empty(self) {
+    pub(crate) fn close_empty(self)
+        requires versions { self.versions.versions ≡ map.empty }
+        requires engine { self.engine ≡ None }
+        requires job { self.job ≡ None }
+    {
         let Bank {
             renaming,
             versions,

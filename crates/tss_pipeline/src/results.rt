@@ -176,7 +176,7 @@ impl Units {
     /// What counts of what main has printed: all, or what it printed before it had spawned the task whose trap is held.
     pub(crate) fn output(&self) -> &[u8] {
         match self.trap {
-            Some(_) => self.main.output(),
+            Some(held) => self.main.output_before(held.task),
             None => self.main.output(),
         }
     }

@@ -11,3 +11,5 @@ pub mod PrintedLemmas
 pub mod SpawnPlaces
 pub mod CallLemmas
 pub mod AwaitLemmas
+pub mod PieceLemmas
+pub mod RiseLemmas

@@ -1,5 +1,5 @@
 // Main: its state, and its stretches and calls.
-ghost use Rattle.std.specs.Prelude.{◌≡◌, ◌-◌, ◌^◌, ◌<◌, ◌≤◌, IfOk, IfSome, None, length, option_map, slice_get};
+ghost use Rattle.std.specs.Prelude.{◌≡◌, ◌-◌, ◌^◌, ◌<◌, ◌≤◌, nat_lt, IfOk, IfSome, None, filter, length, option_map, slice_get};
 ghost use Rattle.tss_base.specs.declared.bounds.TheConstants.{MAX_OPERANDS};
 ghost use Rattle.tss_model.specs.Memory.{Memory};
 ghost use Rattle.tss_model.specs.Registers.{register_at};
@@ -46,7 +46,7 @@ impl Model for Main {
       };
     } };
 
-    ghost invariant = { λ m. IsLimited m.limits m.epoch.limit m.printed.limit };
+    ghost invariant = { λ m. IsLimited m.limits m.epoch.limit m.printed.limit m.spawned m.printed.pieces };
 }
 
 impl Main {
@@ -115,6 +115,20 @@ impl Main {
         ensures few { length result.now ≤ self.now.limits.output_bytes }
     {
         self.printed.bytes()
+    }
+
+    /// A piece that main has printed, by its place from 0, with how many tasks had been spawned before it.
+    pub fn piece_at(&self, i: u32) -> Option<(u32, &[u8])>
+        ensures { option_map (λ p. record { before = p.0; bytes = p.1.now }) result ≡ slice_get self.now.main.pieces i }
+    {
+        self.printed.piece_at(i)
+    }
+
+    /// What main has printed with fewer than `task` tasks spawned.
+    pub fn output_before(&self, task: u32) -> &[u8]
+        ensures { result.now ≡ output_of (filter (λ p. nat_lt p.before task) self.now.main.pieces) }
+    {
+        self.printed.bytes_before(task)
     }
 
     /// The number in x17 where main's next step is a call. None where it has ended or has spent its budget, or its next

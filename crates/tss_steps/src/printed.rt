@@ -1,6 +1,7 @@
 // What main has printed.
-ghost use Rattle.std.specs.Prelude.{◌≡◌, ◌+◌, ◌<◌, ◌≤◌, [], ◌∷◌, ◌++◌, IfOk, length};
+ghost use Rattle.std.specs.Prelude.{◌≡◌, ◌+◌, ◌<◌, ◌≤◌, nat_lt, [], ◌∷◌, ◌++◌, IfOk, filter, length, option_map, slice_get};
 ghost use Rattle.tss_model.specs.MainStep.{output_of};
+ghost use Rattle.tss_steps.specs.Printing.{Rise, end_before, part, start_at};
 
 use std::alloc::Global;
 use std::marker::Model;
@@ -75,4 +76,63 @@ impl Printed {
     {
         self.bytes.as_slice()
     }
+
+    /// How many pieces there are.
+    pub fn count(&self) -> u32
+        ensures { result ≡ length self.now.pieces }
+    {
+        self.marks.len() as u32
+    }
+
+    /// The piece at a place, from 0, with how many tasks were spawned before it.
+    pub fn piece_at(&self, i: u32) -> Option<(u32, &[u8])>
+        ensures { option_map (λ p. record { before = p.0; bytes = p.1.now }) result ≡ slice_get self.now.pieces i }
+    {
+        match self.marks.get(i as usize) {
+            Some(mark) => {
+                let start = start_at(&self.marks, i as usize);
+                Some((mark.before, part(&self.bytes, start, mark.end)))
+            }
+            None => None,
+        }
+    }
+
+    /// The bytes of the pieces before which fewer than `task` tasks were spawned. They stand first.
+    pub fn bytes_before(&self, task: u32) -> &[u8]
+        requires { Rise self.now.pieces }
+        ensures { result.now ≡ output_of (filter (λ p. nat_lt p.before task) self.now.pieces) }
+    {
+        part(&self.bytes, 0, end_before(&self.marks, task))
+    }
+}
+
+/// The bytes from one place to another.
+fn part(bytes: &[u8], from: u32, until: u32) -> &[u8]
+    requires from { from ≤ until }
+    requires until { until ≤ length bytes.now }
+    ensures { result.now ≡ part bytes.now from until }
+{
+    &bytes[from as usize..until as usize]
+}
+
+/// Where the piece at a place begins.
+fn start_at(marks: &[Mark], i: usize) -> u32
+    requires { i < length marks.now }
+    ensures { result ≡ start_at i 0 marks.now }
+{
+    if i == 0 { 0 } else { marks[i - 1].end }
+}
+
+/// Where the first pieces end, up to one before which at least `task` tasks were spawned.
+fn end_before(marks: &[Mark], task: u32) -> u32
+    ensures { result ≡ end_before task 0 marks.now }
+{
+    let mut end = 0;
+    for i in 0..marks.len() {
+        if task <= marks[i].before {
+            return end;
+        }
+        end = marks[i].end;
+    }
+    end
 }

@@ -1,10 +1,11 @@
 -- An accepted spawn, and the task that it hands over.
-use Rattle.std.proofs.Common.{Some, refl, sym, ap, subst, arith}
+use Rattle.std.proofs.Common.{Some, refl, sym, ap, subst, ◌∙◌, arith}
 use Rattle.tss_model.specs.MainStep.{Spawn}
 use Rattle.tss_operands.specs.Naming.{EpochState}
 use Rattle.tss_steps.specs.Limited.{LimitedMain, Calls}
 use Rattle.tss_steps.proofs.CallLemmas.{main_with, spawn_calls}
-use Rattle.tss_steps.proofs.SpawnPlaces.{are_placed-spawn_of}
+use Rattle.tss_steps.proofs.RiseLemmas.{rise_later}
+use Rattle.tss_steps.proofs.SpawnPlaces.{are_placed-spawn_of, number-spawn_of}
 use Rattle.tss_steps.proofs.main_state.Main.spawn.Goals as goal
 
 pub returns-in-Ok-clause-call : goal.returns-in-Ok-clause-call
@@ -32,4 +33,18 @@ returns-in-Ok-clause-runnable c =
           are_placed-spawn_of c.self.inside.limits
           (record { entry = c.get.result; list = c.get-2.result; count = c.get-3.result; argument = c.get-4.result })
           c.args.space.now c.self.inside.epoch.objects c.self.inside.spawned c.in-Ok.task (sym c.in-Ok.ensures.exact);
+    }
+
+pub invariant_of-self : goal.invariant_of-self
+invariant_of-self c =
+    let i = c.self.inside in
+    let next =
+    number-spawn_of i.limits
+    (record { entry = c.get.result; list = c.get-2.result; count = c.get-3.result; argument = c.get-4.result })
+    c.args.space.now i.epoch.objects i.spawned c.in-Ok.task (sym c.in-Ok.ensures.exact) in
+    record {
+      few = c.self.invariant.few;
+      objects = ap (λ (s : EpochState). s.limit) c.name_all.ensures ∙ c.self.invariant.objects;
+      bytes = c.self.invariant.bytes;
+      rise = rise_later 0 i.printed.pieces i.spawned c.in-Ok.task.number (omega (arith, next)) c.self.invariant.rise;
     }
