@@ -49,4 +49,6 @@ pub mod BankFills
 pub mod DecodingObjects
 pub mod MainCalls
 pub mod ReaderLemmas
+pub mod BankPartLemmas
+pub mod SeenBanks
 pub mod BankCopies

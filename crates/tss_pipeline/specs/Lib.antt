@@ -3,6 +3,7 @@ pub mod Seen
 pub mod State
 pub mod Lines
 pub mod Emptiness
+pub mod BankParts
 pub mod Fit
 pub mod Registering
 pub mod Does

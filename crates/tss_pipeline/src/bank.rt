@@ -162,6 +162,16 @@ impl Bank {
             && self.job.is_none()
     }
 
+    /// What the bank copies home: the version, and its object.
+    pub(crate) fn copy(&self) -> Option<(OpName, Range)>
+        ensures { result ≡ option_map (λ j. (j.version, j.object)) self.now.job }
+    {
+        match &self.job {
+            Some(job) => Some((job.version, job.object)),
+            None => None,
+        }
+    }
+
     /// Ends a bank with nothing in it.
     pub(crate) fn close_empty(self)
         requires versions { self.versions.versions ≡ map.empty }

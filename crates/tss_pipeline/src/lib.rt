@@ -5,6 +5,7 @@
 #![tactic(auto)]
 
 mod bank;
+mod bank_readers;
 mod closing;
 mod enabling;
 mod front;

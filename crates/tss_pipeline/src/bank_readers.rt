@@ -1,0 +1,118 @@
+// What the machine shows of its banks. Of a bank that isn't there it shows nothing.
+ghost use Rattle.std.specs.Prelude.{◌≡◌, is_some, option_map, slice_get};
+ghost use Rattle.std.specs.FinMap.{get};
+ghost use Rattle.tss_maps.specs.Ordered.{key_at};
+ghost use Rattle.tss_renaming.specs.Entries.{entry_of};
+ghost use Rattle.tss_pipeline.specs.BankParts.{entries_at, names_at, value_at, version_shown, versions_at};
+
+use crate::bank::Bank;
+use crate::pipeline::Pipeline;
+use tss_base::{OpName, Range};
+use tss_renaming::EntryView;
+use tss_versions::VersionView;
+
+/// The bank of a number, where there is one.
+fn bank_at(banks: &[Bank], bank: u32) -> Option<&Bank>
+    ensures { option_map (λ b. b.now) result ≡ slice_get banks.now bank }
+{
+    banks.get(bank as usize)
+}
+
+impl Pipeline {
+    /// The entry of the object with a base, in a bank.
+    pub fn entry(&self, bank: u32, base: u32) -> Option<EntryView>
+        ensures { option_map entry_of result
+            ≡ get (entries_at self.now.machine.sizes bank self.now.state.entries) base }
+    {
+        match bank_at(&self.units.banks, bank) {
+            Some(bank) => bank.renaming.entry(base),
+            None => None,
+        }
+    }
+
+    /// An entry of a bank by its place, from 0, in the order of the objects' bases.
+    pub fn entry_at(&self, bank: u32, i: u32) -> Option<EntryView>
+        ensures { option_map entry_of result
+            ≡ value_at (entries_at self.now.machine.sizes bank self.now.state.entries) i }
+    {
+        match bank_at(&self.units.banks, bank) {
+            Some(bank) => bank.renaming.entry_at(i),
+            None => None,
+        }
+    }
+
+    /// The name for which a place of a bank is held, by its place, from 0, in the order of these names.
+    pub fn place_at(&self, bank: u32, i: u32) -> Option<OpName>
+        ensures { result ≡ key_at (names_at bank self.now.state.places) i }
+    {
+        match bank_at(&self.units.banks, bank) {
+            Some(bank) => bank.renaming.place_at(i),
+            None => None,
+        }
+    }
+
+    /// The name for which a buffer of a bank is held, by its place, from 0, in the order of these names, and the buffer's
+    /// place.
+    pub fn buffer_at(&self, bank: u32, i: u32) -> Option<(OpName, u32)>
+        ensures { option_map (λ b. b.0) result ≡ key_at (names_at bank self.now.state.buffers) i }
+    {
+        match bank_at(&self.units.banks, bank) {
+            Some(bank) => bank.renaming.buffer_at(i),
+            None => None,
+        }
+    }
+
+    /// Whether a version is registered in a bank.
+    pub fn has(&self, bank: u32, v: OpName) -> bool
+        ensures { result ≡ is_some (get (versions_at self.now.machine.sizes bank self.now.state.versions) v) }
+    {
+        match bank_at(&self.units.banks, bank) {
+            Some(bank) => bank.versions.has(v),
+            None => false,
+        }
+    }
+
+    /// A version that is registered in a bank.
+    pub fn version(&self, bank: u32, v: OpName) -> Option<VersionView>
+        ensures { option_map version_shown result
+            ≡ get (versions_at self.now.machine.sizes bank self.now.state.versions) v }
+    {
+        match bank_at(&self.units.banks, bank) {
+            Some(bank) => bank.versions.version(v),
+            None => None,
+        }
+    }
+
+    /// A version of a bank by its place, from 0, in the order of names.
+    pub fn version_at(&self, bank: u32, i: u32) -> Option<VersionView>
+        ensures version { option_map version_shown result
+            ≡ value_at (versions_at self.now.machine.sizes bank self.now.state.versions) i }
+        ensures name { option_map (λ x. x.name) result
+            ≡ key_at (versions_at self.now.machine.sizes bank self.now.state.versions) i }
+    {
+        match bank_at(&self.units.banks, bank) {
+            Some(bank) => bank.versions.version_at(i),
+            None => None,
+        }
+    }
+
+    /// How many bytes a bank has copied home of what it copies.
+    pub fn moved(&self, bank: u32) -> Option<u32>
+        ensures { result ≡ option_map (λ c. c.moved) (get self.now.state.copies bank) }
+    {
+        match bank_at(&self.units.banks, bank) {
+            Some(bank) => bank.engine.moved(),
+            None => None,
+        }
+    }
+
+    /// What a bank copies home: the version, and its object.
+    pub fn copy(&self, bank: u32) -> Option<(OpName, Range)>
+        ensures { result ≡ option_map (λ c. (c.version, c.object)) (get self.now.state.copies bank) }
+    {
+        match bank_at(&self.units.banks, bank) {
+            Some(bank) => bank.copy(),
+            None => None,
+        }
+    }
+}
