@@ -1,34 +1,31 @@
 -- What a bank copies, and the state after a piece.
-use Rattle.std.proofs.Common.{◌≡◌, ◌≢◌, ℕ, zero, suc, ◌+◌, ◌-◌, ◌^◌, ◌<◌, ◌≤◌, Bool, true, false, true≢false, min, List, [], ◌∷◌, length, take, drop, map, set, get_or, slice_get, Option, Some, None, option_map, refl, sym, ap, ◌∙◌, subst, inl, inr, ◌⊎◌, arith}
+use Rattle.std.proofs.Common.{◌≡◌, ℕ, zero, suc, ◌+◌, ◌-◌, ◌<◌, ◌≤◌, Bool, true, false, true≢false, min, List, [], ◌∷◌, length, take, drop, set, get_or, slice_get, Option, Some, None, refl, sym, ap, ◌∙◌, subst, inl, inr, ◌⊎◌, arith}
 use Rattle.std.specs.Prelude.{is_some, unwrap_or, IfSome}
-use Rattle.std.specs.FinMap.{get, insert, remove}
-use Rattle.std.proofs.lemmas.Option.{none-some, same_Some, slice_get_within}
+use Rattle.std.specs.FinMap.{get}
+use Rattle.std.proofs.lemmas.Option.{same_Some, slice_get_within}
 use Rattle.tss_base.specs.declared.bounds.TheConstants.{COPY_BYTES}
 use Rattle.tss_base.specs.declared.operand.OpName.{OpName}
 use Rattle.tss_base.specs.declared.range.Range.{Range}
 use Rattle.tss_base.specs.declared.event.Event.TheVariants as event
-use Rattle.tss_base.specs.Range.{end_of, contains}
+use Rattle.tss_base.specs.Range.{end_of}
 use Rattle.tss_base.specs.Names.{Named, Numbered}
-use Rattle.tss_model.specs.Memory.{Memory, put_bytes, range_of}
+use Rattle.tss_model.specs.Memory.{Memory, put_bytes}
 use Rattle.tss_memory.specs.Ranges.{CanWrite, memory_end}
 use Rattle.tss_memory.proofs.RangeLemmas.{found_end, contains_from}
 use Rattle.tss_steps.proofs.PlaceLemmas.{range_of-inside}
-use Rattle.tss_tokens.specs.Pool.{TokenState}
-use Rattle.tss_events.specs.declared.message.Gone.{Gone}
-use Rattle.tss_events.specs.declared.message.HeldBuffer.{HeldBuffer}
 use Rattle.tss_banks.specs.Joined.{joined}
 use Rattle.tss_banks.specs.Tables.{joined_tables}
 use Rattle.tss_banks.specs.Collected.{with_at}
 use Rattle.tss_banks.specs.Versions.{VersionsInBanks}
 use Rattle.tss_protocol.specs.Names.{bank_of}
-use Rattle.tss_protocol.specs.Mail.{Mail, posted_all}
-use Rattle.tss_protocol.specs.State.{State, CopyState}
-use Rattle.tss_protocol.specs.Buffers.{buffer_bytes, home_after_copy, is_last_piece, copies_after_copy, sent_by_copy}
+use Rattle.tss_protocol.specs.Mail.{posted_all}
+use Rattle.tss_protocol.specs.State.{CopyState}
+use Rattle.tss_protocol.specs.Buffers.{buffer_bytes, home_after_copy, copies_after_copy, sent_by_copy}
 use Rattle.tss_protocol.specs.Counts.{message_limit}
 use Rattle.tss_protocol.specs.UnitMachine.{is_enabled, after_event, after_copy}
 use Rattle.tss_renaming.specs.Bank.{RenamingState, tables_of}
 use Rattle.tss_versions.specs.Known.{versions_of}
-use Rattle.tss_buffers.specs.Contents.{BuffersState, HasBuffer, seat}
+use Rattle.tss_buffers.specs.Contents.{HasBuffer, seat}
 use Rattle.tss_buffers.specs.declared.copying.Copying.{Copying}
 use Rattle.tss_buffers.specs.Copies.{copy_of, next_len, is_last, copying_after}
 use Rattle.tss_mail.specs.Letters.{MailState, mail_of}
@@ -42,12 +39,12 @@ use Rattle.tss_pipeline.specs.declared.bank.Piece.{Piece}
 use Rattle.tss_pipeline.specs.declared.units.Units.{Units}
 use Rattle.tss_pipeline.specs.State.{state_of, job_copy, bank_copy, copies_from, bank_tables, bank_versions, contents_of, contents_in}
 use Rattle.tss_pipeline.specs.Does.{May}
-use Rattle.tss_pipeline.specs.Fit.{IsFit, Ground, ground_of, ArePlaced, HoldsOwn, HoldsJob, HoldsGone, HoldsBuffer, HoldsPlace, IsEngaged, IsSized, AreBanks}
+use Rattle.tss_pipeline.specs.Fit.{IsFit, ground_of, ArePlaced, HoldsOwn, HoldsJob, HoldsGone, HoldsBuffer, IsEngaged, IsSized, AreBanks}
 use Rattle.tss_pipeline.specs.Pieces.{PieceOf, IsPieceOf, CopiesWithin, gone_with, gone_after, job_after, gone_messages, gones_with}
 use Rattle.tss_pipeline.proofs.BankChanges.{copies_set, tables_kept, versions_kept, versions_set, contents_kept, banks_set, slice_get-set}
 use Rattle.tss_pipeline.proofs.Placing.{placed_beside, placed_gone}
 use Rattle.tss_pipeline.proofs.CopyLemmas.{copy_here, no_copy_here, at_place}
-use Rattle.tss_pipeline.proofs.BufferSeats.{bank_exists, contents_there}
+use Rattle.tss_pipeline.proofs.BufferSeats.{contents_there}
 use Rattle.tss_pipeline.proofs.SeatedTasks.{ranges_are}
 
 -- ---- which bank copies

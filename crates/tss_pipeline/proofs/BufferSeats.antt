@@ -1,16 +1,15 @@
 -- The names of the banks' buffers with their places among all buffers, and the contents under the one and the other.
-use Rattle.std.proofs.Common.{◌≡◌, ◌≢◌, ℕ, zero, suc, ◌<◌, List, [], ◌∷◌, length, map, slice_get, Option, Some, None, option_map, option_and_then, refl, sym, ap, ◌∙◌, subst, inl, inr, ◌⊎◌, arith}
-use Rattle.std.specs.FinMap.{FinMap, get, empty, get-empty}
+use Rattle.std.proofs.Common.{◌≡◌, ℕ, zero, suc, ◌<◌, List, [], ◌∷◌, length, map, slice_get, Option, Some, None, option_map, option_and_then, refl, sym, ap, ◌∙◌, subst, inl, inr, ◌⊎◌, arith}
+use Rattle.std.specs.FinMap.{get, empty, get-empty}
 use Rattle.std.proofs.lemmas.Option.{none-some, same_Some, get_or_from_slice_get}
 use Rattle.tss_base.specs.declared.operand.OpName.{OpName}
 use Rattle.tss_base.specs.Names.{name_cmp, Named}
-use Rattle.tss_maps.proofs.Keys.{nat_order, name_order, decide_key}
+use Rattle.tss_maps.proofs.Keys.{name_order}
 use Rattle.tss_maps.proofs.Changes.{decide_get, same_by_get}
-use Rattle.tss_banks.specs.Joined.{bank, joined, IsInNoOther}
+use Rattle.tss_banks.specs.Joined.{bank, IsInNoOther}
 use Rattle.tss_banks.specs.Tables.{joined_tables}
 use Rattle.tss_banks.proofs.CollectedLemmas.{get-collected}
 use Rattle.tss_banks.proofs.JoinedLemmas.{get-joined, joined_somewhere}
-use Rattle.tss_protocol.specs.State.{State}
 use Rattle.tss_buffers.specs.Contents.{BuffersState, seat}
 use Rattle.tss_workers.specs.Agreement.{Agree}
 use Rattle.tss_conditions.proofs.Filling.{held_banks}

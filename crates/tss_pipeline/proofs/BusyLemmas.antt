@@ -1,6 +1,5 @@
 -- What is known of a busy worker of the units.
-use Rattle.std.proofs.Common.{◌≡◌, ℕ, zero, suc, ◌<◌, ◌≤◌, Bool, true, false, true≢false, List, [], ◌∷◌, length, take, map, Option, Some, None, option_map, refl, sym, ap, ◌∙◌, subst, inl, inr, arith}
-use Rattle.std.specs.Prelude.{not}
+use Rattle.std.proofs.Common.{◌≡◌, ℕ, zero, suc, ◌<◌, ◌≤◌, Bool, true, false, true≢false, List, [], ◌∷◌, length, take, Option, Some, None, option_map, refl, sym, ap, ◌∙◌, subst, arith}
 use Rattle.std.specs.FinMap.{get, remove}
 use Rattle.std.proofs.lemmas.Option.{none-some, same_Some}
 use Rattle.std.proofs.lemmas.List.{length-map}
@@ -8,8 +7,7 @@ use Rattle.tss_base.specs.declared.bounds.TheConstants.{MAX_OPERANDS}
 use Rattle.tss_base.specs.declared.machine.Machine.{Machine}
 use Rattle.tss_base.specs.declared.machine.Key.TheVariants as key
 use Rattle.tss_base.specs.declared.event.Event.TheVariants as event
-use Rattle.tss_base.specs.Names.{Named, Numbered}
-use Rattle.tss_maps.proofs.Changes.{decide_get}
+use Rattle.tss_base.specs.Names.{Numbered}
 use Rattle.tss_maps.proofs.MappedLemmas.{get-mapped}
 use Rattle.tss_protocol.specs.Mail.{Mail, posted_all}
 use Rattle.tss_protocol.specs.State.{State, Busy, Flying, HeldTrap}
@@ -22,8 +20,8 @@ use Rattle.tss_stations.specs.Views.{state_of, flying_of, flight_of}
 use Rattle.tss_mail.specs.Letters.{mail_of}
 use Rattle.tss_workers.specs.declared.running.Worker.{Worker}
 use Rattle.tss_workers.specs.declared.workers.Finished.{Finished}
-use Rattle.tss_workers.specs.Seen.{busy_of, workers_of}
-use Rattle.tss_conditions.specs.Posting.{MayPostAll, MayPost, finish_sends, ArePostable}
+use Rattle.tss_workers.specs.Seen.{busy_of}
+use Rattle.tss_conditions.specs.Posting.{MayPostAll, finish_sends}
 use Rattle.tss_conditions.specs.Running.{IsRunning}
 use Rattle.tss_conditions.proofs.Running.{is_running}
 use Rattle.tss_conditions.proofs.Posting.{may_post}

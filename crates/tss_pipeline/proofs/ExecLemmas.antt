@@ -1,10 +1,8 @@
 -- A stretch of a busy worker over storages by places is that of the definitions over names.
-use Rattle.std.proofs.Common.{◌≡◌, ℕ, ◌<◌, List, length, take, map, slice_get, Option, Some, None, option_map, refl, sym, ap, ◌∙◌, subst, inl, inr}
+use Rattle.std.proofs.Common.{◌≡◌, ℕ, take, Some, refl, sym, ap, ◌∙◌, subst, inl, inr}
 use Rattle.std.specs.FinMap.{get, insert}
 use Rattle.std.proofs.lemmas.List.{length-map}
-use Rattle.tss_base.specs.declared.operand.OpName.{OpName}
 use Rattle.tss_base.specs.declared.event.Event.TheVariants as event
-use Rattle.tss_base.specs.Names.{Named, Numbered}
 use Rattle.tss_maps.proofs.Keys.{nat_order}
 use Rattle.tss_maps.proofs.Changes.{from_inserted}
 use Rattle.tss_maps.proofs.MappedLemmas.{mapped-insert}
@@ -12,7 +10,6 @@ use Rattle.tss_model.specs.Memory.{Memory}
 use Rattle.tss_model.specs.Access.{operands_of}
 use Rattle.tss_model.specs.TaskRun.{TaskState}
 use Rattle.tss_events.specs.Events.{storage_name}
-use Rattle.tss_protocol.specs.State.{State, Busy}
 use Rattle.tss_protocol.specs.Workers.{Stores, exec_stretch, busy_after}
 use Rattle.tss_protocol.specs.UnitMachine as machine
 use Rattle.tss_protocol.specs.UnitMachine.{after_event, after_exec, with_executed}
@@ -20,7 +17,7 @@ use Rattle.tss_buffers.specs.Contents.{BuffersState}
 use Rattle.tss_workers.specs.declared.running.Worker.{Worker}
 use Rattle.tss_workers.specs.Seats.{seats_of}
 use Rattle.tss_workers.specs.Spots.{stores_of}
-use Rattle.tss_workers.specs.Seen.{WorkersState, busy_of, seated_of, workers_of, CanGoOn, Executes, ExecutesBy, worker_after}
+use Rattle.tss_workers.specs.Seen.{WorkersState, busy_of, seated_of, workers_of, CanGoOn, ExecutesBy, worker_after}
 use Rattle.tss_workers.specs.Agreement.{Agree, StandFor, TasksAgree}
 use Rattle.tss_workers.proofs.AgreementLemmas.{exec_agrees}
 use Rattle.tss_conditions.specs.Reached.{Reached}

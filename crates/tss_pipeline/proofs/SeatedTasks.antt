@@ -1,6 +1,6 @@
 -- A task that may run over storages by names may run over the same storages by places.
-use Rattle.std.proofs.Common.{◌≡◌, ◌≢◌, ℕ, zero, suc, ◌<◌, ◌≤◌, List, [], ◌∷◌, length, take, map, slice_get, Option, Some, None, refl, sym, ap, ◌∙◌, subst, arith}
-use Rattle.std.specs.Prelude.{IsSome, ◌%◌, ◌/◌}
+use Rattle.std.proofs.Common.{◌≡◌, ℕ, zero, suc, ◌<◌, ◌≤◌, List, [], ◌∷◌, length, take, map, slice_get, Option, Some, None, refl, sym, ap, ◌∙◌, subst, arith}
+use Rattle.std.specs.Prelude.{IsSome}
 use Rattle.std.specs.FinMap.{get}
 use Rattle.std.proofs.lemmas.Option.{none-some, same_Some, slice_get_within}
 use Rattle.tss_base.specs.declared.machine.Key.TheVariants as key
@@ -13,12 +13,11 @@ use Rattle.tss_base.specs.declared.operand.Task.{Task}
 use Rattle.tss_base.specs.Range.{meets}
 use Rattle.tss_model.specs.Access.{operands_of}
 use Rattle.tss_memory.specs.Ranges.{AreRanges}
-use Rattle.tss_steps.specs.Placing.{IsGround}
 use Rattle.tss_events.specs.Events.{storage_name}
 use Rattle.tss_protocol.specs.Names.{bank_of}
 use Rattle.tss_protocol.specs.Mail.{StorageName, Home, Buffer}
 use Rattle.tss_protocol.specs.Workers.{Placed, placed_in}
-use Rattle.tss_buffers.specs.Contents.{BuffersState, seat}
+use Rattle.tss_buffers.specs.Contents.{seat}
 use Rattle.tss_workers.specs.Seats.{bank_in, seat_in, seats_in, seats_of, placed_by, AreApart, AreSeated, AreSet}
 use Rattle.tss_workers.specs.Seen.{CanWork}
 use Rattle.tss_workers.specs.Agreement.{StandsFor, StandFor}

@@ -10,11 +10,10 @@ use Rattle.tss_base.specs.declared.machine.Key.TheVariants as key
 use Rattle.tss_base.specs.declared.operand.OpName.{OpName}
 use Rattle.tss_base.specs.declared.operand.Operand.{Operand}
 use Rattle.tss_base.specs.declared.operand.Storage.{Storage}
-use Rattle.tss_base.specs.declared.operand.Storage.TheVariants as storage
 use Rattle.tss_base.specs.declared.operand.Task.{Task}
 use Rattle.tss_base.specs.declared.marks.Stage.{Stage}
 use Rattle.tss_base.specs.declared.event.Event.TheVariants as event
-use Rattle.tss_base.specs.Names.{Named, Numbered}
+use Rattle.tss_base.specs.Names.{Numbered}
 use Rattle.tss_maps.proofs.Keys.{nat_order}
 use Rattle.tss_maps.proofs.Changes.{from_inserted}
 use Rattle.tss_maps.proofs.MappedLemmas.{get-mapped, mapped-insert}
@@ -22,8 +21,8 @@ use Rattle.tss_model.specs.Memory.{Memory}
 use Rattle.tss_model.specs.Access.{operands_of}
 use Rattle.tss_events.specs.Events.{storage_name, source_of}
 use Rattle.tss_protocol.specs.Names.{bank_of, operand_name}
-use Rattle.tss_protocol.specs.Mail.{StorageName, Source, Buffer}
-use Rattle.tss_protocol.specs.State.{State, Busy, Flying, OperandState}
+use Rattle.tss_protocol.specs.Mail.{Source}
+use Rattle.tss_protocol.specs.State.{Flying, OperandState}
 use Rattle.tss_protocol.specs.Stations as stations
 use Rattle.tss_protocol.specs.Stations.{flight_after_start}
 use Rattle.tss_protocol.specs.Workers as cores
@@ -47,12 +46,11 @@ use Rattle.tss_conditions.specs.Running.{IsStartable, MayRunOver}
 use Rattle.tss_conditions.proofs.Known.{reached_after}
 use Rattle.tss_conditions.proofs.Running.{may_start, beside_in}
 use Rattle.tss_conditions.proofs.Filling.{contents_whole}
-use Rattle.tss_pipeline.specs.declared.bank.Bank.{Bank}
 use Rattle.tss_pipeline.specs.declared.units.Units.{Units}
 use Rattle.tss_pipeline.specs.State.{state_of, contents_of}
 use Rattle.tss_pipeline.specs.Does.{May}
 use Rattle.tss_pipeline.specs.Fit.{IsFit, ground_of, HoldsStorage, HoldsStorages}
-use Rattle.tss_pipeline.specs.Beginning.{told_name, IsHeldFor, AreHeldFor, IsStored, IsStoredAt}
+use Rattle.tss_pipeline.specs.Beginning.{told_name, AreHeldFor, IsStored, IsStoredAt}
 use Rattle.tss_pipeline.proofs.BankChanges.{slice_get-map}
 use Rattle.tss_pipeline.proofs.Lookups.{buffer_here}
 use Rattle.tss_pipeline.proofs.BufferSeats.{place_of, contents_agree, contents_back}

@@ -1,5 +1,5 @@
 -- A bank copies where it has a job.
-use Rattle.std.proofs.Common.{◌≡◌, ◌∙◌, sym, ap, length, slice_get, Option, Some, None}
+use Rattle.std.proofs.Common.{◌∙◌, sym, ap, length, slice_get}
 use Rattle.std.specs.FinMap.{get}
 use Rattle.std.specs.Prelude.{is_some}
 use Rattle.tss_protocol.specs.UnitMachine.{is_enabled}

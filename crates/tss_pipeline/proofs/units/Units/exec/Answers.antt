@@ -1,5 +1,5 @@
 -- A worker's task goes a stretch further.
-use Rattle.std.proofs.Common.{◌≡◌, refl, sym, ap, ◌∙◌, subst, Option, Some, option_map}
+use Rattle.std.proofs.Common.{refl, sym, ap, ◌∙◌, subst, option_map}
 use Rattle.std.specs.FinMap.{get}
 use Rattle.tss_base.specs.declared.event.Event.TheVariants as event
 use Rattle.tss_protocol.specs.Workers.{can_exec}

@@ -1,6 +1,5 @@
 -- The front task of the queue runs on an idle worker.
-use Rattle.std.proofs.Common.{◌≡◌, ℕ, ◌≤◌, length, refl, sym, ap, ◌∙◌, subst, Option, Some, None, arith, ◌<◌}
-use Rattle.std.specs.Prelude.{IsSome}
+use Rattle.std.proofs.Common.{◌≤◌, length, refl, ap, ◌∙◌, subst, arith, ◌<◌}
 use Rattle.std.specs.FinMap.{get}
 use Rattle.tss_base.specs.declared.event.Event.TheVariants as event
 use Rattle.tss_stations.specs.Views.{flight_of}

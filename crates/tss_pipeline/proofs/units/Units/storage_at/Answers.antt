@@ -1,7 +1,6 @@
 -- The storage is that of the operand.
-use Rattle.std.proofs.Common.{◌≡◌, ℕ, ◌<◌, length, get_or, slice_get, Option, Some, None, refl, sym, ap, ◌∙◌, subst, arith}
-use Rattle.std.proofs.lemmas.Option.{same_Some, none-some}
-use Rattle.tss_base.specs.declared.operand.Operand.{Operand}
+use Rattle.std.proofs.Common.{◌≡◌, ◌<◌, length, get_or, Some, sym, ◌∙◌, subst, arith}
+use Rattle.std.proofs.lemmas.Option.{same_Some}
 use Rattle.tss_base.specs.declared.operand.Mode.TheVariants as mode
 use Rattle.tss_stations.specs.declared.operand_view.OperandView.{OperandView}
 use Rattle.tss_pipeline.specs.Beginning.{IsStored}

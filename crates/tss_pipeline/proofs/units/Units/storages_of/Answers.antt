@@ -1,8 +1,6 @@
 -- One operand's storage more.
-use Rattle.std.proofs.Common.{◌≡◌, ◌≢◌, ℕ, ◌+◌, ◌<◌, length, set, slice_get, Option, Some, None, refl, sym, ap, ◌∙◌, subst, arith, inl, inr}
+use Rattle.std.proofs.Common.{◌<◌, length, set, slice_get, refl, sym, ◌∙◌, subst, arith, inl, inr}
 use Rattle.std.proofs.lemmas.List.{length-set}
-use Rattle.tss_base.specs.declared.operand.Storage.{Storage}
-use Rattle.tss_base.specs.declared.operand.Storage.TheVariants as storage
 use Rattle.tss_pipeline.specs.Fit.{ground_of}
 use Rattle.tss_pipeline.specs.Beginning.{IsStoredAt}
 use Rattle.tss_pipeline.proofs.StorageLemmas.{last_or_before, written_place, written_beside}
