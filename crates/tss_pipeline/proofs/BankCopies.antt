@@ -152,11 +152,12 @@ module _ (u : Units) (fit : IsFit u) (n : ℕ) (may : May (event.Copy n) u) wher
   -- the bank has the buffer
   pub buffer_place : HasBuffer u.buffers n copies.copy.buffer.place
   buffer_place =
-      let sized = fit.sized.banks.each n copies.bank copies.there in
-      (subst (λ m. n < m) (sym fit.sized.buffer_banks) law.number,
-      subst (λ m. copies.copy.buffer.place < m) (ap (λ s. s.buffers) sized.sizes ∙ sym fit.sized.buffers)
-      ((fit.placed.own n copies.bank copies.there).apart.buffer_within copies.job.buffer copies.copy.buffer.place
-      holds.buffer.place))
+      let sized = fit.sized.banks.each n copies.bank copies.there in (
+        subst (λ m. n < m) (sym fit.sized.buffer_banks) law.number,
+        subst (λ m. copies.copy.buffer.place < m) (ap (λ s. s.buffers) sized.sizes ∙ sym fit.sized.buffers)
+            ((fit.placed.own n copies.bank copies.there).apart.buffer_within copies.job.buffer copies.copy.buffer.place
+            holds.buffer.place),
+      )
 
   -- the piece is one of its bytes
   pub piece_there : copies.copy.moved + next_len copies.copy ≤ u.buffers.object_bytes
@@ -239,11 +240,11 @@ module _ (u : Units) (fit : IsFit u) (n : ℕ) (may : May (event.Copy n) u) wher
         let tables = tables_kept u.banks.items n copies.bank new copies.there (ap tables_of renaming_same) in
         let versions = versions_kept u.banks.items n copies.bank new copies.there (ap (λ v. versions_of v.versions) versions_same) in
         let contents = contents_kept u.banks.items n copies.bank new copies.there u.buffers
-            (ap (λ (b : Bank). contents_in u.buffers b) left) in
+        (ap (λ (b : Bank). contents_in u.buffers b) left) in
         let home =
-            s
-            ∙ ap (λ (r : Range). put_bytes u.space (r.base + copies.copy.moved) (take (next_len copies.copy) (drop copies.copy.moved bytes))) holds.object
-            ∙ ap (home_after_copy u.space (copy_of copies.job.version copies.job.buffer copies.copy)) (sym (bytes_are bytes h)) in
+        s
+        ∙ ap (λ (r : Range). put_bytes u.space (r.base + copies.copy.moved) (take (next_len copies.copy) (drop copies.copy.moved bytes))) holds.object
+        ∙ ap (home_after_copy u.space (copy_of copies.job.version copies.job.buffer copies.copy)) (sym (bytes_are bytes h)) in
         let sent = m ∙ ap (posted_all (mail_of u.mail)) (sent_after copies.copy copies.job (is_last copies.copy) holds.object) in
         (λ i. record (state_of u) {
           home = home i;
@@ -294,7 +295,7 @@ module _ (u : Units) (fit : IsFit u) (n : ℕ) (may : May (event.Copy n) u) wher
     gone_holds b at =
         let here = ap (bank_of u.machine.sizes) holds.object ∙ law.bank in
         let is = same_Some new b (sym (slice_get-set u.banks.items n copies.bank new copies.there)
-            ∙ ap (slice_get (set u.banks.items n new)) (sym here) ∙ at) in
+        ∙ ap (slice_get (set u.banks.items n new)) (sym here) ∙ at) in
         subst (λ r. HoldsGone r (gone_with copies.job copies.copy.buffer)) (sym renaming_same ∙ ap (λ (b : Bank). b.renaming) is)
         (record {
           place = holds.place;

@@ -133,6 +133,6 @@ module _ (u : Units) (fit : IsFit u) (w : ℕ) (x : Worker) (there : get u.worke
     pub left_holds : (v : ℕ) (y : Worker) → get new.entries v ≡ Some y → HoldsStorages (ground_of u) y
     left_holds v y at = elim (from_inserted nat_order u.workers.entries w e.left v y
         (ap (λ (t : WorkersState). get t.entries v) (sym e.workers) ∙ at)) [
-      | inl is ↦ subst (HoldsStorages (ground_of u)) (sym left_is ∙ sym is.1) (fit.placed.workers w x there)
-      | inr old ↦ fit.placed.workers v y old.1
-    ]
+          | inl is ↦ subst (HoldsStorages (ground_of u)) (sym left_is ∙ sym is.1) (fit.placed.workers w x there)
+          | inr old ↦ fit.placed.workers v y old.1
+        ]

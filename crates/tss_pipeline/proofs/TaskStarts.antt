@@ -236,7 +236,7 @@ module _ (u : Units) (fit : IsFit u) (w : ℕ) (may : May (event.Start w) u) whe
             let within = slice_get_within (operands_of task) k o.0 o.1 in
             let s = stored k o.0 o.1 in
             let mine = slice_get-map storage_name (take task.count ss) k s.storage
-                (taken_get task.count ss k (subst (λ n. k < n) may_run.proper.count within) ∙ s.there) in
+            (taken_get task.count ss k (subst (λ n. k < n) may_run.proper.count within) ∙ s.there) in
             let its = name_told k (viewed k o.0 o.1).0 (viewed k o.0 o.1).1 in
             same_Some x (storage_name s.storage) (sym here ∙ mine)
             ∙ s.name
@@ -314,9 +314,9 @@ module _ (u : Units) (fit : IsFit u) (w : ℕ) (may : May (event.Start w) u) whe
               let queued = q ∙ ap (drop 1) queue_is in
               let flies = f ∙ ap (started_by (flight_of u.stations.slots) number) startable.there in
               let busy =
-                  ap (λ (t : WorkersState). workers_of t.entries) b
-                  ∙ mapped-insert nat_order busy_of u.workers.entries w (new_worker task ss)
-                  ∙ ap (insert (workers_of u.workers.entries) w) busy_is in
+              ap (λ (t : WorkersState). workers_of t.entries) b
+              ∙ mapped-insert nat_order busy_of u.workers.entries w (new_worker task ss)
+              ∙ ap (insert (workers_of u.workers.entries) w) busy_is in
               let home = ap (λ (s : Stores). s.home) stores_are ∙ agree.home in
               (λ i. record (state_of u) {
                 queue = queued i;

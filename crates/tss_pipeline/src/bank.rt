@@ -2,8 +2,8 @@
 ghost use Rattle.std.specs.Prelude.{◌≡◌, IsSome, None, Some, option_map};
 ghost use Rattle.tss_pipeline.specs.Pieces.{CopiesWithin, IsPieceOf, gone_with};
 
-use tss_base::{OpName, Range, Storage};
 use std::mem;
+use tss_base::{OpName, Range, Storage};
 use tss_buffers::{CopyEngine, Moved};
 use tss_events::{Gone, HeldBuffer};
 use tss_renaming::Renaming;
@@ -120,12 +120,14 @@ impl Bank {
         ensures left { self.new ≡ record self.old { job = None } }
     {
         match self.job.take() {
-            Some(Job {
-                version,
-                object,
-                place,
-                buffer,
-            }) => Gone {
+            Some(
+                Job {
+                    version,
+                    object,
+                    place,
+                    buffer,
+                },
+            ) => Gone {
                 version,
                 object,
                 place,

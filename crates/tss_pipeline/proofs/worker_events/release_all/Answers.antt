@@ -73,7 +73,7 @@ returns-clause-posted c =
     let flight = flight_of c.args.stations.now.slots in
     let past = c.loop-place-test.false in
     let none = past_releases c.args.task flight c.loop-place.place
-        (λ x at. let few = c.requires.few x at in omega (arith, few, past)) in
+    (λ x at. let few = c.requires.few x at in omega (arith, few, past)) in
     ap (posted_all (mail_of c.loop-place.mail)) (sym none) ∙ c.loop-place.invariant.posted
 
 pub returns-clause-rest : goal.returns-clause-rest

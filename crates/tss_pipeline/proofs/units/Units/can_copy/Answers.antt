@@ -13,7 +13,7 @@ returns-in-Some c =
     let u = c.args.self.now in
     let bank = c.in-Some.bank.now in
     let found = at_place c.deref.result.now c.args.b bank (test_less c.args.b (length c.deref.result.now) c.in-Some.ensures.lookup.0)
-        c.in-Some.ensures.lookup.1 in
+    c.in-Some.ensures.lookup.1 in
     let there = ap (λ bs. slice_get bs c.args.b) (sym c.deref.ensures.value) ∙ found in
     c.is_some.ensures
     ∙ job_there bank.renaming bank.engine bank.job (c.requires.placed.own c.args.b bank there).engine

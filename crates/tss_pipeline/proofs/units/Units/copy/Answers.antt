@@ -35,7 +35,7 @@ bytes-bytes-requires c =
     let u = c.args.self.now in
     let x = copies u c.requires.fit c.args.b c.requires.may in
     let piece = piece_of_bank u.banks.items c.args.b x c.index_mut.result.now c.next_piece-place.new.self c.next_piece-place.result
-        c.index_mut.ensures.value c.next_piece-place.ensures in
+    c.index_mut.ensures.value c.next_piece-place.ensures in
     subst (HasBuffer u.buffers c.args.b) (sym piece.place) (buffer_place u c.requires.fit c.args.b c.requires.may)
 
 pub copy_part-requires-clause-there : goal.copy_part-requires-clause-there
@@ -43,7 +43,7 @@ copy_part-requires-clause-there c =
     let u = c.args.self.now in
     let x = copies u c.requires.fit c.args.b c.requires.may in
     let piece = piece_of_bank u.banks.items c.args.b x c.index_mut.result.now c.next_piece-place.new.self c.next_piece-place.result
-        c.index_mut.ensures.value c.next_piece-place.ensures in
+    c.index_mut.ensures.value c.next_piece-place.ensures in
     let there = piece_there u c.requires.fit c.args.b c.requires.may in
     let from = piece.from in
     let many = piece.len in
@@ -55,7 +55,7 @@ copy_part-requires-clause-within c =
     let u = c.args.self.now in
     let x = copies u c.requires.fit c.args.b c.requires.may in
     let piece = piece_of_bank u.banks.items c.args.b x c.index_mut.result.now c.next_piece-place.new.self c.next_piece-place.result
-        c.index_mut.ensures.value c.next_piece-place.ensures in
+    c.index_mut.ensures.value c.next_piece-place.ensures in
     subst (λ (p : ℕ × ℕ). CanWrite u.space.ranges p.0 p.1) (λ i. (sym piece.to i, sym piece.len i))
     (can_write u c.requires.fit c.args.b c.requires.may)
 
@@ -64,7 +64,7 @@ post_gone-requires c =
     let u = c.args.self.now in
     let x = copies u c.requires.fit c.args.b c.requires.may in
     let piece = piece_of_bank u.banks.items c.args.b x c.index_mut.result.now c.next_piece-place.new.self c.next_piece-place.result
-        c.index_mut.ensures.value c.next_piece-place.ensures in
+    c.index_mut.ensures.value c.next_piece-place.ensures in
     subst (λ g. MayPostAll u.mail.size (mail_of u.mail) (gone_messages g)) (sym piece.gone)
     (may_send u c.requires.fit c.args.b c.requires.may)
 

@@ -34,7 +34,7 @@ returns c =
     let sized = fit.sized in
     let x = exec_worker u fit w c.requires.may in
     let e = subst (λ o. ExecutesIn w u.code u.machine.limits.task_budget u.machine.sizes.quantum u.workers c.exec.new.self o
-        u.space c.exec.new.space u.buffers c.exec.new.buffers) x.1 c.in-Ok.ensures.exact in
+    u.space c.exec.new.space u.buffers c.exec.new.buffers) x.1 c.in-Ok.ensures.exact in
     let sizes = e.executes.sizes in
     does (event.Exec w) u _ fit c.requires.may refl
     (executed_state u fit w x.0 x.1 c.requires.may c.exec.new.self c.exec.new.space c.exec.new.buffers e)

@@ -58,11 +58,11 @@ returns c =
     let flight = c.finish-2.ensures.flight ∙ ap (λ (f : Finished). (flight_after_finish S.flight f.task).part) (sym is) in
     let workers = ap (λ t. workers_of t.entries) idle ∙ mapped-remove nat_order busy_of u.workers.entries w in
     let mail = c.release_all.ensures.posted
-        ∙ ap (λ (f : Finished). posted_all S.mail (flight_after_finish S.flight f.task).sent) (sym is) in
+    ∙ ap (λ (f : Finished). posted_all S.mail (flight_after_finish S.flight f.task).sent) (sym is) in
     let trap = c.hold.ensures ∙ ap (λ (f : Finished). trap_after_finish S.trap f.task f.trap) (sym is) in
     let state = finished_state u.machine S w (busy_of x.0) (busy_there u c.requires.fit w x.0 x.1)
-        (flight_of c.finish-2.new.self.slots) (workers_of c.finish.new.self.entries) (mail_of c.release_all.new.mail)
-        (option_map held_trap c.hold.new.held) flight workers mail trap in
+    (flight_of c.finish-2.new.self.slots) (workers_of c.finish.new.self.entries) (mail_of c.release_all.new.mail)
+    (option_map held_trap c.hold.new.held) flight workers mail trap in
     does (event.Finish w) u _ c.requires.fit c.requires.may refl state
     (record {
       limits = sized.limits;
