@@ -87,6 +87,7 @@ module _ (g : Ground) (placed : ArePlaced g) (n : ℕ) (b own : Bank) (there : s
           gones = λ v x e f. subst (λ r. HoldsGone r x) (sym renaming) ((placed.letters n b there).gones v x e f);
           line = ap (λ r. r.line) renaming ∙ (placed.letters n b there).line;
         });
+    names = placed.names;
     workers = λ w x at.
         storages_by g (record g { banks = set g.banks n own }) x refl same_buffers (placed.workers w x at);
   }
@@ -106,6 +107,10 @@ placed_fewer g opens gones decodes placed fewer_opens fewer_gones lines = record
   letters = λ n b at.
       letters_fewer g (record g { opens = opens; gones = gones; decodes = decodes }) n b refl fewer_opens fewer_gones
       (lines n) (placed.letters n b at);
+  names = record {
+    opening = λ o x e. placed.names.opening o x (fewer_opens o x e);
+    going = λ v x e. placed.names.going v x (fewer_gones v x e);
+  };
   workers = λ w x at.
       storages_by g (record g { opens = opens; gones = gones; decodes = decodes }) x refl (λ n b e. (b, e, refl))
       (placed.workers w x at);
@@ -131,6 +136,13 @@ placed_opening g m placed holds = record {
     gones = (placed.letters n b at).gones;
     line = (placed.letters n b at).line;
   };
+  names = record {
+    opening = λ o x e. elim (from_inserted name_order g.opens m.o m o x e) [
+      | inl new ↦ ap (λ (x : Opening). x.o) new.1 ∙ sym new.0
+      | inr old ↦ placed.names.opening o x old.1
+    ];
+    going = placed.names.going;
+  };
   workers = λ w x at.
       storages_by g (record g { opens = insert g.opens m.o m }) x refl (λ n b e. (b, e, refl)) (placed.workers w x at);
 }
@@ -155,6 +167,13 @@ placed_gone g m placed holds = record {
     ];
     line = (placed.letters n b at).line;
   };
+  names = record {
+    opening = placed.names.opening;
+    going = λ v x e. elim (from_inserted name_order g.gones m.version m v x e) [
+      | inl new ↦ ap (λ (x : Gone). x.version) new.1 ∙ sym new.0
+      | inr old ↦ placed.names.going v x old.1
+    ];
+  };
   workers = λ w x at.
       storages_by g (record g { gones = insert g.gones m.version m }) x refl (λ n b e. (b, e, refl))
       (placed.workers w x at);
@@ -171,6 +190,7 @@ placed_workers g workers placed holds = record {
   own = placed.own;
   letters = λ n b at.
       letters_fewer g (record g { workers = workers }) n b refl (λ o x e. e) (λ v x e. e) refl (placed.letters n b at);
+  names = placed.names;
   workers = λ w x at.
       storages_by g (record g { workers = workers }) x refl (λ n b e. (b, e, refl)) (holds w x at);
 }

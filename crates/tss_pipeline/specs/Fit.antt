@@ -161,12 +161,19 @@ abbrev pub HoldsStorages : Ground → Worker → Type 0
 HoldsStorages g x = (k : ℕ) (o : Operand) (s : Storage) → slice_get (operands_of x.task) k ≡ Some o
     → slice_get x.storages k ≡ Some s → HoldsStorage g o s
 
--- each record stands in its bank, and each token and place is what the bank holds under its name
+-- each message with tokens stands under its own name
+pub record AreNamed (opens : Named Opening) (gones : Named Gone) : Type 0 where
+  pub opening : (o : OpName) (x : Opening) → get opens o ≡ Some x → x.o ≡ o
+  pub going : (v : OpName) (x : Gone) → get gones v ≡ Some x → x.version ≡ v
+
+-- each record stands in its bank, each message with tokens under its own name, and each token and place is what the bank
+-- holds under its name
 pub record ArePlaced (g : Ground) : Type 0 where
   pub tables : AreBankTables g.sizes (bank_tables g.banks)
   pub versions : VersionsInBanks g.sizes (bank_versions g.banks)
   pub own : (n : ℕ) (b : Bank) → slice_get g.banks n ≡ Some b → HoldsOwn b
   pub letters : (n : ℕ) (b : Bank) → slice_get g.banks n ≡ Some b → HoldsLetters g n b
+  pub names : AreNamed g.opens g.gones
   pub workers : (w : ℕ) (x : Worker) → get g.workers w ≡ Some x → HoldsStorages g x
 
 -- ---- all of it

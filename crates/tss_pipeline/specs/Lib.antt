@@ -1,8 +1,15 @@
 pub mod Letters
 pub mod Seen
 pub mod State
+pub mod Lines
+pub mod Emptiness
 pub mod Fit
+pub mod Registering
 pub mod Does
+pub mod Opening
+pub mod Closing
+pub mod Enabling
 pub mod Ending
+pub mod Unsetting
 pub mod Beginning
 pub mod Pieces

@@ -1,6 +1,9 @@
 // A bank of the tables for renaming and versioning, with its copy engine.
 ghost use Rattle.std.specs.Prelude.{◌≡◌, IsSome, None, Some, option_map};
+ghost use Rattle.std.specs.FinMap as map;
+ghost use Rattle.tss_pipeline.specs.Registering.{is_home, CanBringHome, BringsHome};
 ghost use Rattle.tss_pipeline.specs.Pieces.{CopiesWithin, IsPieceOf, gone_with};
+ghost use Rattle.tss_pipeline.specs.Emptiness.{is_empty};
 
 use std::mem;
 use tss_base::{OpName, Range, Storage};
@@ -39,15 +42,24 @@ pub(crate) struct Bank {
 
 impl Bank {
     /// Whether a version lies at home.
-    pub(crate) fn is_home(&self, v: OpName) -> bool {
+    pub(crate) fn is_home(&self, v: OpName) -> bool
+        ensures { result ≡ is_home (map.get self.now.versions.versions v) }
+    {
         match self.versions.version(v) {
-            Some(version) => version.storage == Some(Storage::Home),
+            Some(version) => match version.storage {
+                Some(Storage::Home) => true,
+                Some(Storage::Buffer(_, _)) => false,
+                None => false,
+            },
             None => false,
         }
     }
 
     /// Begins to copy a version that has retired home, where its value lies in a buffer. Else it is gone at once.
-    pub(crate) fn bring_home(&mut self, gone: Gone) -> Option<Gone> {
+    pub(crate) fn bring_home(&mut self, gone: Gone) -> Option<Gone>
+        requires { CanBringHome self.old gone.buffer }
+        ensures { BringsHome self.old gone gone.buffer result self.new }
+    {
         let Gone {
             version,
             object,
@@ -142,7 +154,9 @@ impl Bank {
     }
 
     /// Whether nothing is in the bank.
-    pub(crate) fn is_empty(&self) -> bool {
+    pub(crate) fn is_empty(&self) -> bool
+        ensures { result ≡ is_empty self.now }
+    {
         self.renaming.entries() == 0
             && self.renaming.places() == 0
             && self.renaming.buffers() == 0
@@ -151,7 +165,11 @@ impl Bank {
     }
 
     /// Ends a bank with nothing in it.
-    pub(crate) fn close_empty(self) {
+    pub(crate) fn close_empty(self)
+        requires versions { self.versions.versions ≡ map.empty }
+        requires engine { self.engine ≡ None }
+        requires job { self.job ≡ None }
+    {
         let Bank {
             renaming,
             versions,

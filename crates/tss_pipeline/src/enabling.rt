@@ -1,4 +1,10 @@
 // The events that may happen, in order.
+ghost use Rattle.std.specs.Prelude.{◌≡◌, ◌<◌, Some, length, slice_get};
+ghost use Rattle.tss_protocol.specs.UnitMachine.{is_enabled, enabled_events};
+ghost use Rattle.tss_pipeline.specs.Enabling.{candidates_of, enabled_of_kind, enabled_of_kinds, is_always, is_free};
+ghost use Rattle.tss_pipeline.specs.Fit.{IsFit};
+ghost use Rattle.tss_pipeline.specs.State.{state_of};
+
 use crate::units::Units;
 use tss_base::Event;
 use tss_mail::Kind;
@@ -15,8 +21,11 @@ pub(crate) enum Source {
     Copy,
 }
 
+/// How many kinds there are.
+const KINDS: usize = 18;
+
 /// All kinds in order.
-const SOURCES: [Source; 18] = [
+const SOURCES: [Source; KINDS] = [
     Source::Main,
     Source::Take,
     Source::Letters(Kind::Decode),
@@ -37,29 +46,41 @@ const SOURCES: [Source; 18] = [
     Source::Letters(Kind::Gone),
 ];
 
+/// Whether a message of a kind may be taken wherever it is.
+fn is_always(kind: Kind) -> bool
+    ensures { result ≡ is_always kind }
+{
+    match kind {
+        Kind::Decode | Kind::Open | Kind::Use | Kind::Retire => false,
+        Kind::Ack
+        | Kind::Ready
+        | Kind::Link
+        | Kind::Release
+        | Kind::Bye
+        | Kind::Idle
+        | Kind::Nack
+        | Kind::Gone => true,
+    }
+}
+
 impl Source {
     /// Whether each candidate of the kind may happen: its message is there, and nothing more is asked.
-    fn is_free(self) -> bool {
+    fn is_free(self) -> bool
+        ensures { result ≡ is_free self }
+    {
         match self {
-            Source::Letters(kind) => match kind {
-                Kind::Decode | Kind::Open | Kind::Use | Kind::Retire => false,
-                Kind::Ack
-                | Kind::Ready
-                | Kind::Link
-                | Kind::Release
-                | Kind::Bye
-                | Kind::Idle
-                | Kind::Nack
-                | Kind::Gone => true,
-            },
-            _ => false,
+            Source::Letters(kind) => is_always(kind),
+            Source::Main | Source::Take | Source::Start | Source::Exec | Source::Finish | Source::Copy => false,
         }
     }
 }
 
 impl Units {
     /// How many candidates of a kind there are.
-    fn candidates(&self, source: Source) -> u32 {
+    fn candidates(&self, source: Source) -> u32
+        requires { IsFit self.now }
+        ensures { result ≡ length (candidates_of self.now.machine (state_of self.now) source) }
+    {
         match source {
             Source::Main | Source::Take => 1,
             Source::Letters(kind) => self.mail.count_of(kind),
@@ -68,8 +89,12 @@ impl Units {
         }
     }
 
-    /// The candidate at a place of a kind.
-    fn candidate(&self, source: Source, i: u32) -> Event {
+    /// The candidate at a place of a kind, from 0.
+    fn candidate(&self, source: Source, i: u32) -> Event
+        requires fit { IsFit self.now }
+        requires within { i < length (candidates_of self.now.machine (state_of self.now) source) }
+        ensures { slice_get (candidates_of self.now.machine (state_of self.now) source) i ≡ Some result }
+    {
         match source {
             Source::Main => Event::Main,
             Source::Take => Event::Take,
@@ -85,7 +110,10 @@ impl Units {
     }
 
     /// How many events of a kind may happen.
-    fn enabled_of(&self, source: Source) -> u32 {
+    fn enabled_of(&self, source: Source) -> u32
+        requires { IsFit self.now }
+        ensures { result ≡ length (enabled_of_kind self.now.machine (state_of self.now) source) }
+    {
         if source.is_free() {
             return self.candidates(source);
         }
@@ -99,7 +127,10 @@ impl Units {
     }
 
     /// The event at a place, from 0, of those of a kind that may happen.
-    fn enabled_in(&self, source: Source, place: u32) -> Option<Event> {
+    fn enabled_in(&self, source: Source, place: u32) -> Option<Event>
+        requires { IsFit self.now }
+        ensures { result ≡ slice_get (enabled_of_kind self.now.machine (state_of self.now) source) place }
+    {
         if source.is_free() {
             if place < self.candidates(source) {
                 return Some(self.candidate(source, place));
@@ -120,18 +151,25 @@ impl Units {
     }
 
     /// How many events may happen.
-    pub(crate) fn enabled_count(&self) -> u32 {
+    pub(crate) fn enabled_count(&self) -> u32
+        requires { IsFit self.now }
+        ensures { result ≡ length (enabled_events self.now.machine (state_of self.now)) }
+    {
         let mut count = 0;
-        for source in SOURCES {
-            count += self.enabled_of(source);
+        for kind in 0..KINDS {
+            count += self.enabled_of(SOURCES[kind]);
         }
         count
     }
 
     /// The event at a place, from 0, of those that may happen, in order.
-    pub(crate) fn enabled_at(&self, i: u32) -> Option<Event> {
+    pub(crate) fn enabled_at(&self, i: u32) -> Option<Event>
+        requires { IsFit self.now }
+        ensures { result ≡ slice_get (enabled_events self.now.machine (state_of self.now)) i }
+    {
         let mut left = i;
-        for source in SOURCES {
+        for kind in 0..KINDS {
+            let source = SOURCES[kind];
             let count = self.enabled_of(source);
             if left < count {
                 return self.enabled_in(source, left);

@@ -1,17 +1,65 @@
 // Main, the inbox and the gateway: main's event, take and ack.
-ghost use Rattle.std.specs.Prelude.{◌≡◌};
+ghost use Rattle.std.specs.Prelude.{◌≡◌, ◌+◌, ◌*◌, ◌<◌, ◌≤◌, None, length, ◌&&◌, is_none, option_map};
+ghost use Rattle.std.specs.FinMap as map;
+ghost use Rattle.tss_base.specs.declared.bounds.TheConstants.{MAX_OPERANDS};
+ghost use Rattle.tss_model.specs.MainStep.{awaited_object, call_of};
+ghost use Rattle.tss_protocol.specs.MainEvent.{is_at_home, may_await, may_call};
 ghost use Rattle.tss_base.specs.declared.event.Event.TheVariants as event;
+ghost use Rattle.tss_model.specs.Access.{operands_of};
+ghost use Rattle.tss_protocol.specs.Gateway.{sent_by_take};
+ghost use Rattle.tss_protocol.specs.Mail.{message_count, posted_all};
 ghost use Rattle.tss_protocol.specs.UnitMachine.{is_enabled};
+ghost use Rattle.tss_events.specs.declared.message.Message.TheVariants as message;
+ghost use Rattle.tss_mail.specs.Letters.{mail_of, with_letter};
+ghost use Rattle.tss_conditions.specs.Posting.{ArePostable};
 ghost use Rattle.tss_pipeline.specs.Does.{Does, May};
 ghost use Rattle.tss_pipeline.specs.Fit.{IsFit};
+ghost use Rattle.tss_pipeline.specs.Lines.{AwaitDecodes, lined};
 ghost use Rattle.tss_pipeline.specs.State.{state_of};
 
-use crate::step::NotEnabled;
+use crate::bank::Bank;
 use crate::letters::take_ack;
-use crate::units::Units;
+use crate::station_events::queue_where;
+use crate::units::{Units, bank_of};
 use tss_base::calls::{AWAIT, BARRIER, SPAWN};
-use tss_base::{Event, OpName, Range};
+use tss_base::{OpName, Operand, Range, Sizes, Task};
 use tss_events::Message;
+use tss_mail::Mail;
+
+/// An operand that is to be decoded comes into the line of its object's bank, and its decode is sent.
+fn expect_operand(sizes: &Sizes, banks: &mut [Bank], mail: &mut Mail, o: OpName, operand: Operand)
+    requires banks { AwaitDecodes sizes.now mail.old.decodes banks.old }
+    requires lines { map.len mail.old.decodes < sizes.now.window * MAX_OPERANDS }
+    requires fresh { map.get mail.old.decodes o ≡ None }
+    requires room { message_count (mail_of mail.old) < mail.old.size }
+    ensures lines { banks.new ≡ lined sizes.now mail.new.decodes 0 banks.old }
+    ensures mail { mail.new ≡ with_letter mail.old (message.Decode o operand) }
+{
+    let bank = bank_of(sizes, &operand.object);
+    banks[bank as usize].renaming.expect(o);
+    mail.post(Message::Decode(o, operand));
+}
+
+/// All operands of a task are to be decoded.
+fn expect_all(sizes: &Sizes, banks: &mut [Bank], mail: &mut Mail, task: &Task)
+    requires banks { AwaitDecodes sizes.now mail.old.decodes banks.old }
+    requires count { length (operands_of task.now) ≡ task.now.count }
+    requires lines { map.len mail.old.decodes + task.now.count ≤ sizes.now.window * MAX_OPERANDS }
+    requires fresh { ArePostable (mail_of mail.old) (sent_by_take task.now) }
+    requires room { message_count (mail_of mail.old) + task.now.count ≤ mail.old.size }
+    ensures lines { banks.new ≡ lined sizes.now mail.new.decodes 0 banks.old }
+    ensures mail { mail.new ≡ record mail.old { decodes = mail.new.decodes } }
+    ensures sent { mail_of mail.new ≡ posted_all (mail_of mail.old) (sent_by_take task.now) }
+{
+    let operands = &task.operands[..task.count as usize];
+    for place in 0..operands.len() {
+        let o = OpName {
+            task: task.number,
+            place: place as u32,
+        };
+        expect_operand(sizes, banks, mail, o, operands[place]);
+    }
+}
 
 impl Units {
     /// Whether main's event may happen: it hasn't ended, no trap is held, and its next call, if it is one, needn't wait.
@@ -19,14 +67,24 @@ impl Units {
         requires { IsFit self.now }
         ensures { result ≡ is_enabled self.now.machine (state_of self.now) event.Main }
     {
-        self.main.ending().is_none() && self.trap.is_none() && self.may_call(self.main.next_call(&self.code))
+        self.goes_on() && self.may_call(self.main.next_call(&self.code))
+    }
+
+    /// Whether main hasn't ended and no trap is held.
+    fn goes_on(&self) -> bool
+        ensures { result ≡ (is_none (state_of self.now).main.ending && is_none (state_of self.now).trap) }
+    {
+        self.main.ending().is_none() && self.trap.is_none()
     }
 
     /// Whether a call of this number needn't wait: a spawn waits for an empty inbox, a barrier for a drained state, and an
     /// await for its object.
-    fn may_call(&self, call: Option<u32>) -> bool {
+    fn may_call(&self, call: Option<u32>) -> bool
+        requires { IsFit self.now }
+        ensures { result ≡ may_call (state_of self.now) (option_map call_of call) }
+    {
         match call {
-            Some(SPAWN) => self.gateway.inbox().is_none(),
+            Some(SPAWN) => self.has_no_arrival(),
             Some(BARRIER) => self.is_drained(),
             Some(AWAIT) => self.may_await(),
             _ => true,
@@ -34,7 +92,10 @@ impl Units {
     }
 
     /// Whether the object that main awaits is at home, or there is none.
-    fn may_await(&self) -> bool {
+    fn may_await(&self) -> bool
+        requires { IsFit self.now }
+        ensures { result ≡ may_await (state_of self.now) (awaited_object self.now.main.main) }
+    {
         match self.main.awaited() {
             Some(object) => self.is_at_home(&object),
             None => true,
@@ -43,7 +104,10 @@ impl Units {
 
     /// Whether an object is at home: it has no entry, no operand of the inbox's task is on it, and none that is to be
     /// decoded.
-    fn is_at_home(&self, object: &Range) -> bool {
+    fn is_at_home(&self, object: &Range) -> bool
+        requires { IsFit self.now }
+        ensures { result ≡ is_at_home (state_of self.now) object.now }
+    {
         !self.has_entry(object) && !self.is_arriving(object) && !self.is_decoding(object)
     }
 
@@ -88,19 +152,8 @@ impl Units {
             unreachable!();
         };
         self.stations.enter(&task);
-        if task.count == 0 {
-            self.queue.push(task.number);
-        }
-        for place in 0..task.count {
-            let o = OpName {
-                task: task.number,
-                place,
-            };
-            let operand = task.operands[place as usize];
-            let bank = self.bank_of(&operand.object);
-            self.banks[bank as usize].renaming.expect(o);
-            self.mail.post(Message::Decode(o, operand));
-        }
+        queue_where(&mut self.queue, task.number, task.count == 0);
+        expect_all(&self.machine.sizes, &mut self.banks, &mut self.mail, &task);
     }
 
     /// An operand is acknowledged.

@@ -38,6 +38,7 @@ pub(crate) fn take_ack(mail: &mut Mail, o: OpName)
 pub(crate) fn take_open(mail: &mut Mail, o: OpName) -> Opening
     requires { IsSome (map.get mail.old.opens o) }
     ensures exact { map.get mail.old.opens o ≡ Some result }
+    ensures own { result.o ≡ o }
     ensures others { mail.new ≡ without_letter mail.old (event.Open o) }
     ensures taken { mail_of mail.new ≡ taken (mail_of mail.old) (event.Open o) }
 {
@@ -153,6 +154,7 @@ pub(crate) fn take_retire(mail: &mut Mail, v: OpName)
 pub(crate) fn take_gone(mail: &mut Mail, v: OpName) -> Gone
     requires { IsSome (map.get mail.old.gones v) }
     ensures exact { map.get mail.old.gones v ≡ Some result }
+    ensures named { result.version ≡ v }
     ensures others { mail.new ≡ without_letter mail.old (event.Gone v) }
     ensures taken { mail_of mail.new ≡ taken (mail_of mail.old) (event.Gone v) }
 {

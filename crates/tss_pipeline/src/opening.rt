@@ -1,4 +1,12 @@
 // Opening the units: all memory that the machine will use is taken here.
+ghost use Rattle.std.specs.Prelude.{◌≡◌, ◌<◌, ◌≤◌, IfOk, length};
+ghost use Rattle.std.specs.FinMap as map;
+ghost use Rattle.tss_base.specs.declared.bounds.TheConstants.{MAX_BANKS};
+ghost use Rattle.tss_base.specs.declared.machine.Key.TheVariants as key;
+ghost use Rattle.tss_base.specs.Machine.{IsAdmissible, IsInRange};
+ghost use Rattle.tss_protocol.specs.Counts.{message_limit};
+ghost use Rattle.tss_pipeline.specs.Opening.{empty_bank, AreEmpty, AreOpened};
+
 use crate::bank::Bank;
 use crate::units::Units;
 use std::alloc::Global;
@@ -15,14 +23,22 @@ use tss_workers::{ReadyQueue, Workers};
 
 /// How many messages there may be under way: a decode or an ack for each operand of a window of tasks, two for each operand
 /// in a slot, and one for each place of versions.
-fn message_limit(machine: &Machine) -> u32 {
+fn message_limit(machine: &Machine) -> u32
+    requires { IsAdmissible machine.now }
+    ensures { result ≡ message_limit machine.now }
+{
     let sizes = &machine.sizes;
     let operands = machine.limits.max_operands;
     sizes.window * operands + 2 * (sizes.stations * sizes.slots) * operands + sizes.banks * sizes.versions
 }
 
 /// A bank with nothing in it.
-fn open_bank(alloc: Global, bank: u32, sizes: &Sizes) -> Result<Bank, NoMemory> {
+fn open_bank(alloc: Global, bank: u32, sizes: &Sizes) -> Result<Bank, NoMemory>
+    requires bank { bank < MAX_BANKS }
+    requires window { IsInRange key.Window sizes.now.window }
+    requires versions { IsInRange key.Versions sizes.now.versions }
+    ensures { IfOk result (λ b. b ≡ empty_bank bank sizes.now) }
+{
     let renaming = Renaming::open(alloc, bank, sizes)?;
     match Versions::open(alloc, sizes) {
         Ok(versions) => Ok(Bank {
@@ -39,7 +55,9 @@ fn open_bank(alloc: Global, bank: u32, sizes: &Sizes) -> Result<Bank, NoMemory> 
 }
 
 /// Ends banks with nothing in them.
-fn close_empty(banks: Vec<Bank>) {
+fn close_empty(banks: Vec<Bank>, sizes: &Sizes)
+    requires { AreEmpty (length banks.items) sizes.now banks.items }
+{
     let mut banks = banks;
     while let Some(bank) = banks.pop() {
         bank.close_empty();
@@ -48,7 +66,12 @@ fn close_empty(banks: Vec<Bank>) {
 }
 
 /// The banks of a machine.
-fn open_banks(alloc: Global, sizes: &Sizes) -> Result<Vec<Bank>, NoMemory> {
+fn open_banks(alloc: Global, sizes: &Sizes) -> Result<Vec<Bank>, NoMemory>
+    requires banks { sizes.now.banks ≤ MAX_BANKS }
+    requires window { IsInRange key.Window sizes.now.window }
+    requires versions { IsInRange key.Versions sizes.now.versions }
+    ensures { IfOk result (λ bs. AreEmpty sizes.now.banks sizes.now bs.items) }
+{
     let Ok(mut banks) = Vec::with_capacity(alloc, sizes.banks as usize) else {
         return Err(NoMemory);
     };
@@ -59,7 +82,7 @@ fn open_banks(alloc: Global, sizes: &Sizes) -> Result<Vec<Bank>, NoMemory> {
                 Err(_) => unreachable!(),
             },
             Err(fault) => {
-                close_empty(banks);
+                close_empty(banks, sizes);
                 return Err(fault);
             }
         }
@@ -69,7 +92,10 @@ fn open_banks(alloc: Global, sizes: &Sizes) -> Result<Vec<Bank>, NoMemory> {
 
 impl Units {
     /// The units of a machine before the first event of an image's run.
-    pub(crate) fn open(alloc: Global, image: &Image, machine: &Machine) -> Result<Units, NoMemory> {
+    pub(crate) fn open(alloc: Global, image: &Image, machine: &Machine) -> Result<Units, NoMemory>
+        requires { IsAdmissible machine.now }
+        ensures { IfOk result (AreOpened image.now machine.now) }
+    {
         let sizes = &machine.sizes;
         let (space, code) = Space::load(alloc, image)?;
         let main = Main::open(alloc, image.entry(), &machine.limits)?;
@@ -94,7 +120,7 @@ impl Units {
                 trap: None,
             }),
             Err(fault) => {
-                close_empty(banks);
+                close_empty(banks, sizes);
                 Err(fault)
             }
         }

@@ -1,6 +1,12 @@
 // The unit machine.
-ghost use Rattle.std.specs.Prelude.{◌≡◌, ℕ, IfOk, length, option_map, slice_get};
-ghost use Rattle.tss_base.specs.Image.{ImageState};
+ghost use Rattle.std.specs.Prelude.{◌≡◌, IfOk, length, option_map, slice_get};
+ghost use Rattle.tss_base.specs.Image.{IsAccepted};
+ghost use Rattle.tss_base.specs.Machine.{IsAdmissible};
+ghost use Rattle.tss_protocol.specs.State.{initial_state};
+ghost use Rattle.tss_protocol.specs.Counts.{counts_of};
+ghost use Rattle.tss_protocol.specs.Result.{is_finished, result_of, tasks_of, printed_of};
+ghost use Rattle.tss_protocol.specs.UnitMachine.{enabled_events};
+ghost use Rattle.tss_pipeline.specs.Seen.{StepsTo};
 
 use crate::step::NotEnabled;
 use crate::units::Units;

@@ -1,95 +1,141 @@
 // What the machine shows of itself.
+ghost use Rattle.std.specs.Prelude.{◌≡◌, IsSome, Some, option_and_then, option_map, slice_get};
+ghost use Rattle.std.specs.FinMap.{get};
+ghost use Rattle.tss_maps.specs.Ordered.{key_at};
+ghost use Rattle.tss_protocol.specs.Gateway.{held_tasks};
+ghost use Rattle.tss_protocol.specs.Mail.{message_at, message_names};
+ghost use Rattle.tss_protocol.specs.Stations.{operand_at};
+ghost use Rattle.tss_gateway.specs.Seen.{told_at};
+ghost use Rattle.tss_stations.specs.Reading.{found_in};
+ghost use Rattle.tss_stations.specs.Views.{state_of};
+ghost use Rattle.tss_events.specs.Events.{message_of};
+
 use crate::pipeline::Pipeline;
 use tss_base::{Ending, Event, Machine, OpName, Range, Stage, Task, Trap};
 use tss_core::Regs;
 use tss_events::Message;
-use tss_renaming::EntryView;
 use tss_stations::OperandView;
-use tss_versions::VersionView;
 
 impl Pipeline {
     /// The machine's description.
-    pub fn machine(&self) -> &Machine {
+    pub fn machine(&self) -> &Machine
+        ensures { result.now ≡ self.now.machine }
+    {
         &self.units.machine
     }
 
     /// How many tasks main has spawned.
-    pub fn spawned(&self) -> u32 {
+    pub fn spawned(&self) -> u32
+        ensures { result ≡ self.now.state.main.spawned }
+    {
         self.units.main.spawned()
     }
 
     /// Main's registers.
-    pub fn main(&self) -> &Regs {
+    pub fn main(&self) -> &Regs
+        ensures { result.now ≡ self.now.state.main.registers }
+    {
         self.units.main.regs()
     }
 
     /// Main's ending, where it has ended.
-    pub fn main_ending(&self) -> Option<Ending> {
+    pub fn main_ending(&self) -> Option<Ending>
+        ensures { result ≡ self.now.state.main.ending }
+    {
         self.units.main.ending()
     }
 
     /// The object that was named at a place in order of naming, from 0.
-    pub fn epoch_at(&self, i: u32) -> Option<Range> {
+    pub fn epoch_at(&self, i: u32) -> Option<Range>
+        ensures { result ≡ slice_get self.now.state.main.epoch i }
+    {
         self.units.main.epoch_at(i)
     }
 
     /// The task in the inbox.
-    pub fn inbox(&self) -> Option<&Task> {
+    pub fn inbox(&self) -> Option<&Task>
+        ensures { option_map (λ t. t.now) result ≡ self.now.state.inbox }
+    {
         self.units.gateway.inbox()
     }
 
     /// A task that the gateway holds, by its place from 0, and how many of its operands are still to be acknowledged.
-    pub fn held_at(&self, i: u32) -> Option<(u32, u32)> {
+    pub fn held_at(&self, i: u32) -> Option<(u32, u32)>
+        ensures { result ≡ told_at (slice_get (held_tasks self.now.state.gateway) i) }
+    {
         self.units.gateway.held_at(i)
     }
 
     /// A task in flight by its place from 0, in order of number, and its stage.
-    pub fn task_at(&self, i: u32) -> Option<(&Task, Stage)> {
+    pub fn task_at(&self, i: u32) -> Option<(&Task, Stage)>
+        ensures { option_map (λ t. (t.0.now, t.1)) result
+            ≡ option_and_then (found_in self.now.state.flight) (key_at self.now.state.flight i) }
+    {
         self.units.stations.task_at(i)
     }
 
     /// A task in flight by its number, and its stage.
-    pub fn find(&self, task: u32) -> Option<(&Task, Stage)> {
+    pub fn find(&self, task: u32) -> Option<(&Task, Stage)>
+        ensures { option_map (λ t. (t.0.now, t.1)) result ≡ found_in self.now.state.flight task }
+    {
         self.units.stations.find(task)
     }
 
     /// What is known of an operand of a task in flight.
-    pub fn operand(&self, o: OpName) -> Option<OperandView> {
+    pub fn operand(&self, o: OpName) -> Option<OperandView>
+        ensures { option_map state_of result ≡ operand_at self.now.state.flight o }
+    {
         self.units.stations.operand(o)
     }
 
     /// A task of the ready queue by its place, from 0 at the front.
-    pub fn queue_at(&self, i: u32) -> Option<u32> {
+    pub fn queue_at(&self, i: u32) -> Option<u32>
+        ensures { result ≡ slice_get self.now.state.queue i }
+    {
         self.units.queue.at(i)
     }
 
     /// The task of a worker, and its trap where it has trapped.
-    pub fn task(&self, w: u32) -> Option<(u32, Option<Trap>)> {
+    pub fn task(&self, w: u32) -> Option<(u32, Option<Trap>)>
+        ensures { result ≡ option_map (λ b. (b.task.number, b.trap)) (get self.now.state.workers w) }
+    {
         self.units.workers.task(w)
     }
 
     /// The registers of a busy worker.
-    pub fn regs(&self, w: u32) -> &Regs {
+    pub fn regs(&self, w: u32) -> &Regs
+        requires { IsSome (get self.now.state.workers w) }
+        ensures { option_map (λ b. b.registers) (get self.now.state.workers w) ≡ Some result.now }
+    {
         self.units.workers.regs(w)
     }
 
     /// The scratch of a busy worker.
-    pub fn scratch(&self, w: u32) -> &[u8] {
+    pub fn scratch(&self, w: u32) -> &[u8]
+        requires { IsSome (get self.now.state.workers w) }
+        ensures { option_map (λ b. b.scratch) (get self.now.state.workers w) ≡ Some result.now }
+    {
         self.units.workers.scratch(w).bytes()
     }
 
     /// The name of a message by its place, from 0, in the order of events.
-    pub fn message_at(&self, i: u32) -> Option<Event> {
+    pub fn message_at(&self, i: u32) -> Option<Event>
+        ensures { result ≡ slice_get (message_names self.now.state.mail) i }
+    {
         self.units.mail.at(i)
     }
 
     /// The message of a name.
-    pub fn see(&self, name: &Event) -> Option<&Message> {
+    pub fn see(&self, name: &Event) -> Option<&Message>
+        ensures { option_map (λ m. message_of m.now) result ≡ message_at self.now.state.mail name.now }
+    {
         self.units.mail.see(name)
     }
 
     /// The held trap: the number of its task, and the trap.
-    pub fn trap(&self) -> Option<(u32, Trap)> {
+    pub fn trap(&self) -> Option<(u32, Trap)>
+        ensures { option_map (λ t. record { task = t.0; trap = t.1 }) result ≡ self.now.state.trap }
+    {
         match self.units.trap {
             Some(held) => Some((held.task, held.trap)),
             None => None,

@@ -1,15 +1,25 @@
 // The events of the stations: ready, link and bye.
-ghost use Rattle.std.specs.Prelude.{◌≡◌};
+ghost use Rattle.std.specs.Prelude.{◌≡◌, ◌<◌, true, length};
 ghost use Rattle.tss_base.specs.declared.event.Event.TheVariants as event;
-ghost use Rattle.tss_protocol.specs.UnitMachine.{is_enabled};
+ghost use Rattle.tss_protocol.specs.UnitMachine.{queue_with};
 ghost use Rattle.tss_pipeline.specs.Does.{Does, May};
 ghost use Rattle.tss_pipeline.specs.Fit.{IsFit};
-ghost use Rattle.tss_pipeline.specs.State.{state_of};
 
 use crate::letters::{take_bye, take_link, take_ready};
 use crate::posting::post_all;
 use crate::units::Units;
 use tss_base::OpName;
+use tss_workers::ReadyQueue;
+
+/// Queues a task, where it is complete.
+pub(crate) fn queue_where(queue: &mut ReadyQueue, task: u32, complete: bool)
+    requires { complete ≡ true → length queue.old.tasks < queue.old.size }
+    ensures { queue.new ≡ record queue.old { tasks = queue_with queue.old.tasks task complete } }
+{
+    if complete {
+        queue.push(task);
+    }
+}
 
 impl Units {
     /// An operand is told its version and storage. Where its task's operands are all ready the task is queued.
@@ -20,9 +30,7 @@ impl Units {
     {
         let (version, storage) = take_ready(&mut self.mail, o);
         let (sent, complete) = self.stations.ready(o, version, storage);
-        if complete {
-            self.queue.push(o.task);
-        }
+        queue_where(&mut self.queue, o.task, complete);
         post_all(&mut self.mail, sent);
     }
 

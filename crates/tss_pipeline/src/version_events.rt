@@ -1,9 +1,13 @@
 // The events of the versioning tables: open, use, release, nack and retire.
-ghost use Rattle.std.specs.Prelude.{◌≡◌};
+ghost use Rattle.std.specs.Prelude.{◌≡◌, ◌<◌, length, Some, IsSome};
 ghost use Rattle.tss_base.specs.declared.event.Event.TheVariants as event;
+ghost use Rattle.tss_protocol.specs.Names.{bank_of};
+ghost use Rattle.tss_protocol.specs.Stations.{operand_at};
 ghost use Rattle.tss_protocol.specs.UnitMachine.{is_enabled};
+ghost use Rattle.tss_stations.specs.Views.{flight_of};
 ghost use Rattle.tss_pipeline.specs.Does.{Does, May};
-ghost use Rattle.tss_pipeline.specs.Fit.{IsFit};
+ghost use Rattle.tss_pipeline.specs.Fit.{AreBanks, IsFit};
+ghost use Rattle.tss_pipeline.specs.Registering.{IsBankWith};
 ghost use Rattle.tss_pipeline.specs.State.{state_of};
 
 use crate::letters::{take_nack, take_open, take_release, take_retire, take_use};
@@ -45,7 +49,14 @@ impl Units {
     }
 
     /// The bank of an operand of a task in flight.
-    fn bank_of_operand(&self, o: OpName) -> u32 {
+    fn bank_of_operand(&self, o: OpName) -> u32
+        requires banks { AreBanks self.now.machine self.now.banks.items }
+        requires some { 0 < self.now.machine.sizes.banks }
+        requires flies { IsSome (operand_at (flight_of self.now.stations.slots) o) }
+        ensures exact { (x : _) → operand_at (flight_of self.now.stations.slots) o ≡ Some x
+            → result ≡ bank_of self.now.machine.sizes x.operand.object }
+        ensures within { result < length self.now.banks.items }
+    {
         match self.stations.operand(o) {
             Some(view) => self.bank_of(&view.operand.object),
             None => unreachable!(),
@@ -93,7 +104,10 @@ impl Units {
     }
 
     /// The bank in which a version is registered.
-    fn bank_with(&self, v: OpName) -> Option<u32> {
+    fn bank_with(&self, v: OpName) -> Option<u32>
+        requires { AreBanks self.now.machine self.now.banks.items }
+        ensures { IsBankWith self.now.banks.items v result }
+    {
         for bank in 0..self.machine.sizes.banks {
             if self.banks[bank as usize].versions.has(v) {
                 return Some(bank);

@@ -1,7 +1,7 @@
 -- Each message may be posted before those that are left.
-use Rattle.std.proofs.Common.{◌≡◌, length, refl, sym, ap, subst, ◌∙◌, arith}
+use Rattle.std.proofs.Common.{length, refl, sym, ap, subst, ◌∙◌, arith}
 use Rattle.std.proofs.lemmas.List.{length-map}
-use Rattle.tss_protocol.specs.Mail.{message_count, posted_all}
+use Rattle.tss_protocol.specs.Mail.{posted_all}
 use Rattle.tss_events.specs.Events.{message_of, messages_of}
 use Rattle.tss_mail.specs.Letters.{mail_of}
 use Rattle.tss_conditions.specs.Posting.{MayPostAll, MayPostNext}
@@ -23,9 +23,11 @@ loop-message-init c = record {
 
 -- the first of the messages that are left may be posted
 next_may : (c : goal.After-post-arg-1)
-    → MayPostNext c.loop-message.mail.size (mail_of c.loop-message.mail) (message_of c.in-Some.message) (messages_of c.pop.new.self)
+    → MayPostNext c.loop-message.mail.size (mail_of c.loop-message.mail) (message_of c.in-Some.message)
+    (messages_of c.pop.new.self)
 next_may c =
-    post_next c.loop-message.mail.size (mail_of c.loop-message.mail) (message_of c.in-Some.message) (messages_of c.pop.new.self)
+    post_next c.loop-message.mail.size (mail_of c.loop-message.mail) (message_of c.in-Some.message)
+    (messages_of c.pop.new.self)
     (subst (λ s. MayPostAll c.loop-message.mail.size (mail_of c.loop-message.mail) (messages_of s)) c.in-Some.ensures
     c.loop-message.invariant.may)
 
@@ -44,8 +46,8 @@ loop-message-preserved c =
     let x = c.in-Some.message in
     let xs = c.pop.new.self in
     let may =
-        post_next m.size (mail_of m) (message_of x) (messages_of xs)
-        (subst (λ s. MayPostAll m.size (mail_of m) (messages_of s)) c.in-Some.ensures c.loop-message.invariant.may) in
+    post_next m.size (mail_of m) (message_of x) (messages_of xs)
+    (subst (λ s. MayPostAll m.size (mail_of m) (messages_of s)) c.in-Some.ensures c.loop-message.invariant.may) in
     let size = ap (λ n. n.size) c.post.ensures.exact ∙ size_with_letter m x in
     record {
       size = size ∙ c.loop-message.invariant.size;

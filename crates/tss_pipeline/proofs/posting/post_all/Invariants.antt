@@ -12,7 +12,8 @@ invariant-loop-message l = record {
   size : l.mail.size ≡ l.initial.mail.size;
   may : MayPostAll l.mail.size (mail_of l.mail) (messages_of l.sent);
   letters : with_letters l.mail l.sent ≡ with_letters l.initial.mail l.initial.sent;
-  posted : posted_all (mail_of l.mail) (messages_of l.sent) ≡ posted_all (mail_of l.initial.mail) (messages_of l.initial.sent);
+  posted : posted_all (mail_of l.mail) (messages_of l.sent)
+      ≡ posted_all (mail_of l.initial.mail) (messages_of l.initial.sent);
 }
 
 abbrev pub decreases-loop-message : goal.decreases-loop-message

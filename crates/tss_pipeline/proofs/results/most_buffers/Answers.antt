@@ -1,0 +1,11 @@
+-- The next bank may have more.
+use Rattle.std.proofs.Common.{sym, ap, ◌∙◌}
+use Rattle.std.specs.FinMap.{len}
+use Rattle.tss_pipeline.proofs.BankFills.{more_buffers}
+use Rattle.tss_pipeline.proofs.results.most_buffers.Goals as goal
+
+pub loop-i-preserved : goal.loop-i-preserved
+loop-i-preserved c =
+    more_buffers c.args.banks.now c.loop-i.i c.index-banks-i.result c.loop-i-test.true c.index-banks-i.is c.loop-i.most
+    c.buffers.result c.max-most.result c.loop-i.invariant
+    (c.buffers.ensures.exact ∙ ap (λ b. len b.renaming.buffers) (sym c.index-banks-i.is)) c.max-most.ensures

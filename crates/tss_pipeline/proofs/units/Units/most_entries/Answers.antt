@@ -1,0 +1,13 @@
+-- Each bank has as many as the joined tables say of it.
+use Rattle.std.proofs.Common.{ap, ◌∙◌, length}
+use Rattle.tss_protocol.specs.Counts.{greatest}
+use Rattle.tss_protocol.specs.Renaming.{Fill}
+use Rattle.tss_pipeline.specs.Emptiness.{fill_at}
+use Rattle.tss_pipeline.proofs.BankFills.{all_entries}
+use Rattle.tss_pipeline.proofs.units.Units.most_entries.Goals as goal
+
+pub returns : goal.returns
+returns c =
+    c.most_entries.ensures
+    ∙ ap (λ bs. greatest (λ b. (fill_at bs b).entries) (length bs)) c.deref.ensures.value
+    ∙ all_entries c.args.self.now.machine c.args.self.now.banks.items c.requires.sized.banks c.requires.placed.tables

@@ -1,0 +1,44 @@
+-- The events that may come into question, kind by kind, as the units look for those that may happen.
+use Rattle.std.specs.Prelude.{ℕ, Bool, true, false, List, [], ◌∷◌, map, filter}
+use Rattle.std.specs.List.{flat_map, range_with_len}
+use Rattle.tss_base.specs.declared.machine.Machine.{Machine}
+use Rattle.tss_base.specs.declared.event.Event.{Event}
+use Rattle.tss_base.specs.declared.event.Event.TheVariants as event
+use Rattle.tss_protocol.specs.State.{State}
+use Rattle.tss_protocol.specs.UnitMachine.{is_enabled}
+use Rattle.tss_mail.specs.declared.kind.Kind.{Kind}
+use Rattle.tss_mail.specs.declared.kind.Kind.TheVariants as kind
+use Rattle.tss_mail.specs.KindNames.{names_of_kind}
+use Rattle.tss_pipeline.specs.declared.enabling.Source.{Source}
+use Rattle.tss_pipeline.specs.declared.enabling.Source.TheVariants as source
+
+-- the candidates of a kind, in order: for workers and banks one for each number
+abbrev pub candidates_of : Machine → State → Source → List Event
+candidates_of m S source.Main = event.Main ∷ []
+candidates_of m S source.Take = event.Take ∷ []
+candidates_of m S (source.Letters k) = names_of_kind S.mail k
+candidates_of m S source.Start = map event.Start (range_with_len 0 m.sizes.workers)
+candidates_of m S source.Exec = map event.Exec (range_with_len 0 m.sizes.workers)
+candidates_of m S source.Finish = map event.Finish (range_with_len 0 m.sizes.workers)
+candidates_of m S source.Copy = map event.Copy (range_with_len 0 m.sizes.banks)
+
+-- those that may happen
+abbrev pub enabled_of_kind : Machine → State → Source → List Event
+enabled_of_kind m S s = filter (is_enabled m S) (candidates_of m S s)
+
+-- those of several kinds
+unfoldable pub enabled_of_kinds : Machine → State → List Source → List Event
+enabled_of_kinds m S ss = flat_map (enabled_of_kind m S) ss
+
+-- messages of these kinds may be taken wherever they are
+abbrev pub is_always : Kind → Bool
+is_always kind.Decode = false
+is_always kind.Open = false
+is_always kind.Use = false
+is_always kind.Retire = false
+is_always k = true
+
+-- events of these kinds may happen wherever they come into question
+abbrev pub is_free : Source → Bool
+is_free (source.Letters k) = is_always k
+is_free s = false
