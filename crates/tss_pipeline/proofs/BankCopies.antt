@@ -185,16 +185,19 @@ module _ (u : Units) (fit : IsFit u) (n : ℕ) (may : May (event.Copy n) u) wher
       → buffer_bytes (state_of u).contents copies.job.buffer ≡ bytes
   bytes_are bytes h =
       let s = law.set in
-      let at = contents_there u fit n copies.bank copies.there copies.job.buffer copies.copy.buffer.place holds.buffer.place u.buffers in
+      let at = contents_there u fit n copies.bank copies.there copies.job.buffer copies.copy.buffer.place
+      holds.buffer.place u.buffers in
       bytes_by (state_of u).contents copies.job.buffer s.0 s.1
       ∙ sym (if_some (λ x. bytes ≡ x) (get u.buffers.contents (seat n copies.copy.buffer.place)) s.0 (sym at ∙ s.1) h)
 
   -- its message may be posted
-  pub may_send : MayPostAll u.mail.size (mail_of u.mail) (gone_messages (gone_after copies.copy copies.job (is_last copies.copy)))
+  pub may_send : MayPostAll u.mail.size (mail_of u.mail)
+      (gone_messages (gone_after copies.copy copies.job (is_last copies.copy)))
   may_send =
       let post = may_post u.machine fit.reached.image (state_of u) (event.Copy n) fit.reached.reached may in
       let sent = ap copy_sends copy_there in
-      subst (λ k. MayPostAll k (mail_of u.mail) (gone_messages (gone_after copies.copy copies.job (is_last copies.copy))))
+      subst (λ k. MayPostAll k (mail_of u.mail)
+      (gone_messages (gone_after copies.copy copies.job (is_last copies.copy))))
       (sym fit.sized.mail)
       (subst (MayPostAll (message_limit u.machine) (mail_of u.mail))
       (sent ∙ sym (sent_after copies.copy copies.job (is_last copies.copy) holds.object))
@@ -213,7 +216,8 @@ module _ (u : Units) (fit : IsFit u) (n : ℕ) (may : May (event.Copy n) u) wher
     versions_same = ap (λ (b : Bank). b.versions) left
 
     copies_left : copies_from 0 (set u.banks.items n new)
-        ≡ copies_after_copy (copies_from 0 u.banks.items) n (copy_of copies.job.version copies.job.buffer copies.copy) (is_last copies.copy)
+        ≡ copies_after_copy (copies_from 0 u.banks.items) n
+        (copy_of copies.job.version copies.job.buffer copies.copy) (is_last copies.copy)
     copies_left =
         copies_set 0 u.banks.items n copies.bank new copies.there
         ∙ ap (λ k. with_at (copies_from 0 u.banks.items) k (bank_copy new)) (sym (zero_first n))
@@ -222,8 +226,10 @@ module _ (u : Units) (fit : IsFit u) (n : ℕ) (may : May (event.Copy n) u) wher
 
     pub piece_state : (space : Memory) (mail : MailState) (bytes : List ℕ)
         → IfSome (get u.buffers.contents (seat n copies.copy.buffer.place)) (λ x. bytes ≡ x)
-        → space ≡ put_bytes u.space (copies.job.object.base + copies.copy.moved) (take (next_len copies.copy) (drop copies.copy.moved bytes))
-        → mail_of mail ≡ posted_all (mail_of u.mail) (gone_messages (gone_after copies.copy copies.job (is_last copies.copy)))
+        → space ≡ put_bytes u.space (copies.job.object.base + copies.copy.moved)
+        (take (next_len copies.copy) (drop copies.copy.moved bytes))
+        → mail_of mail ≡ posted_all (mail_of u.mail)
+        (gone_messages (gone_after copies.copy copies.job (is_last copies.copy)))
         → record (state_of u) {
           home = space;
           entries = (joined_tables (bank_tables (set u.banks.items n new))).entries;
@@ -238,14 +244,18 @@ module _ (u : Units) (fit : IsFit u) (n : ℕ) (may : May (event.Copy n) u) wher
     unfolding after_event
     piece_state space mail bytes h s m =
         let tables = tables_kept u.banks.items n copies.bank new copies.there (ap tables_of renaming_same) in
-        let versions = versions_kept u.banks.items n copies.bank new copies.there (ap (λ v. versions_of v.versions) versions_same) in
+        let versions = versions_kept u.banks.items n copies.bank new copies.there
+        (ap (λ v. versions_of v.versions) versions_same) in
         let contents = contents_kept u.banks.items n copies.bank new copies.there u.buffers
         (ap (λ (b : Bank). contents_in u.buffers b) left) in
         let home =
         s
-        ∙ ap (λ (r : Range). put_bytes u.space (r.base + copies.copy.moved) (take (next_len copies.copy) (drop copies.copy.moved bytes))) holds.object
-        ∙ ap (home_after_copy u.space (copy_of copies.job.version copies.job.buffer copies.copy)) (sym (bytes_are bytes h)) in
-        let sent = m ∙ ap (posted_all (mail_of u.mail)) (sent_after copies.copy copies.job (is_last copies.copy) holds.object) in
+        ∙ ap (λ (r : Range). put_bytes u.space (r.base + copies.copy.moved)
+        (take (next_len copies.copy) (drop copies.copy.moved bytes))) holds.object
+        ∙ ap (home_after_copy u.space (copy_of copies.job.version copies.job.buffer copies.copy))
+        (sym (bytes_are bytes h)) in
+        let sent = m ∙ ap (posted_all (mail_of u.mail))
+        (sent_after copies.copy copies.job (is_last copies.copy) holds.object) in
         (λ i. record (state_of u) {
           home = home i;
           entries = (joined_tables (tables i)).entries;
@@ -285,7 +295,8 @@ module _ (u : Units) (fit : IsFit u) (n : ℕ) (may : May (event.Copy n) u) wher
     beside =
         placed_beside (ground_of u) fit.placed n copies.bank new copies.there renaming_same
         (subst (VersionsInBanks u.machine.sizes)
-        (sym (versions_kept u.banks.items n copies.bank new copies.there (ap (λ v. versions_of v.versions) versions_same))
+        (sym (versions_kept u.banks.items n copies.bank new copies.there
+        (ap (λ v. versions_of v.versions) versions_same))
         ∙ versions_set u.banks.items n copies.bank new copies.there)
         fit.placed.versions)
         own_left
@@ -296,7 +307,8 @@ module _ (u : Units) (fit : IsFit u) (n : ℕ) (may : May (event.Copy n) u) wher
         let here = ap (bank_of u.machine.sizes) holds.object ∙ law.bank in
         let is = same_Some new b (sym (slice_get-set u.banks.items n copies.bank new copies.there)
         ∙ ap (slice_get (set u.banks.items n new)) (sym here) ∙ at) in
-        subst (λ r. HoldsGone r (gone_with copies.job copies.copy.buffer)) (sym renaming_same ∙ ap (λ (b : Bank). b.renaming) is)
+        subst (λ r. HoldsGone r (gone_with copies.job copies.copy.buffer))
+        (sym renaming_same ∙ ap (λ (b : Bank). b.renaming) is)
         (record {
           place = holds.place;
           buffer = λ h e. subst (HoldsBuffer copies.bank.renaming)
@@ -308,11 +320,15 @@ module _ (u : Units) (fit : IsFit u) (n : ℕ) (may : May (event.Copy n) u) wher
       gones = gones_with u.mail.gones (gone_after copies.copy copies.job last);
     })
     gone_by true =
-        placed_gone (record (ground_of u) { banks = set u.banks.items n new }) (gone_with copies.job copies.copy.buffer) beside gone_holds
+        placed_gone (record (ground_of u) { banks = set u.banks.items n new })
+        (gone_with copies.job copies.copy.buffer) beside gone_holds
     gone_by false = beside
 
     pub placed_left : (mail : MailState)
-        → mail ≡ record (u.mail) { gones = gones_with u.mail.gones (gone_after copies.copy copies.job (is_last copies.copy)) }
+        → mail ≡ record (u.mail) {
+          gones =
+              gones_with u.mail.gones (gone_after copies.copy copies.job (is_last copies.copy));
+        }
         → ArePlaced (record (ground_of u) {
           banks = set u.banks.items n new;
           opens = mail.opens;

@@ -66,7 +66,8 @@ flying_short s =
 
 short_in : (o : Option Slot) (y : Flying) → option_map flying_of o ≡ Some y → length y.operands ≤ y.task.count
 short_in None y e = absurd (none-some y e)
-short_in (Some s) y e = subst (λ (y : Flying). length y.operands ≤ y.task.count) (same_Some (flying_of s) y e) (flying_short s)
+short_in (Some s) y e = subst (λ (y : Flying). length y.operands ≤ y.task.count) (same_Some (flying_of s) y e)
+    (flying_short s)
 
 -- a task in flight has records for at most the operands that it counts
 pub few_records : (slots : Numbered Slot) (n : ℕ) (y : Flying) → get (flight_of slots) n ≡ Some y
@@ -120,11 +121,13 @@ module _ (u : Units) (fit : IsFit u) (w : ℕ) where
     pub may_release : May (event.Finish w) u → MayPostAll u.mail.size (mail_of u.mail)
         (flight_after_finish (flight_of u.stations.slots) x.task.number).sent
     may_release may =
-        let post = may_post u.machine fit.reached.image (pipeline.state_of u) (event.Finish w) fit.reached.reached may in
+        let post = may_post u.machine fit.reached.image (pipeline.state_of u) (event.Finish w) fit.reached.reached
+        may in
         let sent = ap (finish_sends (pipeline.state_of u)) busy_there in
         subst (λ n. MayPostAll n (mail_of u.mail) (flight_after_finish (flight_of u.stations.slots) x.task.number).sent)
         (sym fit.sized.mail)
-        (subst (MayPostAll (message_limit u.machine) (mail_of u.mail)) sent (record { fresh = post.fresh; room = post.room }))
+        (subst (MayPostAll (message_limit u.machine) (mail_of u.mail)) sent
+        (record { fresh = post.fresh; room = post.room }))
 
 -- the definitions' state after a finish
 pub finished_state : (m : Machine) (S : State) (w : ℕ) (b : Busy) → get S.workers w ≡ Some b

@@ -61,7 +61,8 @@ module _ (u : Units) (fit : IsFit u) (w : ℕ) (x : Worker) (there : get u.worke
 
   stretch_agrees : TasksAgree (place_of u.banks.items)
       (exec_stretch u.code u.machine.limits u.machine.sizes.quantum (busy_of x) (machine.stores_of (state_of u)))
-      (exec_stretch u.code u.machine.limits u.machine.sizes.quantum (seated_of u.buffers.banks x) (stores_of u.space u.buffers))
+      (exec_stretch u.code u.machine.limits u.machine.sizes.quantum (seated_of u.buffers.banks x)
+      (stores_of u.space u.buffers))
   stretch_agrees =
       exec_agrees (place_of u.banks.items) u.code u.machine.limits u.machine.sizes.quantum (busy_of x)
       (seats_of u.buffers.banks x.task x.storages) (machine.stores_of (state_of u)) (stores_of u.space u.buffers)
@@ -75,13 +76,16 @@ module _ (u : Units) (fit : IsFit u) (w : ℕ) (x : Worker) (there : get u.worke
   executed_is = ap (after_exec u.machine (state_of u) w) (busy_there u fit w x there)
 
   module _ (may : May (event.Exec w) u) (new : WorkersState) (space : Memory) (buffers : BuffersState)
-      (e : ExecutesBy w u.code u.machine.limits.task_budget u.machine.sizes.quantum u.workers new x u.space space u.buffers buffers) where
+      (e : ExecutesBy w u.code u.machine.limits.task_budget u.machine.sizes.quantum u.workers new x u.space space
+      u.buffers buffers) where
     left_is : e.left ≡ worker_after x
-        (exec_stretch u.code u.machine.limits u.machine.sizes.quantum (seated_of u.buffers.banks x) (stores_of u.space u.buffers))
+        (exec_stretch u.code u.machine.limits u.machine.sizes.quantum (seated_of u.buffers.banks x)
+        (stores_of u.space u.buffers))
     left_is = e.executes.worker u.machine.limits refl
 
     stores_are : stores_of space buffers
-        ≡ (exec_stretch u.code u.machine.limits u.machine.sizes.quantum (seated_of u.buffers.banks x) (stores_of u.space u.buffers)).memory
+        ≡ (exec_stretch u.code u.machine.limits u.machine.sizes.quantum (seated_of u.buffers.banks x)
+        (stores_of u.space u.buffers)).memory
     stores_are = e.executes.stores u.machine.limits refl
 
     busy_left : busy_of e.left ≡ busy_after (busy_of x)
@@ -98,7 +102,8 @@ module _ (u : Units) (fit : IsFit u) (w : ℕ) (x : Worker) (there : get u.worke
         ∙ mapped-insert nat_order busy_of u.workers.entries w e.left
         ∙ ap (insert (workers_of u.workers.entries) w) busy_left
 
-    home_left : space ≡ (exec_stretch u.code u.machine.limits u.machine.sizes.quantum (busy_of x) (machine.stores_of (state_of u))).memory.home
+    home_left : space ≡ (exec_stretch u.code u.machine.limits u.machine.sizes.quantum (busy_of x)
+        (machine.stores_of (state_of u))).memory.home
     home_left = ap (λ (s : Stores). s.home) stores_are ∙ stretch_agrees.memory.home
 
     reached_executed : Reached u.machine fit.reached.image (with_executed (state_of u) w (busy_of x)
@@ -108,12 +113,15 @@ module _ (u : Units) (fit : IsFit u) (w : ℕ) (x : Worker) (there : get u.worke
         (reached_after u.machine fit.reached.image (state_of u) (event.Exec w) fit.reached.reached may)
 
     contents_left : contents_of buffers u.banks.items
-        ≡ (exec_stretch u.code u.machine.limits u.machine.sizes.quantum (busy_of x) (machine.stores_of (state_of u))).memory.contents
+        ≡ (exec_stretch u.code u.machine.limits u.machine.sizes.quantum (busy_of x)
+        (machine.stores_of (state_of u))).memory.contents
     contents_left =
         contents_back u fit buffers
-        (exec_stretch u.code u.machine.limits u.machine.sizes.quantum (busy_of x) (machine.stores_of (state_of u))).memory.contents
+        (exec_stretch u.code u.machine.limits u.machine.sizes.quantum (busy_of x)
+        (machine.stores_of (state_of u))).memory.contents
         (subst (Agree (place_of u.banks.items)
-        (exec_stretch u.code u.machine.limits u.machine.sizes.quantum (busy_of x) (machine.stores_of (state_of u))).memory.contents)
+        (exec_stretch u.code u.machine.limits u.machine.sizes.quantum (busy_of x)
+        (machine.stores_of (state_of u))).memory.contents)
         (ap (λ (s : Stores). s.contents) (sym stores_are)) stretch_agrees.memory.contents)
         (λ n bytes at.
         (contents_whole u.machine fit.reached.image (with_executed (state_of u) w (busy_of x)

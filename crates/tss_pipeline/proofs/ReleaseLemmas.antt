@@ -86,7 +86,8 @@ module _ (task : ℕ) where
         ≡ release_of (operand_name task place) r r.source ++ releases_in task (place + 1) (get flight task)
     next_release place r e =
         next_in place (get flight task) r e
-        ∙ ap (λ n. release_of (operand_name task place) r r.source ++ releases_in task n (get flight task)) (after place)
+        ∙ ap (λ n. release_of (operand_name task place) r r.source ++ releases_in task n (get flight task))
+        (after place)
       where
         after : (n : ℕ) → suc n ≡ n + 1
         after n = omega arith

@@ -33,7 +33,8 @@ returns c =
     let fit = c.requires.fit in
     let sized = fit.sized in
     let x = exec_worker u fit w c.requires.may in
-    let e = subst (λ o. ExecutesIn w u.code u.machine.limits.task_budget u.machine.sizes.quantum u.workers c.exec.new.self o
+    let e = subst (λ o. ExecutesIn w u.code u.machine.limits.task_budget u.machine.sizes.quantum u.workers
+    c.exec.new.self o
     u.space c.exec.new.space u.buffers c.exec.new.buffers) x.1 c.in-Ok.ensures.exact in
     let sizes = e.executes.sizes in
     does (event.Exec w) u _ fit c.requires.may refl

@@ -16,7 +16,8 @@ unreachable-requires c =
     let n = c.in-Buffer.name in
     let found = at_place bs c.bank_of-bank.result b c.bank_of-bank.ensures.within c.index.ensures in
     not_there (get b.renaming.buffers n) c.in-None.ensures.exact
-    (c.requires.held c.in-Buffer.field-0 n b (ap Some c.in-Buffer.is) (ap (slice_get bs) (sym c.bank_of-bank.ensures.exact) ∙ found))
+    (c.requires.held c.in-Buffer.field-0 n b (ap Some c.in-Buffer.is)
+    (ap (slice_get bs) (sym c.bank_of-bank.ensures.exact) ∙ found))
 
 pub returns-in-Some : goal.returns-in-Some
 returns-in-Some c =

@@ -25,7 +25,8 @@ loop-place-preserved c =
       found = λ k few. elim (last_or_before k place few) [
         | inl same ↦
             subst (λ k. IsStoredAt (ground_of u) u.stations.slots t k (slice_get (set xs place s) k)) (sym same)
-            (subst (IsStoredAt (ground_of u) u.stations.slots t place) (sym (written_place xs place s within)) c.storage_at.ensures)
+            (subst (IsStoredAt (ground_of u) u.stations.slots t place) (sym (written_place xs place s within))
+            c.storage_at.ensures)
         | inr before ↦
             subst (IsStoredAt (ground_of u) u.stations.slots t k)
             (sym (written_beside xs place k s (λ e. omega (arith, e, before))))
