@@ -1,34 +1,31 @@
 -- What a bank copies, and the state after a piece.
-use Rattle.std.proofs.Common.{◌≡◌, ◌≢◌, ℕ, zero, suc, ◌+◌, ◌-◌, ◌^◌, ◌<◌, ◌≤◌, Bool, true, false, true≢false, min, List, [], ◌∷◌, length, take, drop, map, set, get_or, slice_get, Option, Some, None, option_map, refl, sym, ap, ◌∙◌, subst, inl, inr, ◌⊎◌, arith}
+use Rattle.std.proofs.Common.{◌≡◌, ℕ, zero, suc, ◌+◌, ◌-◌, ◌<◌, ◌≤◌, Bool, true, false, true≢false, min, List, [], ◌∷◌, length, take, drop, set, get_or, slice_get, Option, Some, None, refl, sym, ap, ◌∙◌, subst, inl, inr, ◌⊎◌, arith}
 use Rattle.std.specs.Prelude.{is_some, unwrap_or, IfSome}
-use Rattle.std.specs.FinMap.{get, insert, remove}
-use Rattle.std.proofs.lemmas.Option.{none-some, same_Some, slice_get_within}
+use Rattle.std.specs.FinMap.{get}
+use Rattle.std.proofs.lemmas.Option.{same_Some, slice_get_within}
 use Rattle.tss_base.specs.declared.bounds.TheConstants.{COPY_BYTES}
 use Rattle.tss_base.specs.declared.operand.OpName.{OpName}
 use Rattle.tss_base.specs.declared.range.Range.{Range}
 use Rattle.tss_base.specs.declared.event.Event.TheVariants as event
-use Rattle.tss_base.specs.Range.{end_of, contains}
+use Rattle.tss_base.specs.Range.{end_of}
 use Rattle.tss_base.specs.Names.{Named, Numbered}
-use Rattle.tss_model.specs.Memory.{Memory, put_bytes, range_of}
+use Rattle.tss_model.specs.Memory.{Memory, put_bytes}
 use Rattle.tss_memory.specs.Ranges.{CanWrite, memory_end}
 use Rattle.tss_memory.proofs.RangeLemmas.{found_end, contains_from}
 use Rattle.tss_steps.proofs.PlaceLemmas.{range_of-inside}
-use Rattle.tss_tokens.specs.Pool.{TokenState}
-use Rattle.tss_events.specs.declared.message.Gone.{Gone}
-use Rattle.tss_events.specs.declared.message.HeldBuffer.{HeldBuffer}
 use Rattle.tss_banks.specs.Joined.{joined}
 use Rattle.tss_banks.specs.Tables.{joined_tables}
 use Rattle.tss_banks.specs.Collected.{with_at}
 use Rattle.tss_banks.specs.Versions.{VersionsInBanks}
 use Rattle.tss_protocol.specs.Names.{bank_of}
-use Rattle.tss_protocol.specs.Mail.{Mail, posted_all}
-use Rattle.tss_protocol.specs.State.{State, CopyState}
-use Rattle.tss_protocol.specs.Buffers.{buffer_bytes, home_after_copy, is_last_piece, copies_after_copy, sent_by_copy}
+use Rattle.tss_protocol.specs.Mail.{posted_all}
+use Rattle.tss_protocol.specs.State.{CopyState}
+use Rattle.tss_protocol.specs.Buffers.{buffer_bytes, home_after_copy, copies_after_copy, sent_by_copy}
 use Rattle.tss_protocol.specs.Counts.{message_limit}
 use Rattle.tss_protocol.specs.UnitMachine.{is_enabled, after_event, after_copy}
 use Rattle.tss_renaming.specs.Bank.{RenamingState, tables_of}
 use Rattle.tss_versions.specs.Known.{versions_of}
-use Rattle.tss_buffers.specs.Contents.{BuffersState, HasBuffer, seat}
+use Rattle.tss_buffers.specs.Contents.{HasBuffer, seat}
 use Rattle.tss_buffers.specs.declared.copying.Copying.{Copying}
 use Rattle.tss_buffers.specs.Copies.{copy_of, next_len, is_last, copying_after}
 use Rattle.tss_mail.specs.Letters.{MailState, mail_of}
@@ -42,12 +39,12 @@ use Rattle.tss_pipeline.specs.declared.bank.Piece.{Piece}
 use Rattle.tss_pipeline.specs.declared.units.Units.{Units}
 use Rattle.tss_pipeline.specs.State.{state_of, job_copy, bank_copy, copies_from, bank_tables, bank_versions, contents_of, contents_in}
 use Rattle.tss_pipeline.specs.Does.{May}
-use Rattle.tss_pipeline.specs.Fit.{IsFit, Ground, ground_of, ArePlaced, HoldsOwn, HoldsJob, HoldsGone, HoldsBuffer, HoldsPlace, IsEngaged, IsSized, AreBanks}
+use Rattle.tss_pipeline.specs.Fit.{IsFit, ground_of, ArePlaced, HoldsOwn, HoldsJob, HoldsGone, HoldsBuffer, IsEngaged, IsSized, AreBanks}
 use Rattle.tss_pipeline.specs.Pieces.{PieceOf, IsPieceOf, CopiesWithin, gone_with, gone_after, job_after, gone_messages, gones_with}
 use Rattle.tss_pipeline.proofs.BankChanges.{copies_set, tables_kept, versions_kept, versions_set, contents_kept, banks_set, slice_get-set}
 use Rattle.tss_pipeline.proofs.Placing.{placed_beside, placed_gone}
 use Rattle.tss_pipeline.proofs.CopyLemmas.{copy_here, no_copy_here, at_place}
-use Rattle.tss_pipeline.proofs.BufferSeats.{bank_exists, contents_there}
+use Rattle.tss_pipeline.proofs.BufferSeats.{contents_there}
 use Rattle.tss_pipeline.proofs.SeatedTasks.{ranges_are}
 
 -- ---- which bank copies
@@ -155,11 +152,12 @@ module _ (u : Units) (fit : IsFit u) (n : ℕ) (may : May (event.Copy n) u) wher
   -- the bank has the buffer
   pub buffer_place : HasBuffer u.buffers n copies.copy.buffer.place
   buffer_place =
-      let sized = fit.sized.banks.each n copies.bank copies.there in
-      (subst (λ m. n < m) (sym fit.sized.buffer_banks) law.number,
-      subst (λ m. copies.copy.buffer.place < m) (ap (λ s. s.buffers) sized.sizes ∙ sym fit.sized.buffers)
-      ((fit.placed.own n copies.bank copies.there).apart.buffer_within copies.job.buffer copies.copy.buffer.place
-      holds.buffer.place))
+      let sized = fit.sized.banks.each n copies.bank copies.there in (
+        subst (λ m. n < m) (sym fit.sized.buffer_banks) law.number,
+        subst (λ m. copies.copy.buffer.place < m) (ap (λ s. s.buffers) sized.sizes ∙ sym fit.sized.buffers)
+            ((fit.placed.own n copies.bank copies.there).apart.buffer_within copies.job.buffer copies.copy.buffer.place
+            holds.buffer.place),
+      )
 
   -- the piece is one of its bytes
   pub piece_there : copies.copy.moved + next_len copies.copy ≤ u.buffers.object_bytes
@@ -187,16 +185,19 @@ module _ (u : Units) (fit : IsFit u) (n : ℕ) (may : May (event.Copy n) u) wher
       → buffer_bytes (state_of u).contents copies.job.buffer ≡ bytes
   bytes_are bytes h =
       let s = law.set in
-      let at = contents_there u fit n copies.bank copies.there copies.job.buffer copies.copy.buffer.place holds.buffer.place u.buffers in
+      let at = contents_there u fit n copies.bank copies.there copies.job.buffer copies.copy.buffer.place
+      holds.buffer.place u.buffers in
       bytes_by (state_of u).contents copies.job.buffer s.0 s.1
       ∙ sym (if_some (λ x. bytes ≡ x) (get u.buffers.contents (seat n copies.copy.buffer.place)) s.0 (sym at ∙ s.1) h)
 
   -- its message may be posted
-  pub may_send : MayPostAll u.mail.size (mail_of u.mail) (gone_messages (gone_after copies.copy copies.job (is_last copies.copy)))
+  pub may_send : MayPostAll u.mail.size (mail_of u.mail)
+      (gone_messages (gone_after copies.copy copies.job (is_last copies.copy)))
   may_send =
       let post = may_post u.machine fit.reached.image (state_of u) (event.Copy n) fit.reached.reached may in
       let sent = ap copy_sends copy_there in
-      subst (λ k. MayPostAll k (mail_of u.mail) (gone_messages (gone_after copies.copy copies.job (is_last copies.copy))))
+      subst (λ k. MayPostAll k (mail_of u.mail)
+      (gone_messages (gone_after copies.copy copies.job (is_last copies.copy))))
       (sym fit.sized.mail)
       (subst (MayPostAll (message_limit u.machine) (mail_of u.mail))
       (sent ∙ sym (sent_after copies.copy copies.job (is_last copies.copy) holds.object))
@@ -215,7 +216,8 @@ module _ (u : Units) (fit : IsFit u) (n : ℕ) (may : May (event.Copy n) u) wher
     versions_same = ap (λ (b : Bank). b.versions) left
 
     copies_left : copies_from 0 (set u.banks.items n new)
-        ≡ copies_after_copy (copies_from 0 u.banks.items) n (copy_of copies.job.version copies.job.buffer copies.copy) (is_last copies.copy)
+        ≡ copies_after_copy (copies_from 0 u.banks.items) n
+        (copy_of copies.job.version copies.job.buffer copies.copy) (is_last copies.copy)
     copies_left =
         copies_set 0 u.banks.items n copies.bank new copies.there
         ∙ ap (λ k. with_at (copies_from 0 u.banks.items) k (bank_copy new)) (sym (zero_first n))
@@ -224,8 +226,10 @@ module _ (u : Units) (fit : IsFit u) (n : ℕ) (may : May (event.Copy n) u) wher
 
     pub piece_state : (space : Memory) (mail : MailState) (bytes : List ℕ)
         → IfSome (get u.buffers.contents (seat n copies.copy.buffer.place)) (λ x. bytes ≡ x)
-        → space ≡ put_bytes u.space (copies.job.object.base + copies.copy.moved) (take (next_len copies.copy) (drop copies.copy.moved bytes))
-        → mail_of mail ≡ posted_all (mail_of u.mail) (gone_messages (gone_after copies.copy copies.job (is_last copies.copy)))
+        → space ≡ put_bytes u.space (copies.job.object.base + copies.copy.moved)
+        (take (next_len copies.copy) (drop copies.copy.moved bytes))
+        → mail_of mail ≡ posted_all (mail_of u.mail)
+        (gone_messages (gone_after copies.copy copies.job (is_last copies.copy)))
         → record (state_of u) {
           home = space;
           entries = (joined_tables (bank_tables (set u.banks.items n new))).entries;
@@ -240,14 +244,18 @@ module _ (u : Units) (fit : IsFit u) (n : ℕ) (may : May (event.Copy n) u) wher
     unfolding after_event
     piece_state space mail bytes h s m =
         let tables = tables_kept u.banks.items n copies.bank new copies.there (ap tables_of renaming_same) in
-        let versions = versions_kept u.banks.items n copies.bank new copies.there (ap (λ v. versions_of v.versions) versions_same) in
+        let versions = versions_kept u.banks.items n copies.bank new copies.there
+        (ap (λ v. versions_of v.versions) versions_same) in
         let contents = contents_kept u.banks.items n copies.bank new copies.there u.buffers
-            (ap (λ (b : Bank). contents_in u.buffers b) left) in
+        (ap (λ (b : Bank). contents_in u.buffers b) left) in
         let home =
-            s
-            ∙ ap (λ (r : Range). put_bytes u.space (r.base + copies.copy.moved) (take (next_len copies.copy) (drop copies.copy.moved bytes))) holds.object
-            ∙ ap (home_after_copy u.space (copy_of copies.job.version copies.job.buffer copies.copy)) (sym (bytes_are bytes h)) in
-        let sent = m ∙ ap (posted_all (mail_of u.mail)) (sent_after copies.copy copies.job (is_last copies.copy) holds.object) in
+        s
+        ∙ ap (λ (r : Range). put_bytes u.space (r.base + copies.copy.moved)
+        (take (next_len copies.copy) (drop copies.copy.moved bytes))) holds.object
+        ∙ ap (home_after_copy u.space (copy_of copies.job.version copies.job.buffer copies.copy))
+        (sym (bytes_are bytes h)) in
+        let sent = m ∙ ap (posted_all (mail_of u.mail))
+        (sent_after copies.copy copies.job (is_last copies.copy) holds.object) in
         (λ i. record (state_of u) {
           home = home i;
           entries = (joined_tables (tables i)).entries;
@@ -287,7 +295,8 @@ module _ (u : Units) (fit : IsFit u) (n : ℕ) (may : May (event.Copy n) u) wher
     beside =
         placed_beside (ground_of u) fit.placed n copies.bank new copies.there renaming_same
         (subst (VersionsInBanks u.machine.sizes)
-        (sym (versions_kept u.banks.items n copies.bank new copies.there (ap (λ v. versions_of v.versions) versions_same))
+        (sym (versions_kept u.banks.items n copies.bank new copies.there
+        (ap (λ v. versions_of v.versions) versions_same))
         ∙ versions_set u.banks.items n copies.bank new copies.there)
         fit.placed.versions)
         own_left
@@ -297,8 +306,9 @@ module _ (u : Units) (fit : IsFit u) (n : ℕ) (may : May (event.Copy n) u) wher
     gone_holds b at =
         let here = ap (bank_of u.machine.sizes) holds.object ∙ law.bank in
         let is = same_Some new b (sym (slice_get-set u.banks.items n copies.bank new copies.there)
-            ∙ ap (slice_get (set u.banks.items n new)) (sym here) ∙ at) in
-        subst (λ r. HoldsGone r (gone_with copies.job copies.copy.buffer)) (sym renaming_same ∙ ap (λ (b : Bank). b.renaming) is)
+        ∙ ap (slice_get (set u.banks.items n new)) (sym here) ∙ at) in
+        subst (λ r. HoldsGone r (gone_with copies.job copies.copy.buffer))
+        (sym renaming_same ∙ ap (λ (b : Bank). b.renaming) is)
         (record {
           place = holds.place;
           buffer = λ h e. subst (HoldsBuffer copies.bank.renaming)
@@ -310,11 +320,15 @@ module _ (u : Units) (fit : IsFit u) (n : ℕ) (may : May (event.Copy n) u) wher
       gones = gones_with u.mail.gones (gone_after copies.copy copies.job last);
     })
     gone_by true =
-        placed_gone (record (ground_of u) { banks = set u.banks.items n new }) (gone_with copies.job copies.copy.buffer) beside gone_holds
+        placed_gone (record (ground_of u) { banks = set u.banks.items n new })
+        (gone_with copies.job copies.copy.buffer) beside gone_holds
     gone_by false = beside
 
     pub placed_left : (mail : MailState)
-        → mail ≡ record (u.mail) { gones = gones_with u.mail.gones (gone_after copies.copy copies.job (is_last copies.copy)) }
+        → mail ≡ record (u.mail) {
+          gones =
+              gones_with u.mail.gones (gone_after copies.copy copies.job (is_last copies.copy));
+        }
         → ArePlaced (record (ground_of u) {
           banks = set u.banks.items n new;
           opens = mail.opens;

@@ -1,16 +1,15 @@
 -- The names of the banks' buffers with their places among all buffers, and the contents under the one and the other.
-use Rattle.std.proofs.Common.{◌≡◌, ◌≢◌, ℕ, zero, suc, ◌<◌, List, [], ◌∷◌, length, map, slice_get, Option, Some, None, option_map, option_and_then, refl, sym, ap, ◌∙◌, subst, inl, inr, ◌⊎◌, arith}
-use Rattle.std.specs.FinMap.{FinMap, get, empty, get-empty}
+use Rattle.std.proofs.Common.{◌≡◌, ℕ, zero, suc, ◌<◌, List, [], ◌∷◌, length, map, slice_get, Option, Some, None, option_map, option_and_then, refl, sym, ap, ◌∙◌, subst, inl, inr, ◌⊎◌, arith}
+use Rattle.std.specs.FinMap.{get, empty, get-empty}
 use Rattle.std.proofs.lemmas.Option.{none-some, same_Some, get_or_from_slice_get}
 use Rattle.tss_base.specs.declared.operand.OpName.{OpName}
 use Rattle.tss_base.specs.Names.{name_cmp, Named}
-use Rattle.tss_maps.proofs.Keys.{nat_order, name_order, decide_key}
+use Rattle.tss_maps.proofs.Keys.{name_order}
 use Rattle.tss_maps.proofs.Changes.{decide_get, same_by_get}
-use Rattle.tss_banks.specs.Joined.{bank, joined, IsInNoOther}
+use Rattle.tss_banks.specs.Joined.{bank, IsInNoOther}
 use Rattle.tss_banks.specs.Tables.{joined_tables}
 use Rattle.tss_banks.proofs.CollectedLemmas.{get-collected}
 use Rattle.tss_banks.proofs.JoinedLemmas.{get-joined, joined_somewhere}
-use Rattle.tss_protocol.specs.State.{State}
 use Rattle.tss_buffers.specs.Contents.{BuffersState, seat}
 use Rattle.tss_workers.specs.Agreement.{Agree}
 use Rattle.tss_conditions.proofs.Filling.{held_banks}
@@ -91,7 +90,8 @@ module _ (u : Units) (fit : IsFit u) where
     -- what a bank holds is held in all banks' tables
     pub held_joined : get (state_of u).buffers n ≡ Some k
     held_joined =
-        buffer_joined u.machine.sizes u.banks.items fit.placed.tables k b there n p (fit.sized.banks.each k b there).bank held
+        buffer_joined u.machine.sizes u.banks.items fit.placed.tables k b there n p
+        (fit.sized.banks.each k b there).bank held
 
     pub place_there : place_of u.banks.items n ≡ Some (seat k p)
     place_there =
@@ -104,9 +104,12 @@ module _ (u : Units) (fit : IsFit u) where
       | inl t ↦ elim (decide_get (contents_in B t.0) n) [
         | inl none ↦ ap (λ m. get m n) t.2 ∙ none
         | inr y ↦
-            let q = from_tested (λ place. get B.contents (seat t.0.renaming.bank place)) (get t.0.renaming.buffers n) y.0
-            (sym (get-collected name_order (λ name place. get B.contents (seat t.0.renaming.bank place)) t.0.renaming.buffers n) ∙ y.1) in
-            let other = buffer_joined u.machine.sizes u.banks.items fit.placed.tables i t.0 t.1 n q.0 (fit.sized.banks.each i t.0 t.1).bank q.1 in
+            let q = from_tested (λ place. get B.contents (seat t.0.renaming.bank place)) (get t.0.renaming.buffers n)
+            y.0
+            (sym (get-collected name_order (λ name place. get B.contents (seat t.0.renaming.bank place))
+            t.0.renaming.buffers n) ∙ y.1) in
+            let other = buffer_joined u.machine.sizes u.banks.items fit.placed.tables i t.0 t.1 n q.0
+            (fit.sized.banks.each i t.0 t.1).bank q.1 in
             absurd (apart (same_Some i k (sym other ∙ held_joined)))
       ]
       | inr none ↦ ap (λ m. get m n) none ∙ get-empty name_cmp n
@@ -127,7 +130,8 @@ module _ (u : Units) (fit : IsFit u) where
         ∙ ap (λ i. get B.contents (seat i p)) (fit.sized.banks.each k b there).bank
 
   -- a buffer that is held has a place
-  pub has_place : (n : OpName) (k : ℕ) → get (state_of u).buffers n ≡ Some k → (s : OpName) × (place_of u.banks.items n ≡ Some s)
+  pub has_place : (n : OpName) (k : ℕ) → get (state_of u).buffers n ≡ Some k
+      → (s : OpName) × (place_of u.banks.items n ≡ Some s)
   has_place n k held =
       let few = (held_banks u.machine fit.reached.image (state_of u) n k fit.reached.reached).1 held in
       let within : k < length u.banks.items = subst (λ m. k < m) (sym fit.sized.banks.count) few in
@@ -141,7 +145,8 @@ module _ (u : Units) (fit : IsFit u) where
       let x = held_at u.banks.items n s at in
       let y = held_at u.banks.items m s other in
       let same : seat y.number y.place ≡ seat x.number x.place = sym y.seats ∙ x.seats in
-      let bank = same_Some y.bank x.bank (sym y.there ∙ ap (λ (s : OpName). slice_get u.banks.items s.task) same ∙ x.there) in
+      let bank = same_Some y.bank x.bank
+      (sym y.there ∙ ap (λ (s : OpName). slice_get u.banks.items s.task) same ∙ x.there) in
       ((fit.placed.own x.number x.bank x.there).apart.buffers) n m x.place x.held
       (ap (λ (b : Bank). get b.renaming.buffers m) (sym bank) ∙ y.held ∙ ap (λ (s : OpName). Some s.place) same)
 
@@ -161,15 +166,18 @@ module _ (u : Units) (fit : IsFit u) where
       let t = joined_somewhere name_order (map (contents_in B) u.banks.items) n bytes e in
       elim (bank_by (contents_in B) u.banks.items t.0) [
         | inl b ↦
-            let q = from_tested (λ place. get B.contents (seat b.0.renaming.bank place)) (get b.0.renaming.buffers n) bytes
-            (sym (get-collected name_order (λ name place. get B.contents (seat b.0.renaming.bank place)) b.0.renaming.buffers n)
+            let q = from_tested (λ place. get B.contents (seat b.0.renaming.bank place)) (get b.0.renaming.buffers n)
+            bytes
+            (sym (get-collected name_order (λ name place. get B.contents (seat b.0.renaming.bank place))
+            b.0.renaming.buffers n)
             ∙ ap (λ m. get m n) (sym b.2) ∙ t.1) in
             (seat t.0 q.0, place_there t.0 b.0 b.1 n q.0 q.1)
         | inr none ↦ absurd (none-some bytes (sym (get-empty name_cmp n) ∙ ap (λ m. get m n) (sym none) ∙ t.1))
       ]
 
   -- contents of held names that agree with other buffers are those of these buffers
-  pub contents_back : (B : BuffersState) (contents : Named (List ℕ)) → Agree (place_of u.banks.items) contents B.contents
+  pub contents_back : (B : BuffersState) (contents : Named (List ℕ))
+      → Agree (place_of u.banks.items) contents B.contents
       → ((n : OpName) (bytes : List ℕ) → get contents n ≡ Some bytes → (k : ℕ) × (get (state_of u).buffers n ≡ Some k))
       → contents_of B u.banks.items ≡ contents
   contents_back B contents agree held = same_by_get name_order _ _ (λ n. by n (place_of u.banks.items n) refl)
@@ -181,7 +189,8 @@ module _ (u : Units) (fit : IsFit u) where
           let s = has_place n k.0 k.1 in
           absurd (none-some s.0 (sym none ∙ s.1))
 
-      absent : (n : OpName) (o : Option (List ℕ)) → o ≡ get (contents_of B u.banks.items) n → place_of u.banks.items n ≡ None → o ≡ None
+      absent : (n : OpName) (o : Option (List ℕ)) → o ≡ get (contents_of B u.banks.items) n
+          → place_of u.banks.items n ≡ None → o ≡ None
       absent n None e none = refl
       absent n (Some bytes) e none =
           let s = placed_contents B n bytes (sym e) in

@@ -1,6 +1,5 @@
 -- What is known of a busy worker of the units.
-use Rattle.std.proofs.Common.{◌≡◌, ℕ, zero, suc, ◌<◌, ◌≤◌, Bool, true, false, true≢false, List, [], ◌∷◌, length, take, map, Option, Some, None, option_map, refl, sym, ap, ◌∙◌, subst, inl, inr, arith}
-use Rattle.std.specs.Prelude.{not}
+use Rattle.std.proofs.Common.{◌≡◌, ℕ, zero, suc, ◌<◌, ◌≤◌, Bool, true, false, true≢false, List, [], ◌∷◌, length, take, Option, Some, None, option_map, refl, sym, ap, ◌∙◌, subst, arith}
 use Rattle.std.specs.FinMap.{get, remove}
 use Rattle.std.proofs.lemmas.Option.{none-some, same_Some}
 use Rattle.std.proofs.lemmas.List.{length-map}
@@ -8,8 +7,7 @@ use Rattle.tss_base.specs.declared.bounds.TheConstants.{MAX_OPERANDS}
 use Rattle.tss_base.specs.declared.machine.Machine.{Machine}
 use Rattle.tss_base.specs.declared.machine.Key.TheVariants as key
 use Rattle.tss_base.specs.declared.event.Event.TheVariants as event
-use Rattle.tss_base.specs.Names.{Named, Numbered}
-use Rattle.tss_maps.proofs.Changes.{decide_get}
+use Rattle.tss_base.specs.Names.{Numbered}
 use Rattle.tss_maps.proofs.MappedLemmas.{get-mapped}
 use Rattle.tss_protocol.specs.Mail.{Mail, posted_all}
 use Rattle.tss_protocol.specs.State.{State, Busy, Flying, HeldTrap}
@@ -22,8 +20,8 @@ use Rattle.tss_stations.specs.Views.{state_of, flying_of, flight_of}
 use Rattle.tss_mail.specs.Letters.{mail_of}
 use Rattle.tss_workers.specs.declared.running.Worker.{Worker}
 use Rattle.tss_workers.specs.declared.workers.Finished.{Finished}
-use Rattle.tss_workers.specs.Seen.{busy_of, workers_of}
-use Rattle.tss_conditions.specs.Posting.{MayPostAll, MayPost, finish_sends, ArePostable}
+use Rattle.tss_workers.specs.Seen.{busy_of}
+use Rattle.tss_conditions.specs.Posting.{MayPostAll, finish_sends}
 use Rattle.tss_conditions.specs.Running.{IsRunning}
 use Rattle.tss_conditions.proofs.Running.{is_running}
 use Rattle.tss_conditions.proofs.Posting.{may_post}
@@ -68,7 +66,8 @@ flying_short s =
 
 short_in : (o : Option Slot) (y : Flying) → option_map flying_of o ≡ Some y → length y.operands ≤ y.task.count
 short_in None y e = absurd (none-some y e)
-short_in (Some s) y e = subst (λ (y : Flying). length y.operands ≤ y.task.count) (same_Some (flying_of s) y e) (flying_short s)
+short_in (Some s) y e = subst (λ (y : Flying). length y.operands ≤ y.task.count) (same_Some (flying_of s) y e)
+    (flying_short s)
 
 -- a task in flight has records for at most the operands that it counts
 pub few_records : (slots : Numbered Slot) (n : ℕ) (y : Flying) → get (flight_of slots) n ≡ Some y
@@ -122,11 +121,13 @@ module _ (u : Units) (fit : IsFit u) (w : ℕ) where
     pub may_release : May (event.Finish w) u → MayPostAll u.mail.size (mail_of u.mail)
         (flight_after_finish (flight_of u.stations.slots) x.task.number).sent
     may_release may =
-        let post = may_post u.machine fit.reached.image (pipeline.state_of u) (event.Finish w) fit.reached.reached may in
+        let post = may_post u.machine fit.reached.image (pipeline.state_of u) (event.Finish w) fit.reached.reached
+        may in
         let sent = ap (finish_sends (pipeline.state_of u)) busy_there in
         subst (λ n. MayPostAll n (mail_of u.mail) (flight_after_finish (flight_of u.stations.slots) x.task.number).sent)
         (sym fit.sized.mail)
-        (subst (MayPostAll (message_limit u.machine) (mail_of u.mail)) sent (record { fresh = post.fresh; room = post.room }))
+        (subst (MayPostAll (message_limit u.machine) (mail_of u.mail)) sent
+        (record { fresh = post.fresh; room = post.room }))
 
 -- the definitions' state after a finish
 pub finished_state : (m : Machine) (S : State) (w : ℕ) (b : Busy) → get S.workers w ≡ Some b

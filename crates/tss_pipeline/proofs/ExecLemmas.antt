@@ -1,10 +1,8 @@
 -- A stretch of a busy worker over storages by places is that of the definitions over names.
-use Rattle.std.proofs.Common.{◌≡◌, ℕ, ◌<◌, List, length, take, map, slice_get, Option, Some, None, option_map, refl, sym, ap, ◌∙◌, subst, inl, inr}
+use Rattle.std.proofs.Common.{◌≡◌, ℕ, take, Some, refl, sym, ap, ◌∙◌, subst, inl, inr}
 use Rattle.std.specs.FinMap.{get, insert}
 use Rattle.std.proofs.lemmas.List.{length-map}
-use Rattle.tss_base.specs.declared.operand.OpName.{OpName}
 use Rattle.tss_base.specs.declared.event.Event.TheVariants as event
-use Rattle.tss_base.specs.Names.{Named, Numbered}
 use Rattle.tss_maps.proofs.Keys.{nat_order}
 use Rattle.tss_maps.proofs.Changes.{from_inserted}
 use Rattle.tss_maps.proofs.MappedLemmas.{mapped-insert}
@@ -12,7 +10,6 @@ use Rattle.tss_model.specs.Memory.{Memory}
 use Rattle.tss_model.specs.Access.{operands_of}
 use Rattle.tss_model.specs.TaskRun.{TaskState}
 use Rattle.tss_events.specs.Events.{storage_name}
-use Rattle.tss_protocol.specs.State.{State, Busy}
 use Rattle.tss_protocol.specs.Workers.{Stores, exec_stretch, busy_after}
 use Rattle.tss_protocol.specs.UnitMachine as machine
 use Rattle.tss_protocol.specs.UnitMachine.{after_event, after_exec, with_executed}
@@ -20,7 +17,7 @@ use Rattle.tss_buffers.specs.Contents.{BuffersState}
 use Rattle.tss_workers.specs.declared.running.Worker.{Worker}
 use Rattle.tss_workers.specs.Seats.{seats_of}
 use Rattle.tss_workers.specs.Spots.{stores_of}
-use Rattle.tss_workers.specs.Seen.{WorkersState, busy_of, seated_of, workers_of, CanGoOn, Executes, ExecutesBy, worker_after}
+use Rattle.tss_workers.specs.Seen.{WorkersState, busy_of, seated_of, workers_of, CanGoOn, ExecutesBy, worker_after}
 use Rattle.tss_workers.specs.Agreement.{Agree, StandFor, TasksAgree}
 use Rattle.tss_workers.proofs.AgreementLemmas.{exec_agrees}
 use Rattle.tss_conditions.specs.Reached.{Reached}
@@ -64,7 +61,8 @@ module _ (u : Units) (fit : IsFit u) (w : ℕ) (x : Worker) (there : get u.worke
 
   stretch_agrees : TasksAgree (place_of u.banks.items)
       (exec_stretch u.code u.machine.limits u.machine.sizes.quantum (busy_of x) (machine.stores_of (state_of u)))
-      (exec_stretch u.code u.machine.limits u.machine.sizes.quantum (seated_of u.buffers.banks x) (stores_of u.space u.buffers))
+      (exec_stretch u.code u.machine.limits u.machine.sizes.quantum (seated_of u.buffers.banks x)
+      (stores_of u.space u.buffers))
   stretch_agrees =
       exec_agrees (place_of u.banks.items) u.code u.machine.limits u.machine.sizes.quantum (busy_of x)
       (seats_of u.buffers.banks x.task x.storages) (machine.stores_of (state_of u)) (stores_of u.space u.buffers)
@@ -78,13 +76,16 @@ module _ (u : Units) (fit : IsFit u) (w : ℕ) (x : Worker) (there : get u.worke
   executed_is = ap (after_exec u.machine (state_of u) w) (busy_there u fit w x there)
 
   module _ (may : May (event.Exec w) u) (new : WorkersState) (space : Memory) (buffers : BuffersState)
-      (e : ExecutesBy w u.code u.machine.limits.task_budget u.machine.sizes.quantum u.workers new x u.space space u.buffers buffers) where
+      (e : ExecutesBy w u.code u.machine.limits.task_budget u.machine.sizes.quantum u.workers new x u.space space
+      u.buffers buffers) where
     left_is : e.left ≡ worker_after x
-        (exec_stretch u.code u.machine.limits u.machine.sizes.quantum (seated_of u.buffers.banks x) (stores_of u.space u.buffers))
+        (exec_stretch u.code u.machine.limits u.machine.sizes.quantum (seated_of u.buffers.banks x)
+        (stores_of u.space u.buffers))
     left_is = e.executes.worker u.machine.limits refl
 
     stores_are : stores_of space buffers
-        ≡ (exec_stretch u.code u.machine.limits u.machine.sizes.quantum (seated_of u.buffers.banks x) (stores_of u.space u.buffers)).memory
+        ≡ (exec_stretch u.code u.machine.limits u.machine.sizes.quantum (seated_of u.buffers.banks x)
+        (stores_of u.space u.buffers)).memory
     stores_are = e.executes.stores u.machine.limits refl
 
     busy_left : busy_of e.left ≡ busy_after (busy_of x)
@@ -101,7 +102,8 @@ module _ (u : Units) (fit : IsFit u) (w : ℕ) (x : Worker) (there : get u.worke
         ∙ mapped-insert nat_order busy_of u.workers.entries w e.left
         ∙ ap (insert (workers_of u.workers.entries) w) busy_left
 
-    home_left : space ≡ (exec_stretch u.code u.machine.limits u.machine.sizes.quantum (busy_of x) (machine.stores_of (state_of u))).memory.home
+    home_left : space ≡ (exec_stretch u.code u.machine.limits u.machine.sizes.quantum (busy_of x)
+        (machine.stores_of (state_of u))).memory.home
     home_left = ap (λ (s : Stores). s.home) stores_are ∙ stretch_agrees.memory.home
 
     reached_executed : Reached u.machine fit.reached.image (with_executed (state_of u) w (busy_of x)
@@ -111,12 +113,15 @@ module _ (u : Units) (fit : IsFit u) (w : ℕ) (x : Worker) (there : get u.worke
         (reached_after u.machine fit.reached.image (state_of u) (event.Exec w) fit.reached.reached may)
 
     contents_left : contents_of buffers u.banks.items
-        ≡ (exec_stretch u.code u.machine.limits u.machine.sizes.quantum (busy_of x) (machine.stores_of (state_of u))).memory.contents
+        ≡ (exec_stretch u.code u.machine.limits u.machine.sizes.quantum (busy_of x)
+        (machine.stores_of (state_of u))).memory.contents
     contents_left =
         contents_back u fit buffers
-        (exec_stretch u.code u.machine.limits u.machine.sizes.quantum (busy_of x) (machine.stores_of (state_of u))).memory.contents
+        (exec_stretch u.code u.machine.limits u.machine.sizes.quantum (busy_of x)
+        (machine.stores_of (state_of u))).memory.contents
         (subst (Agree (place_of u.banks.items)
-        (exec_stretch u.code u.machine.limits u.machine.sizes.quantum (busy_of x) (machine.stores_of (state_of u))).memory.contents)
+        (exec_stretch u.code u.machine.limits u.machine.sizes.quantum (busy_of x)
+        (machine.stores_of (state_of u))).memory.contents)
         (ap (λ (s : Stores). s.contents) (sym stores_are)) stretch_agrees.memory.contents)
         (λ n bytes at.
         (contents_whole u.machine fit.reached.image (with_executed (state_of u) w (busy_of x)
@@ -136,6 +141,6 @@ module _ (u : Units) (fit : IsFit u) (w : ℕ) (x : Worker) (there : get u.worke
     pub left_holds : (v : ℕ) (y : Worker) → get new.entries v ≡ Some y → HoldsStorages (ground_of u) y
     left_holds v y at = elim (from_inserted nat_order u.workers.entries w e.left v y
         (ap (λ (t : WorkersState). get t.entries v) (sym e.workers) ∙ at)) [
-      | inl is ↦ subst (HoldsStorages (ground_of u)) (sym left_is ∙ sym is.1) (fit.placed.workers w x there)
-      | inr old ↦ fit.placed.workers v y old.1
-    ]
+          | inl is ↦ subst (HoldsStorages (ground_of u)) (sym left_is ∙ sym is.1) (fit.placed.workers w x there)
+          | inr old ↦ fit.placed.workers v y old.1
+        ]

@@ -1,11 +1,11 @@
 -- The ranges of an image's memory are in address order, and share no address.
-use Rattle.std.proofs.Common.{◌≡◌, ℕ, ◌+◌, ◌<◌, ◌≤◌, true, List, [], ◌∷◌, ◌++◌, length, map, get_or, sym, ap, subst, ◌∙◌, arith, length-append}
+use Rattle.std.proofs.Common.{ℕ, ◌<◌, ◌≤◌, true, List, [], ◌∷◌, length, map, get_or, sym, subst, arith, length-append}
 use Rattle.std.specs.Prelude.{All, AllPairs}
 use Rattle.std.proofs.lemmas.List.{get_or-map, length-map}
 use Rattle.std.proofs.lemmas.List.Elements.{All-get_or, All-map, All-push, All-weaker}
 use Rattle.std.proofs.lemmas.List.Quantifiers.{all_pairs_push}
 use Rattle.tss_base.specs.Range.{end_of}
-use Rattle.tss_base.specs.Image.{SegmentState, ImageState, IsAccepted, IsSegment, segment_end}
+use Rattle.tss_base.specs.Image.{ImageState, IsAccepted, IsSegment, segment_end}
 use Rattle.tss_model.specs.Memory.{MemoryRange, memory_range, memory_ranges, stack_range}
 use Rattle.tss_memory.specs.Ranges.{AreRanges, IsPlaced}
 

@@ -1,15 +1,14 @@
 -- The releases of a task's operands from a place on, and that they may be posted one after the other.
-use Rattle.std.proofs.Common.{◌≡◌, ℕ, zero, suc, ◌+◌, ◌≤◌, List, [], ◌∷◌, ◌++◌, length, drop, slice_get, Option, Some, None, refl, sym, ap, ◌∙◌, subst, arith}
+use Rattle.std.proofs.Common.{◌≡◌, ℕ, zero, suc, ◌+◌, ◌≤◌, List, [], ◌∷◌, ◌++◌, length, drop, slice_get, Option, Some, None, refl, sym, ap, ◌∙◌, arith}
 use Rattle.std.specs.Prelude.{option_and_then}
 use Rattle.std.specs.FinMap.{get}
-use Rattle.std.proofs.lemmas.Option.{none-some, same_Some, slice_get_within}
-use Rattle.tss_base.specs.declared.bounds.TheConstants.{MAX_OPERANDS}
+use Rattle.std.proofs.lemmas.Option.{none-some, same_Some}
 use Rattle.tss_base.specs.Names.{Numbered}
 use Rattle.tss_protocol.specs.Names.{operand_name}
-use Rattle.tss_protocol.specs.Mail.{Mail, Message, message_count, posted, posted_all}
+use Rattle.tss_protocol.specs.Mail.{Mail, Message, posted, posted_all}
 use Rattle.tss_protocol.specs.State.{OperandState, Flying}
 use Rattle.tss_protocol.specs.Stations.{operand_at, release_of, releases_from, flight_after_finish, finished_in}
-use Rattle.tss_conditions.specs.Posting.{ArePostable, MayPostAll}
+use Rattle.tss_conditions.specs.Posting.{MayPostAll}
 use Rattle.tss_conditions.proofs.Postable.{post_next}
 use Rattle.tss_pipeline.specs.Ending.{releases_in}
 
@@ -87,7 +86,8 @@ module _ (task : ℕ) where
         ≡ release_of (operand_name task place) r r.source ++ releases_in task (place + 1) (get flight task)
     next_release place r e =
         next_in place (get flight task) r e
-        ∙ ap (λ n. release_of (operand_name task place) r r.source ++ releases_in task n (get flight task)) (after place)
+        ∙ ap (λ n. release_of (operand_name task place) r r.source ++ releases_in task n (get flight task))
+        (after place)
       where
         after : (n : ℕ) → suc n ≡ n + 1
         after n = omega arith

@@ -1,6 +1,6 @@
 -- A task that may run over storages by names may run over the same storages by places.
-use Rattle.std.proofs.Common.{◌≡◌, ◌≢◌, ℕ, zero, suc, ◌<◌, ◌≤◌, List, [], ◌∷◌, length, take, map, slice_get, Option, Some, None, refl, sym, ap, ◌∙◌, subst, arith}
-use Rattle.std.specs.Prelude.{IsSome, ◌%◌, ◌/◌}
+use Rattle.std.proofs.Common.{◌≡◌, ℕ, zero, suc, ◌<◌, ◌≤◌, List, [], ◌∷◌, length, take, map, slice_get, Option, Some, None, refl, sym, ap, ◌∙◌, subst, arith}
+use Rattle.std.specs.Prelude.{IsSome}
 use Rattle.std.specs.FinMap.{get}
 use Rattle.std.proofs.lemmas.Option.{none-some, same_Some, slice_get_within}
 use Rattle.tss_base.specs.declared.machine.Key.TheVariants as key
@@ -13,12 +13,11 @@ use Rattle.tss_base.specs.declared.operand.Task.{Task}
 use Rattle.tss_base.specs.Range.{meets}
 use Rattle.tss_model.specs.Access.{operands_of}
 use Rattle.tss_memory.specs.Ranges.{AreRanges}
-use Rattle.tss_steps.specs.Placing.{IsGround}
 use Rattle.tss_events.specs.Events.{storage_name}
 use Rattle.tss_protocol.specs.Names.{bank_of}
 use Rattle.tss_protocol.specs.Mail.{StorageName, Home, Buffer}
 use Rattle.tss_protocol.specs.Workers.{Placed, placed_in}
-use Rattle.tss_buffers.specs.Contents.{BuffersState, seat}
+use Rattle.tss_buffers.specs.Contents.{seat}
 use Rattle.tss_workers.specs.Seats.{bank_in, seat_in, seats_in, seats_of, placed_by, AreApart, AreSeated, AreSet}
 use Rattle.tss_workers.specs.Seen.{CanWork}
 use Rattle.tss_workers.specs.Agreement.{StandsFor, StandFor}
@@ -43,8 +42,11 @@ stand_for place_of banks zero [] ss many long each = tt
 stand_for place_of banks (suc n) [] ss many long each = absurd (omega (arith, many))
 stand_for place_of banks zero (o ∷ os) ss many long each = absurd (omega (arith, many))
 stand_for place_of banks (suc n) (o ∷ os) [] many long each = absurd (omega (arith, long))
-stand_for place_of banks (suc n) (o ∷ os) (s ∷ ss) many long each =
-    (each zero o s refl refl, stand_for place_of banks n os ss (omega (arith, many)) (omega (arith, long)) (λ k. each (suc k)))
+stand_for place_of banks (suc n) (o ∷ os) (s ∷ ss) many long each = (
+  each zero o s refl refl,
+  stand_for place_of banks n os ss (omega (arith, many)) (omega (arith, long))
+      (λ k. each (suc k)),
+)
 
 -- the name of a buffer that is one of them
 pub name_of_seat : (place_of : OpName → Option OpName) (ns ps : List StorageName) → StandFor place_of ns ps
@@ -133,8 +135,10 @@ module _ (u : Units) (fit : IsFit u) where
       buffers = λ i j p q n less at other here there.
           let x = placed_at (operands_of t) (seats_of u.buffers.banks t ss) i p at in
           let y = placed_at (operands_of t) (seats_of u.buffers.banks t ss) j q other in
-          let v = name_of_seat (place_of u.banks.items) ns (seats_of u.buffers.banks t ss) stand i n (x.storage ∙ ap Some here) in
-          let w = name_of_seat (place_of u.banks.items) ns (seats_of u.buffers.banks t ss) stand j n (y.storage ∙ ap Some there) in
+          let v = name_of_seat (place_of u.banks.items) ns (seats_of u.buffers.banks t ss) stand i n
+          (x.storage ∙ ap Some here) in
+          let w = name_of_seat (place_of u.banks.items) ns (seats_of u.buffers.banks t ss) stand j n
+          (y.storage ∙ ap Some there) in
           let same = one_name u fit v.0 w.0 n v.2 w.2 in
           let e = may.single i j w.0 (v.1 ∙ ap (λ n. Some (Buffer n)) same) w.1 in
           omega (arith, less, e);
@@ -143,7 +147,8 @@ module _ (u : Units) (fit : IsFit u) where
     are_seated : AreSeated u.buffers (placed_by u.buffers.banks t ss)
     are_seated i p n at here =
         let x = placed_at (operands_of t) (seats_of u.buffers.banks t ss) i p at in
-        let v = name_of_seat (place_of u.banks.items) ns (seats_of u.buffers.banks t ss) stand i n (x.storage ∙ ap Some here) in
+        let v = name_of_seat (place_of u.banks.items) ns (seats_of u.buffers.banks t ss) stand i n
+        (x.storage ∙ ap Some here) in
         let h = held_at u.banks.items v.0 n v.2 in
         let sized = fit.sized.banks.each h.number h.bank h.there in
         record {
@@ -182,7 +187,8 @@ module _ (u : Units) (fit : IsFit u) where
         → AreSet u.buffers.contents (placed_by u.buffers.banks t ss)
     are_set set i p n at here =
         let x = placed_at (operands_of t) (seats_of u.buffers.banks t ss) i p at in
-        let v = name_of_seat (place_of u.banks.items) ns (seats_of u.buffers.banks t ss) stand i n (x.storage ∙ ap Some here) in
+        let v = name_of_seat (place_of u.banks.items) ns (seats_of u.buffers.banks t ss) stand i n
+        (x.storage ∙ ap Some here) in
         let bytes = set i v.0 v.1 in
         some_there (get u.buffers.contents n) bytes.0
         (sym ((contents_agree u fit u.buffers).same v.0 n v.2) ∙ bytes.1)

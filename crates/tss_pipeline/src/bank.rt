@@ -5,8 +5,8 @@ ghost use Rattle.tss_pipeline.specs.Registering.{is_home, CanBringHome, BringsHo
 ghost use Rattle.tss_pipeline.specs.Pieces.{CopiesWithin, IsPieceOf, gone_with};
 ghost use Rattle.tss_pipeline.specs.Emptiness.{is_empty};
 
-use tss_base::{OpName, Range, Storage};
 use std::mem;
+use tss_base::{OpName, Range, Storage};
 use tss_buffers::{CopyEngine, Moved};
 use tss_events::{Gone, HeldBuffer};
 use tss_renaming::Renaming;
@@ -132,12 +132,14 @@ impl Bank {
         ensures left { self.new ≡ record self.old { job = None } }
     {
         match self.job.take() {
-            Some(Job {
-                version,
-                object,
-                place,
-                buffer,
-            }) => Gone {
+            Some(
+                Job {
+                    version,
+                    object,
+                    place,
+                    buffer,
+                },
+            ) => Gone {
                 version,
                 object,
                 place,

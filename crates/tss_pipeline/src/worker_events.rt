@@ -22,8 +22,8 @@ ghost use Rattle.tss_pipeline.specs.State.{state_of, held_trap};
 
 use crate::bank::Piece;
 use crate::units::{TaskTrap, Units};
-use tss_base::{Event, Mode, OpName, Operand, Storage, Task, Trap};
 use tss_base::bounds::MAX_OPERANDS;
+use tss_base::{Event, Mode, OpName, Operand, Storage, Task, Trap};
 use tss_events::{Gone, Message};
 use tss_mail::Mail;
 use tss_memory::Space;
@@ -202,7 +202,10 @@ impl Units {
         let task = *task;
         let storages = self.storages_of(&task);
         self.stations.begin(number);
-        match self.workers.start(w, &task, &storages, &mut self.space, &mut self.buffers) {
+        match self
+            .workers
+            .start(w, &task, &storages, &mut self.space, &mut self.buffers)
+        {
             Ok(()) => {}
             Err(_) => unreachable!(),
         }
@@ -243,7 +246,14 @@ impl Units {
     {
         let budget = self.machine.limits.task_budget;
         let quantum = self.machine.sizes.quantum;
-        match self.workers.exec(w, &self.code, &mut self.space, &mut self.buffers, budget, quantum) {
+        match self.workers.exec(
+            w,
+            &self.code,
+            &mut self.space,
+            &mut self.buffers,
+            budget,
+            quantum,
+        ) {
             Ok(()) => {}
             Err(_) => unreachable!(),
         }

@@ -1,6 +1,5 @@
 -- Operand by operand the first release may be posted, and then the others.
-use Rattle.std.proofs.Common.{◌≡◌, ℕ, ◌+◌, ◌-◌, ◌≤◌, List, [], ◌++◌, length, Option, Some, None, refl, sym, ap, ◌∙◌, subst, arith}
-use Rattle.std.specs.Prelude.{option_map}
+use Rattle.std.proofs.Common.{◌+◌, refl, sym, ap, ◌∙◌, subst, arith}
 use Rattle.std.specs.FinMap.{get}
 use Rattle.tss_protocol.specs.Names.{operand_name}
 use Rattle.tss_protocol.specs.Mail.{posted_all}
@@ -74,7 +73,7 @@ returns-clause-posted c =
     let flight = flight_of c.args.stations.now.slots in
     let past = c.loop-place-test.false in
     let none = past_releases c.args.task flight c.loop-place.place
-        (λ x at. let few = c.requires.few x at in omega (arith, few, past)) in
+    (λ x at. let few = c.requires.few x at in omega (arith, few, past)) in
     ap (posted_all (mail_of c.loop-place.mail)) (sym none) ∙ c.loop-place.invariant.posted
 
 pub returns-clause-rest : goal.returns-clause-rest

@@ -1,5 +1,5 @@
 -- The releases from the place on may be posted, and with them it is the mail of the end.
-use Rattle.std.proofs.Common.{◌≡◌, ℕ, ◌-◌, ◌≤◌}
+use Rattle.std.proofs.Common.{◌≡◌, ◌-◌, ◌≤◌}
 use Rattle.std.specs.FinMap.{get}
 use Rattle.tss_base.specs.declared.bounds.TheConstants.{MAX_OPERANDS}
 use Rattle.tss_protocol.specs.Mail.{posted_all}

@@ -1,5 +1,5 @@
 -- The next piece of a bank's copy goes home.
-use Rattle.std.proofs.Common.{◌≡◌, ℕ, ◌+◌, ◌<◌, ◌≤◌, length, take, drop, refl, sym, ap, ◌∙◌, subst, arith, Option, Some}
+use Rattle.std.proofs.Common.{◌≡◌, ℕ, take, drop, refl, sym, ap, ◌∙◌, subst, arith}
 use Rattle.std.specs.Prelude.{IfSome}
 use Rattle.std.specs.FinMap.{get}
 use Rattle.std.proofs.lemmas.Option.{slice_get_within}
@@ -34,16 +34,18 @@ pub bytes-bytes-requires : goal.bytes-bytes-requires
 bytes-bytes-requires c =
     let u = c.args.self.now in
     let x = copies u c.requires.fit c.args.b c.requires.may in
-    let piece = piece_of_bank u.banks.items c.args.b x c.index_mut.result.now c.next_piece-place.new.self c.next_piece-place.result
-        c.index_mut.ensures.value c.next_piece-place.ensures in
+    let piece = piece_of_bank u.banks.items c.args.b x c.index_mut.result.now c.next_piece-place.new.self
+    c.next_piece-place.result
+    c.index_mut.ensures.value c.next_piece-place.ensures in
     subst (HasBuffer u.buffers c.args.b) (sym piece.place) (buffer_place u c.requires.fit c.args.b c.requires.may)
 
 pub copy_part-requires-clause-there : goal.copy_part-requires-clause-there
 copy_part-requires-clause-there c =
     let u = c.args.self.now in
     let x = copies u c.requires.fit c.args.b c.requires.may in
-    let piece = piece_of_bank u.banks.items c.args.b x c.index_mut.result.now c.next_piece-place.new.self c.next_piece-place.result
-        c.index_mut.ensures.value c.next_piece-place.ensures in
+    let piece = piece_of_bank u.banks.items c.args.b x c.index_mut.result.now c.next_piece-place.new.self
+    c.next_piece-place.result
+    c.index_mut.ensures.value c.next_piece-place.ensures in
     let there = piece_there u c.requires.fit c.args.b c.requires.may in
     let from = piece.from in
     let many = piece.len in
@@ -54,8 +56,9 @@ pub copy_part-requires-clause-within : goal.copy_part-requires-clause-within
 copy_part-requires-clause-within c =
     let u = c.args.self.now in
     let x = copies u c.requires.fit c.args.b c.requires.may in
-    let piece = piece_of_bank u.banks.items c.args.b x c.index_mut.result.now c.next_piece-place.new.self c.next_piece-place.result
-        c.index_mut.ensures.value c.next_piece-place.ensures in
+    let piece = piece_of_bank u.banks.items c.args.b x c.index_mut.result.now c.next_piece-place.new.self
+    c.next_piece-place.result
+    c.index_mut.ensures.value c.next_piece-place.ensures in
     subst (λ (p : ℕ × ℕ). CanWrite u.space.ranges p.0 p.1) (λ i. (sym piece.to i, sym piece.len i))
     (can_write u c.requires.fit c.args.b c.requires.may)
 
@@ -63,8 +66,9 @@ pub post_gone-requires : goal.post_gone-requires
 post_gone-requires c =
     let u = c.args.self.now in
     let x = copies u c.requires.fit c.args.b c.requires.may in
-    let piece = piece_of_bank u.banks.items c.args.b x c.index_mut.result.now c.next_piece-place.new.self c.next_piece-place.result
-        c.index_mut.ensures.value c.next_piece-place.ensures in
+    let piece = piece_of_bank u.banks.items c.args.b x c.index_mut.result.now c.next_piece-place.new.self
+    c.next_piece-place.result
+    c.index_mut.ensures.value c.next_piece-place.ensures in
     subst (λ g. MayPostAll u.mail.size (mail_of u.mail) (gone_messages g)) (sym piece.gone)
     (may_send u c.requires.fit c.args.b c.requires.may)
 
@@ -78,7 +82,8 @@ returns c =
     let x = copies u fit n may in
     let new = c.next_piece-place.new.self in
     let p = c.next_piece-place.result in
-    let piece = piece_of_bank u.banks.items n x c.index_mut.result.now new p c.index_mut.ensures.value c.next_piece-place.ensures in
+    let piece = piece_of_bank u.banks.items n x c.index_mut.result.now new p c.index_mut.ensures.value
+    c.next_piece-place.ensures in
     let bytes = c.bytes-bytes.result.now in
     let mail = c.post_gone.new.mail in
     let rest = c.post_gone.ensures.rest ∙ ap (λ g. record (u.mail) { gones = gones_with u.mail.gones g }) piece.gone in

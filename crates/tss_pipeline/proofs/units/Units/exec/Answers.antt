@@ -1,5 +1,5 @@
 -- A worker's task goes a stretch further.
-use Rattle.std.proofs.Common.{◌≡◌, refl, sym, ap, ◌∙◌, subst, Option, Some, option_map}
+use Rattle.std.proofs.Common.{refl, sym, ap, ◌∙◌, subst, option_map}
 use Rattle.std.specs.FinMap.{get}
 use Rattle.tss_base.specs.declared.event.Event.TheVariants as event
 use Rattle.tss_protocol.specs.Workers.{can_exec}
@@ -33,8 +33,9 @@ returns c =
     let fit = c.requires.fit in
     let sized = fit.sized in
     let x = exec_worker u fit w c.requires.may in
-    let e = subst (λ o. ExecutesIn w u.code u.machine.limits.task_budget u.machine.sizes.quantum u.workers c.exec.new.self o
-        u.space c.exec.new.space u.buffers c.exec.new.buffers) x.1 c.in-Ok.ensures.exact in
+    let e = subst (λ o. ExecutesIn w u.code u.machine.limits.task_budget u.machine.sizes.quantum u.workers
+    c.exec.new.self o
+    u.space c.exec.new.space u.buffers c.exec.new.buffers) x.1 c.in-Ok.ensures.exact in
     let sizes = e.executes.sizes in
     does (event.Exec w) u _ fit c.requires.may refl
     (executed_state u fit w x.0 x.1 c.requires.may c.exec.new.self c.exec.new.space c.exec.new.buffers e)

@@ -1,5 +1,5 @@
 -- A worker that is busy with a task that is over: its operands' releases may be posted, and the state is that after it.
-use Rattle.std.proofs.Common.{◌≡◌, refl, sym, ap, ◌∙◌, subst, Option, Some, option_map}
+use Rattle.std.proofs.Common.{refl, sym, ap, ◌∙◌, subst, option_map}
 use Rattle.std.specs.FinMap.{get, remove}
 use Rattle.tss_base.specs.declared.event.Event.TheVariants as event
 use Rattle.tss_maps.proofs.Keys.{nat_order}
@@ -35,14 +35,16 @@ release_all-requires-clause-few c = λ y at.
     let u = c.args.self.now in
     let x = finish_worker u c.requires.fit c.args.w c.requires.may in
     let is = ended_is (get u.workers.entries c.args.w) x.0 c.in-Ok.finished x.1 c.in-Ok.ensures.exact in
-    few_in_flight u c.requires.fit c.args.w x.0 x.1 y (ap (λ (f : Finished). get (flight_of u.stations.slots) f.task) is ∙ at)
+    few_in_flight u c.requires.fit c.args.w x.0 x.1 y
+    (ap (λ (f : Finished). get (flight_of u.stations.slots) f.task) is ∙ at)
 
 pub release_all-requires-clause-may : goal.release_all-requires-clause-may
 release_all-requires-clause-may c =
     let u = c.args.self.now in
     let x = finish_worker u c.requires.fit c.args.w c.requires.may in
     let is = ended_is (get u.workers.entries c.args.w) x.0 c.in-Ok.finished x.1 c.in-Ok.ensures.exact in
-    subst (λ (f : Finished). MayPostAll u.mail.size (mail_of u.mail) (flight_after_finish (flight_of u.stations.slots) f.task).sent) is
+    subst (λ (f : Finished). MayPostAll u.mail.size (mail_of u.mail)
+    (flight_after_finish (flight_of u.stations.slots) f.task).sent) is
     (may_release u c.requires.fit c.args.w x.0 x.1 c.requires.may)
 
 pub returns : goal.returns
@@ -55,14 +57,15 @@ returns c =
     let is = ended_is (get u.workers.entries w) x.0 c.in-Ok.finished x.1 c.in-Ok.ensures.exact in
     let idle = c.in-Ok.ensures.idle in
     let rest = c.release_all.ensures.rest in
-    let flight = c.finish-2.ensures.flight ∙ ap (λ (f : Finished). (flight_after_finish S.flight f.task).part) (sym is) in
+    let flight = c.finish-2.ensures.flight
+    ∙ ap (λ (f : Finished). (flight_after_finish S.flight f.task).part) (sym is) in
     let workers = ap (λ t. workers_of t.entries) idle ∙ mapped-remove nat_order busy_of u.workers.entries w in
     let mail = c.release_all.ensures.posted
-        ∙ ap (λ (f : Finished). posted_all S.mail (flight_after_finish S.flight f.task).sent) (sym is) in
+    ∙ ap (λ (f : Finished). posted_all S.mail (flight_after_finish S.flight f.task).sent) (sym is) in
     let trap = c.hold.ensures ∙ ap (λ (f : Finished). trap_after_finish S.trap f.task f.trap) (sym is) in
     let state = finished_state u.machine S w (busy_of x.0) (busy_there u c.requires.fit w x.0 x.1)
-        (flight_of c.finish-2.new.self.slots) (workers_of c.finish.new.self.entries) (mail_of c.release_all.new.mail)
-        (option_map held_trap c.hold.new.held) flight workers mail trap in
+    (flight_of c.finish-2.new.self.slots) (workers_of c.finish.new.self.entries) (mail_of c.release_all.new.mail)
+    (option_map held_trap c.hold.new.held) flight workers mail trap in
     does (event.Finish w) u _ c.requires.fit c.requires.may refl state
     (record {
       limits = sized.limits;

@@ -1,6 +1,5 @@
 -- The front task of the queue runs on an idle worker.
-use Rattle.std.proofs.Common.{◌≡◌, ℕ, ◌≤◌, length, refl, sym, ap, ◌∙◌, subst, Option, Some, None, arith, ◌<◌}
-use Rattle.std.specs.Prelude.{IsSome}
+use Rattle.std.proofs.Common.{◌≤◌, length, refl, ap, ◌∙◌, subst, arith, ◌<◌}
 use Rattle.std.specs.FinMap.{get}
 use Rattle.tss_base.specs.declared.event.Event.TheVariants as event
 use Rattle.tss_stations.specs.Views.{flight_of}
@@ -29,14 +28,16 @@ storages_of-storages-requires-clause-count c =
     let u = c.args.self.now in
     let x = startable u c.requires.fit c.args.w c.requires.may c.in-Some.number c.in-Some.ensures.exact in
     task_few u c.requires.fit c.args.w c.requires.may c.in-Some.number c.in-Some.ensures.exact c.in-Some-find.task.now
-    (task_shown u c.in-Some.number x.flying c.in-Some-find.task.now c.in-Some-find.field-0-1 x.there c.in-Some-find.ensures)
+    (task_shown u c.in-Some.number x.flying c.in-Some-find.task.now c.in-Some-find.field-0-1 x.there
+    c.in-Some-find.ensures)
 
 pub storages_of-storages-requires-clause-held : goal.storages_of-storages-requires-clause-held
 storages_of-storages-requires-clause-held c =
     let u = c.args.self.now in
     let x = startable u c.requires.fit c.args.w c.requires.may c.in-Some.number c.in-Some.ensures.exact in
     are_held u c.requires.fit c.args.w c.requires.may c.in-Some.number c.in-Some.ensures.exact c.in-Some-find.task.now
-    (task_shown u c.in-Some.number x.flying c.in-Some-find.task.now c.in-Some-find.field-0-1 x.there c.in-Some-find.ensures)
+    (task_shown u c.in-Some.number x.flying c.in-Some-find.task.now c.in-Some-find.field-0-1 x.there
+    c.in-Some-find.ensures)
 
 pub start-requires-clause-worker : goal.start-requires-clause-worker
 start-requires-clause-worker c = start_within c.args.self.now c.requires.fit c.args.w c.requires.may
@@ -49,14 +50,17 @@ start-requires-clause-listed c =
     let u = c.args.self.now in
     let x = startable u c.requires.fit c.args.w c.requires.may c.in-Some.number c.in-Some.ensures.exact in
     listed_few u c.requires.fit c.args.w c.requires.may c.in-Some.number c.in-Some.ensures.exact c.in-Some-find.task.now
-    (task_shown u c.in-Some.number x.flying c.in-Some-find.task.now c.in-Some-find.field-0-1 x.there c.in-Some-find.ensures)
+    (task_shown u c.in-Some.number x.flying c.in-Some-find.task.now c.in-Some-find.field-0-1 x.there
+    c.in-Some-find.ensures)
 
 pub start-requires-clause-works : goal.start-requires-clause-works
 start-requires-clause-works c =
     let u = c.args.self.now in
     let x = startable u c.requires.fit c.args.w c.requires.may c.in-Some.number c.in-Some.ensures.exact in
-    let is = task_shown u c.in-Some.number x.flying c.in-Some-find.task.now c.in-Some-find.field-0-1 x.there c.in-Some-find.ensures in
-    let few = task_few u c.requires.fit c.args.w c.requires.may c.in-Some.number c.in-Some.ensures.exact c.in-Some-find.task.now is in
+    let is = task_shown u c.in-Some.number x.flying c.in-Some-find.task.now c.in-Some-find.field-0-1 x.there
+    c.in-Some-find.ensures in
+    let few = task_few u c.requires.fit c.args.w c.requires.may c.in-Some.number c.in-Some.ensures.exact
+    c.in-Some-find.task.now is in
     let long : c.in-Some-find.task.now.count ≤ length c.storages_of-storages.result = omega (arith, few) in
     works u c.requires.fit c.args.w c.requires.may c.in-Some.number c.in-Some.ensures.exact c.in-Some-find.task.now is
     c.storages_of-storages.result long c.storages_of-storages.ensures
@@ -73,8 +77,10 @@ returns c =
     let fit = c.requires.fit in
     let sized = fit.sized in
     let x = startable u c.requires.fit c.args.w c.requires.may c.in-Some.number c.in-Some.ensures.exact in
-    let is = task_shown u c.in-Some.number x.flying c.in-Some-find.task.now c.in-Some-find.field-0-1 x.there c.in-Some-find.ensures in
-    let few = task_few u c.requires.fit c.args.w c.requires.may c.in-Some.number c.in-Some.ensures.exact c.in-Some-find.task.now is in
+    let is = task_shown u c.in-Some.number x.flying c.in-Some-find.task.now c.in-Some-find.field-0-1 x.there
+    c.in-Some-find.ensures in
+    let few = task_few u c.requires.fit c.args.w c.requires.may c.in-Some.number c.in-Some.ensures.exact
+    c.in-Some-find.task.now is in
     let long : c.in-Some-find.task.now.count ≤ length c.storages_of-storages.result = omega (arith, few) in
     let zeroed = c.in-Ok.ensures.zeroed in
     let begun = c.in-Ok.ensures.begun in

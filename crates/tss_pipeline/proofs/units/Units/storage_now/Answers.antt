@@ -1,5 +1,5 @@
 -- A buffer's place is the one that its bank holds under its name.
-use Rattle.std.proofs.Common.{◌≡◌, ℕ, length, slice_get, Option, Some, None, refl, sym, ap, ◌∙◌, subst}
+use Rattle.std.proofs.Common.{slice_get, Some, refl, sym, ap, ◌∙◌}
 use Rattle.std.specs.FinMap.{get}
 use Rattle.std.proofs.lemmas.Option.{same_Some}
 use Rattle.tss_base.specs.declared.operand.Storage.TheVariants as storage
@@ -16,7 +16,8 @@ unreachable-requires c =
     let n = c.in-Buffer.name in
     let found = at_place bs c.bank_of-bank.result b c.bank_of-bank.ensures.within c.index.ensures in
     not_there (get b.renaming.buffers n) c.in-None.ensures.exact
-    (c.requires.held c.in-Buffer.field-0 n b (ap Some c.in-Buffer.is) (ap (slice_get bs) (sym c.bank_of-bank.ensures.exact) ∙ found))
+    (c.requires.held c.in-Buffer.field-0 n b (ap Some c.in-Buffer.is)
+    (ap (slice_get bs) (sym c.bank_of-bank.ensures.exact) ∙ found))
 
 pub returns-in-Some : goal.returns-in-Some
 returns-in-Some c =

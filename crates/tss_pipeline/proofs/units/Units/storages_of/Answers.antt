@@ -1,8 +1,6 @@
 -- One operand's storage more.
-use Rattle.std.proofs.Common.{◌≡◌, ◌≢◌, ℕ, ◌+◌, ◌<◌, length, set, slice_get, Option, Some, None, refl, sym, ap, ◌∙◌, subst, arith, inl, inr}
+use Rattle.std.proofs.Common.{◌<◌, length, set, slice_get, refl, sym, ◌∙◌, subst, arith, inl, inr}
 use Rattle.std.proofs.lemmas.List.{length-set}
-use Rattle.tss_base.specs.declared.operand.Storage.{Storage}
-use Rattle.tss_base.specs.declared.operand.Storage.TheVariants as storage
 use Rattle.tss_pipeline.specs.Fit.{ground_of}
 use Rattle.tss_pipeline.specs.Beginning.{IsStoredAt}
 use Rattle.tss_pipeline.proofs.StorageLemmas.{last_or_before, written_place, written_beside}
@@ -27,7 +25,8 @@ loop-place-preserved c =
       found = λ k few. elim (last_or_before k place few) [
         | inl same ↦
             subst (λ k. IsStoredAt (ground_of u) u.stations.slots t k (slice_get (set xs place s) k)) (sym same)
-            (subst (IsStoredAt (ground_of u) u.stations.slots t place) (sym (written_place xs place s within)) c.storage_at.ensures)
+            (subst (IsStoredAt (ground_of u) u.stations.slots t place) (sym (written_place xs place s within))
+            c.storage_at.ensures)
         | inr before ↦
             subst (IsStoredAt (ground_of u) u.stations.slots t k)
             (sym (written_beside xs place k s (λ e. omega (arith, e, before))))
