@@ -82,9 +82,6 @@ pub held_at : (bs : List Bank) (n s : OpName) → place_of bs n ≡ Some s → H
 held_at bs n s e = held_by bs n s (get (joined_tables (bank_tables bs)).buffers n) e
 
 module _ (u : Units) (fit : IsFit u) where
-  abbrev banks : List Bank
-  banks = u.banks.items
-
   module _ (k : ℕ) (b : Bank) (there : slice_get u.banks.items k ≡ Some b) (n : OpName) (p : ℕ)
       (held : get b.renaming.buffers n ≡ Some p) where
     -- what a bank holds is held in all banks' tables

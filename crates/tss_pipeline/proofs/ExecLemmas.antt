@@ -59,10 +59,7 @@ module _ (u : Units) (fit : IsFit u) (w : ℕ) (x : Worker) (there : get u.worke
       exec_stretch u.code u.machine.limits u.machine.sizes.quantum (seated_of u.buffers.banks x)
       (stores_of u.space u.buffers)
 
-  stretch_agrees : TasksAgree (place_of u.banks.items)
-      (exec_stretch u.code u.machine.limits u.machine.sizes.quantum (busy_of x) (machine.stores_of (state_of u)))
-      (exec_stretch u.code u.machine.limits u.machine.sizes.quantum (seated_of u.buffers.banks x)
-      (stores_of u.space u.buffers))
+  stretch_agrees : TasksAgree (place_of u.banks.items) by_names by_places
   stretch_agrees =
       exec_agrees (place_of u.banks.items) u.code u.machine.limits u.machine.sizes.quantum (busy_of x)
       (seats_of u.buffers.banks x.task x.storages) (machine.stores_of (state_of u)) (stores_of u.space u.buffers)
@@ -70,62 +67,46 @@ module _ (u : Units) (fit : IsFit u) (w : ℕ) (x : Worker) (there : get u.worke
 
   -- the definitions' state after it
   executed_is : after_event u.machine (state_of u) (event.Exec w)
-      ≡ with_executed (state_of u) w (busy_of x)
-      (exec_stretch u.code u.machine.limits u.machine.sizes.quantum (busy_of x) (machine.stores_of (state_of u)))
+      ≡ with_executed (state_of u) w (busy_of x) by_names
   unfolding after_event
   executed_is = ap (after_exec u.machine (state_of u) w) (busy_there u fit w x there)
 
   module _ (may : May (event.Exec w) u) (new : WorkersState) (space : Memory) (buffers : BuffersState)
       (e : ExecutesBy w u.code u.machine.limits.task_budget u.machine.sizes.quantum u.workers new x u.space space
       u.buffers buffers) where
-    left_is : e.left ≡ worker_after x
-        (exec_stretch u.code u.machine.limits u.machine.sizes.quantum (seated_of u.buffers.banks x)
-        (stores_of u.space u.buffers))
+    left_is : e.left ≡ worker_after x by_places
     left_is = e.executes.worker u.machine.limits refl
 
-    stores_are : stores_of space buffers
-        ≡ (exec_stretch u.code u.machine.limits u.machine.sizes.quantum (seated_of u.buffers.banks x)
-        (stores_of u.space u.buffers)).memory
+    stores_are : stores_of space buffers ≡ by_places.memory
     stores_are = e.executes.stores u.machine.limits refl
 
-    busy_left : busy_of e.left ≡ busy_after (busy_of x)
-        (exec_stretch u.code u.machine.limits u.machine.sizes.quantum (busy_of x) (machine.stores_of (state_of u)))
+    busy_left : busy_of e.left ≡ busy_after (busy_of x) by_names
     busy_left =
         let agree = stretch_agrees in
         ap busy_of left_is
         ∙ (λ i. record (busy_of x) { registers = agree.registers i; scratch = agree.scratch i; trap = agree.trap i })
 
-    workers_left : workers_of new.entries ≡ insert (workers_of u.workers.entries) w (busy_after (busy_of x)
-        (exec_stretch u.code u.machine.limits u.machine.sizes.quantum (busy_of x) (machine.stores_of (state_of u))))
+    workers_left : workers_of new.entries ≡ insert (workers_of u.workers.entries) w (busy_after (busy_of x) by_names)
     workers_left =
         ap (λ (t : WorkersState). workers_of t.entries) e.workers
         ∙ mapped-insert nat_order busy_of u.workers.entries w e.left
         ∙ ap (insert (workers_of u.workers.entries) w) busy_left
 
-    home_left : space ≡ (exec_stretch u.code u.machine.limits u.machine.sizes.quantum (busy_of x)
-        (machine.stores_of (state_of u))).memory.home
+    home_left : space ≡ by_names.memory.home
     home_left = ap (λ (s : Stores). s.home) stores_are ∙ stretch_agrees.memory.home
 
-    reached_executed : Reached u.machine fit.reached.image (with_executed (state_of u) w (busy_of x)
-        (exec_stretch u.code u.machine.limits u.machine.sizes.quantum (busy_of x) (machine.stores_of (state_of u))))
+    reached_executed : Reached u.machine fit.reached.image (with_executed (state_of u) w (busy_of x) by_names)
     reached_executed =
         subst (Reached u.machine fit.reached.image) executed_is
         (reached_after u.machine fit.reached.image (state_of u) (event.Exec w) fit.reached.reached may)
 
-    contents_left : contents_of buffers u.banks.items
-        ≡ (exec_stretch u.code u.machine.limits u.machine.sizes.quantum (busy_of x)
-        (machine.stores_of (state_of u))).memory.contents
+    contents_left : contents_of buffers u.banks.items ≡ by_names.memory.contents
     contents_left =
-        contents_back u fit buffers
-        (exec_stretch u.code u.machine.limits u.machine.sizes.quantum (busy_of x)
-        (machine.stores_of (state_of u))).memory.contents
-        (subst (Agree (place_of u.banks.items)
-        (exec_stretch u.code u.machine.limits u.machine.sizes.quantum (busy_of x)
-        (machine.stores_of (state_of u))).memory.contents)
+        contents_back u fit buffers by_names.memory.contents
+        (subst (Agree (place_of u.banks.items) by_names.memory.contents)
         (ap (λ (s : Stores). s.contents) (sym stores_are)) stretch_agrees.memory.contents)
         (λ n bytes at.
-        (contents_whole u.machine fit.reached.image (with_executed (state_of u) w (busy_of x)
-        (exec_stretch u.code u.machine.limits u.machine.sizes.quantum (busy_of x) (machine.stores_of (state_of u))))
+        (contents_whole u.machine fit.reached.image (with_executed (state_of u) w (busy_of x) by_names)
         n bytes reached_executed at).0)
 
     pub executed_state : record (state_of u) {

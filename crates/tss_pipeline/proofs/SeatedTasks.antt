@@ -116,9 +116,6 @@ module _ (u : Units) (fit : IsFit u) where
 
   module _ (t : Task) (ns : List StorageName) (ss : List Storage) (may : MayRunOver u.machine (state_of u) t ns)
       (stand : StandFor (place_of u.banks.items) ns (seats_of u.buffers.banks t ss)) where
-    abbrev seats : List StorageName
-    seats = seats_of u.buffers.banks t ss
-
     few : t.count ≤ MAX_OPERANDS
     few =
         let count = may.proper.few in

@@ -148,9 +148,6 @@ module _ (u : Units) (fit : IsFit u) (w : ℕ) (may : May (event.Start w) u) whe
     pub not_lost : ◌≡◌ {A = Option (Task × Stage)} None (found_in (flight_of u.stations.slots) number) → ⊥
     not_lost e = none-some (shown startable.flying) (e ∙ ap (option_map shown) startable.there)
 
-    abbrev flying : Flying
-    flying = startable.flying
-
     slot : (s : Slot) × (get u.stations.slots number ≡ Some s) × (flying_of s ≡ startable.flying)
     slot =
         slot_by (get u.stations.slots number) startable.flying
