@@ -174,7 +174,9 @@ impl Units {
     }
 
     /// What counts of what main has printed: all, or what it printed before it had spawned the task whose trap is held.
-    pub(crate) fn output(&self) -> &[u8] {
+    pub(crate) fn output(&self) -> &[u8]
+        ensures { result.now ≡ printed_of (state_of self.now) }
+    {
         match self.trap {
             Some(held) => self.main.output_before(held.task),
             None => self.main.output(),

@@ -1,29 +1,51 @@
-// Runs of programs with names, by their logs.
+// Runs of programs with names, by their logs and by schedules.
+ghost use Rattle.std.specs.Prelude.{IfOk};
+ghost use Rattle.tss_base.specs.Machine.{IsAdmissible};
+
 mod logs;
+mod refusals;
+mod schedules;
 
 use crate::{NotEnabled, Pipeline};
 use std::alloc::Global;
 use std::process::Abort;
 use std::test::Fail;
-use tss_base::{Counts, Ending, Machine};
+use tss_base::{Counts, Ending, Event, Key, Machine, OpName};
 use tss_elf::read_image;
 use tss_events::read_event;
+use tss_machine::read_machine;
+use tss_programs::description;
+
+/// The small machine with some keys changed.
+fn machine(alloc: Global, changes: &[(Key, &str)]) -> Result<Machine, Fail>
+    ensures { IfOk result IsAdmissible }
+{
+    let text = description(alloc, changes)?;
+    Ok(read_machine(alloc, text.as_bytes())?)
+}
 
 /// A pipeline for an image's bytes.
-fn opened(alloc: Global, bytes: &[u8], machine: &Machine) -> Result<Pipeline, Fail> {
+fn opened(alloc: Global, bytes: &[u8], machine: &Machine) -> Result<Pipeline, Fail>
+    requires { IsAdmissible machine.now }
+{
     let image = read_image(alloc, bytes)?;
     Ok(Pipeline::open(alloc, &image, machine)?)
 }
 
+/// The event of a text.
+fn event(rt: &impl Abort, text: &str) -> Event {
+    match read_event(text.as_bytes()) {
+        Some(e) => e,
+        None => panic!(rt; "no event"),
+    }
+}
+
 /// Does the events of a log, and keeps the greatest counts.
 fn follow(rt: &impl Abort, p: &mut Pipeline, log: &str, peaks: &mut Counts) -> u32 {
-    let mut done = 0;
+    let mut done: u32 = 0;
     for line in log.lines() {
-        let Some(e) = read_event(line.as_bytes()) else {
-            panic!(rt; "no event");
-        };
-        assert!(rt; p.step(e) == Ok(()));
-        done += 1;
+        assert!(rt; p.step(event(rt, line)) == Ok(()));
+        done = done.saturating_add(1);
         greater(peaks, &p.counts());
     }
     done
