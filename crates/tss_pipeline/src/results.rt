@@ -5,7 +5,7 @@ ghost use Rattle.std.specs.FinMap.{get, len};
 ghost use Rattle.tss_model.specs.Access.{operands_of};
 ghost use Rattle.tss_protocol.specs.MainEvent.{has_no_decode, has_no_object, has_no_task, is_arriving, is_drained, is_entry_of, is_operand_on};
 ghost use Rattle.tss_protocol.specs.Counts.{counts_of, greatest};
-ghost use Rattle.tss_protocol.specs.Result.{is_finished, result_of, tasks_of};
+ghost use Rattle.tss_protocol.specs.Result.{is_finished, printed_of, result_of, tasks_of};
 ghost use Rattle.tss_pipeline.specs.Emptiness.{decode_at, fill_at, is_empty};
 ghost use Rattle.tss_pipeline.specs.Fit.{IsFit};
 ghost use Rattle.tss_pipeline.specs.State.{state_of};

@@ -115,7 +115,7 @@ fn a_renamed_output_lies_in_a_buffer(rt: HostRuntime) -> Result<(), Fail> {
     let image = renamed_output(rt.alloc())?;
     let machine = machine(rt.alloc(), &[])?;
     let mut p = opened(rt.alloc(), image.as_slice(), &machine)?;
-    let mut left = 30;
+    let mut left: u32 = 30;
     for line in RENAMED_OUTPUT_LOG.lines() {
         if left == 0 {
             break;

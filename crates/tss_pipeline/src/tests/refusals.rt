@@ -29,7 +29,7 @@ fn an_idle_races_with_a_use(rt: HostRuntime) -> Result<(), Fail> {
     let image = idle_race(rt.alloc())?;
     let machine = machine(rt.alloc(), &[])?;
     let mut p = opened(rt.alloc(), image.as_slice(), &machine)?;
-    let mut left = 15;
+    let mut left: u32 = 15;
     for line in IDLE_RACE_LOG.lines() {
         if left == 0 {
             break;
