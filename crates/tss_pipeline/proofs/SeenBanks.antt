@@ -1,11 +1,12 @@
 -- What is shown of a bank, by what it has.
-use Rattle.std.proofs.Common.{◌≡◌, ◌≢◌, ℕ, zero, suc, ◌+◌, Bool, List, [], ◌∷◌, Option, Some, None, option_map, is_some, refl, sym, ap, ◌∙◌, arith}
+use Rattle.std.proofs.Common.{◌≡◌, ◌≢◌, ℕ, zero, suc, ◌+◌, ◌<◌, Bool, List, [], ◌∷◌, Option, Some, None, option_map, is_some, refl, sym, ap, ◌∙◌, arith}
 use Rattle.std.specs.Prelude.{slice_get, option_and_then}
 use Rattle.std.specs.Ordering.{nat_cmp}
 use Rattle.std.specs.FinMap.{FinMap, get, empty, get-empty}
-use Rattle.std.proofs.lemmas.Option.{none-some}
+use Rattle.std.proofs.lemmas.Option.{none-some, slice_get_within}
 use Rattle.tss_base.specs.declared.operand.OpName.{OpName}
 use Rattle.tss_base.specs.declared.range.Range.{Range}
+use Rattle.tss_base.specs.declared.machine.Sizes.{Sizes}
 use Rattle.tss_base.specs.Names.{Named, Numbered, name_cmp}
 use Rattle.tss_maps.specs.Ordered.{key_at}
 use Rattle.tss_maps.proofs.Keys.{nat_order, name_order}
@@ -18,14 +19,16 @@ use Rattle.tss_versions.specs.declared.kept.Kept.{Kept}
 use Rattle.tss_versions.specs.declared.version_view.VersionView.{VersionView}
 use Rattle.tss_versions.specs.Known.{version_of, versions_of, view_of, view_in}
 use Rattle.tss_buffers.specs.declared.copying.Copying.{Copying}
+use Rattle.tss_buffers.specs.Contents.{HasBuffer, seat}
 use Rattle.tss_pipeline.specs.declared.bank.Bank.{Bank}
 use Rattle.tss_pipeline.specs.declared.bank.Job.{Job}
 use Rattle.tss_pipeline.specs.declared.units.Units.{Units}
-use Rattle.tss_pipeline.specs.State.{seen_of, job_copy, bank_copy, copies_from}
+use Rattle.tss_pipeline.specs.State.{seen_of, state_of, job_copy, bank_copy, copies_from}
 use Rattle.tss_pipeline.specs.Seen.{PipelineState}
-use Rattle.tss_pipeline.specs.BankParts.{value_at, entries_at, names_at, versions_at, version_shown}
+use Rattle.tss_pipeline.specs.BankParts.{value_at, contents_under, entries_at, names_at, versions_at, version_shown}
 use Rattle.tss_pipeline.specs.Fit.{IsFit, IsEngaged}
 use Rattle.tss_pipeline.proofs.BankChanges.{get-copies_from}
+use Rattle.tss_pipeline.proofs.BufferSeats.{contents_there}
 use Rattle.tss_pipeline.proofs.ReaderLemmas.{key_at-mapped}
 use Rattle.tss_pipeline.proofs.BankPartLemmas.{entries_there, places_there, buffers_there, versions_there, no_entries, no_places, no_buffers, no_versions, no_key}
 
@@ -153,6 +156,40 @@ module _ (u : Units) (fit : IsFit u) (p : PipelineState) (is : seen_of u ≡ p) 
         sym (versions_there u.machine u.banks.items fit.placed.tables fit.placed.versions n b here)
         ∙ ap (λ (p : PipelineState). versions_at p.machine.sizes n p.state.versions) is
 
+    held_under : (name : OpName) (o : Option ℕ) → get b.renaming.buffers name ≡ o
+        → get (names_at n (state_of u).buffers) name ≡ option_map (λ p. b.renaming.bank) o
+    held_under name o held =
+        ap (λ m. get m name) (buffers_there u.machine u.banks.items fit.placed.tables fit.placed.versions n b here)
+        ∙ get-mapped (λ p. b.renaming.bank) b.renaming.buffers name
+        ∙ ap (option_map (λ p. b.renaming.bank)) held
+
+    -- the contents of a buffer that is held
+    pub seen_contents : (name : OpName) (place : ℕ) → get b.renaming.buffers name ≡ Some place
+        → get u.buffers.contents (seat n place) ≡ contents_under (names_at n p.state.buffers) p.state.contents name
+    seen_contents name place held =
+        sym (contents_there u fit n b here name place held u.buffers)
+        ∙ sym (ap (option_and_then (λ bank. get (state_of u).contents name)) (held_under name (Some place) held))
+        ∙ ap (λ (p : PipelineState). contents_under (names_at n p.state.buffers) p.state.contents name) is
+
+    -- and none of one that isn't
+    pub seen_no_contents : (name : OpName) → get b.renaming.buffers name ≡ None
+        → None ≡ contents_under (names_at n p.state.buffers) p.state.contents name
+    seen_no_contents name held =
+        sym (ap (option_and_then (λ bank. get (state_of u).contents name)) (held_under name None held))
+        ∙ ap (λ (p : PipelineState). contents_under (names_at n p.state.buffers) p.state.contents name) is
+
+    -- there is such a buffer
+    pub has_buffer_here : (name : OpName) (place : ℕ) → get b.renaming.buffers name ≡ Some place
+        → HasBuffer u.buffers n place
+    has_buffer_here name place held =
+        let within = slice_get_within u.banks.items n b here in
+        let count = fit.sized.banks.count in
+        let banks = fit.sized.buffer_banks in
+        let low = (fit.placed.own n b here).apart.buffer_within name place held in
+        let sizes = ap (λ (s : Sizes). s.buffers) (fit.sized.banks.each n b here).sizes in
+        let each = fit.sized.buffers in
+        (omega (arith, within, count, banks), omega (arith, low, sizes, each))
+
     pub seen_copy : bank_copy b ≡ get p.state.copies n
     seen_copy = sym (copy_seen ∙ get-copies_from 0 u.banks.items n b here)
 
@@ -201,6 +238,13 @@ module _ (u : Units) (fit : IsFit u) (p : PipelineState) (is : seen_of u ≡ p) 
         sym (ap (λ (p : PipelineState). key_at (names_at n p.state.buffers) i) (sym is)
         ∙ ap (λ m. key_at m i) (no_buffers u.machine u.banks.items fit.placed.tables fit.placed.versions n nowhere)
         ∙ no_key name_order ℕ i)
+
+    pub seen_nothing_held : (name : OpName) → None ≡ contents_under (names_at n p.state.buffers) p.state.contents name
+    seen_nothing_held name =
+        sym (ap (λ (p : PipelineState). contents_under (names_at n p.state.buffers) p.state.contents name) (sym is)
+        ∙ ap (λ m. contents_under m (state_of u).contents name)
+        (no_buffers u.machine u.banks.items fit.placed.tables fit.placed.versions n nowhere)
+        ∙ ap (option_and_then (λ bank. get (state_of u).contents name)) (get-empty name_cmp name))
 
     pub seen_no_version : (v : OpName) → None ≡ get (versions_at p.machine.sizes n p.state.versions) v
     seen_no_version v = sym (ap (λ m. get m v) no_versions_seen ∙ get-empty name_cmp v)

@@ -1,7 +1,8 @@
 -- The parts of a state that stand in one bank.
-use Rattle.std.specs.Prelude.{ℕ, ◌==◌, Bool, true, false, Option, Some, None, option_map, option_and_then}
+use Rattle.std.specs.Prelude.{ℕ, ◌==◌, Bool, true, false, List, Option, Some, None, option_map, option_and_then}
 use Rattle.std.specs.FinMap.{FinMap, get}
 use Rattle.std.specs.declared.cmp.Ordering.{Ordering}
+use Rattle.tss_base.specs.declared.operand.OpName.{OpName}
 use Rattle.tss_base.specs.declared.machine.Sizes.{Sizes}
 use Rattle.tss_base.specs.Names.{Named, Numbered}
 use Rattle.tss_maps.specs.Ordered.{key_at}
@@ -27,6 +28,10 @@ entries_at sizes bank entries = collected (λ base e. value_if e (bank_of sizes 
 -- the places, or the buffers, that are held of a bank
 abbrev pub names_at : ℕ → Named ℕ → Named ℕ
 names_at bank held = collected (λ v b. value_if b (b == bank)) held
+
+-- the contents of a buffer that is held under a name
+abbrev pub contents_under : Named ℕ → Named (List ℕ) → OpName → Option (List ℕ)
+contents_under held contents name = option_and_then (λ bank. get contents name) (get held name)
 
 -- the versions of a bank's objects
 abbrev pub versions_at : Sizes → ℕ → Named Version → Named Version

@@ -3,11 +3,13 @@ ghost use Rattle.std.specs.Prelude.{◌≡◌, is_some, option_map, slice_get};
 ghost use Rattle.std.specs.FinMap.{get};
 ghost use Rattle.tss_maps.specs.Ordered.{key_at};
 ghost use Rattle.tss_renaming.specs.Entries.{entry_of};
-ghost use Rattle.tss_pipeline.specs.BankParts.{entries_at, names_at, value_at, version_shown, versions_at};
+ghost use Rattle.tss_buffers.specs.Contents.{HasBuffer, seat};
+ghost use Rattle.tss_pipeline.specs.BankParts.{contents_under, entries_at, names_at, value_at, version_shown, versions_at};
 
 use crate::bank::Bank;
 use crate::pipeline::Pipeline;
 use tss_base::{OpName, Range};
+use tss_buffers::Buffers;
 use tss_renaming::EntryView;
 use tss_versions::VersionView;
 
@@ -16,6 +18,18 @@ fn bank_at(banks: &[Bank], bank: u32) -> Option<&Bank>
     ensures { option_map (λ b. b.now) result ≡ slice_get banks.now bank }
 {
     banks.get(bank as usize)
+}
+
+/// The bytes of a buffer, where it is set.
+fn set_bytes(buffers: &Buffers, bank: u32, place: u32) -> Option<&[u8]>
+    requires { HasBuffer buffers.now bank place }
+    ensures { option_map (λ b. b.now) result ≡ get buffers.now.contents (seat bank place) }
+{
+    if buffers.is_set(bank, place) {
+        Some(buffers.bytes(bank, place))
+    } else {
+        None
+    }
 }
 
 impl Pipeline {
@@ -58,6 +72,20 @@ impl Pipeline {
     {
         match bank_at(&self.units.banks, bank) {
             Some(bank) => bank.renaming.buffer_at(i),
+            None => None,
+        }
+    }
+
+    /// The bytes of a buffer of a bank by the name for which it is held, where it is set.
+    pub fn contents(&self, bank: u32, name: OpName) -> Option<&[u8]>
+        ensures { option_map (λ b. b.now) result
+            ≡ contents_under (names_at bank self.now.state.buffers) self.now.state.contents name }
+    {
+        match bank_at(&self.units.banks, bank) {
+            Some(own) => match own.renaming.buffer(name) {
+                Some(place) => set_bytes(&self.units.buffers, bank, place),
+                None => None,
+            },
             None => None,
         }
     }

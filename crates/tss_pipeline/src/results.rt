@@ -5,7 +5,7 @@ ghost use Rattle.std.specs.FinMap.{get, len};
 ghost use Rattle.tss_model.specs.Access.{operands_of};
 ghost use Rattle.tss_protocol.specs.MainEvent.{has_no_decode, has_no_object, has_no_task, is_arriving, is_drained, is_entry_of, is_operand_on};
 ghost use Rattle.tss_protocol.specs.Counts.{counts_of, greatest};
-ghost use Rattle.tss_protocol.specs.Result.{is_finished, result_of, tasks_of};
+ghost use Rattle.tss_protocol.specs.Result.{is_finished, printed_of, result_of, tasks_of};
 ghost use Rattle.tss_pipeline.specs.Emptiness.{decode_at, fill_at, is_empty};
 ghost use Rattle.tss_pipeline.specs.Fit.{IsFit};
 ghost use Rattle.tss_pipeline.specs.State.{state_of};
@@ -174,7 +174,9 @@ impl Units {
     }
 
     /// What counts of what main has printed: all, or what it printed before it had spawned the task whose trap is held.
-    pub(crate) fn output(&self) -> &[u8] {
+    pub(crate) fn output(&self) -> &[u8]
+        ensures { result.now ≡ printed_of (state_of self.now) }
+    {
         match self.trap {
             Some(held) => self.main.output_before(held.task),
             None => self.main.output(),
