@@ -3,7 +3,7 @@ use Rattle.std.proofs.Common.{◌≡◌, ◌≢◌, ℕ, zero, suc, ◌+◌, ◌
 use Rattle.std.specs.Prelude.{slice_get, option_and_then}
 use Rattle.std.specs.Ordering.{nat_cmp}
 use Rattle.std.specs.FinMap.{FinMap, get, empty, get-empty}
-use Rattle.std.proofs.lemmas.Option.{none-some, slice_get_within}
+use Rattle.std.proofs.lemmas.Option.{none-some, same_Some, slice_get_within}
 use Rattle.tss_base.specs.declared.operand.OpName.{OpName}
 use Rattle.tss_base.specs.declared.range.Range.{Range}
 use Rattle.tss_base.specs.declared.machine.Sizes.{Sizes}
@@ -25,7 +25,7 @@ use Rattle.tss_pipeline.specs.declared.bank.Job.{Job}
 use Rattle.tss_pipeline.specs.declared.units.Units.{Units}
 use Rattle.tss_pipeline.specs.State.{seen_of, state_of, job_copy, bank_copy, copies_from}
 use Rattle.tss_pipeline.specs.Seen.{PipelineState}
-use Rattle.tss_pipeline.specs.BankParts.{value_at, contents_under, entries_at, names_at, versions_at, version_shown}
+use Rattle.tss_pipeline.specs.BankParts.{job_told, copy_told, value_at, contents_under, entries_at, names_at, versions_at, version_shown}
 use Rattle.tss_pipeline.specs.Fit.{IsFit, IsEngaged}
 use Rattle.tss_pipeline.proofs.BankChanges.{get-copies_from}
 use Rattle.tss_pipeline.proofs.BufferSeats.{contents_there}
@@ -88,19 +88,21 @@ moved_by x None (Some j) h = absurd h
 moved_by x (Some c) None h = absurd h
 moved_by x (Some c) (Some j) h = refl
 
--- what is shown of a copy, by the job and by the definitions
-abbrev pub job_told : Job → OpName × Range
-job_told j = (j.version, j.object)
-
-abbrev pub copy_told : CopyState → OpName × Range
-copy_told c = (c.version, c.object)
-
 copied_by : (x : RenamingState) (c : Option Copying) (j : Option Job) → IsEngaged x c j
     → option_map job_told j ≡ option_map copy_told (job_copy c j)
 copied_by x None None h = refl
 copied_by x None (Some j) h = absurd h
 copied_by x (Some c) None h = absurd h
 copied_by x (Some c) (Some j) h = ap (λ (r : Range). Some (j.version, r)) h.object
+
+-- the buffer of a copy is held
+pub buffer_of_job : (x : RenamingState) (c : Option Copying) (j : Option Job) (i : Job) → j ≡ Some i → IsEngaged x c j
+    → get x.buffers i.buffer ≡ None → ⊥
+buffer_of_job x c None i is h none = none-some i is
+buffer_of_job x None (Some j) i is h none = h
+buffer_of_job x (Some c) (Some j) i is h none =
+    none-some c.buffer.place
+    (sym none ∙ ap (λ (i : Job). get x.buffers i.buffer) (sym (same_Some j i is)) ∙ h.buffer.place)
 
 later : (k n : ℕ) → k + suc n ≡ suc k + n
 later k n = omega arith
@@ -192,6 +194,9 @@ module _ (u : Units) (fit : IsFit u) (p : PipelineState) (is : seen_of u ≡ p) 
 
     pub seen_copy : bank_copy b ≡ get p.state.copies n
     seen_copy = sym (copy_seen ∙ get-copies_from 0 u.banks.items n b here)
+
+    pub engaged_here : IsEngaged b.renaming b.engine b.job
+    engaged_here = (fit.placed.own n b here).engine
 
     pub seen_moved : option_map (λ (c : Copying). c.moved) b.engine
         ≡ option_map (λ (c : CopyState). c.moved) (get p.state.copies n)

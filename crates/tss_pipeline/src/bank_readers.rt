@@ -4,7 +4,7 @@ ghost use Rattle.std.specs.FinMap.{get};
 ghost use Rattle.tss_maps.specs.Ordered.{key_at};
 ghost use Rattle.tss_renaming.specs.Entries.{entry_of};
 ghost use Rattle.tss_buffers.specs.Contents.{HasBuffer, seat};
-ghost use Rattle.tss_pipeline.specs.BankParts.{contents_under, entries_at, names_at, value_at, version_shown, versions_at};
+ghost use Rattle.tss_pipeline.specs.BankParts.{contents_under, copy_shown, copy_told, entries_at, names_at, value_at, version_shown, versions_at};
 
 use crate::bank::Bank;
 use crate::pipeline::Pipeline;
@@ -134,9 +134,9 @@ impl Pipeline {
         }
     }
 
-    /// What a bank copies home: the version, and its object.
-    pub fn copy(&self, bank: u32) -> Option<(OpName, Range)>
-        ensures { result ≡ option_map (λ c. (c.version, c.object)) (get self.now.state.copies bank) }
+    /// What a bank copies home: the version, its object, and the place of its buffer.
+    pub fn copy(&self, bank: u32) -> Option<(OpName, Range, u32)>
+        ensures { option_map copy_shown result ≡ option_map copy_told (get self.now.state.copies bank) }
     {
         match bank_at(&self.units.banks, bank) {
             Some(bank) => bank.copy(),
