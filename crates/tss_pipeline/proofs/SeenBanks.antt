@@ -1,13 +1,13 @@
 -- What is shown of a bank, by what it has.
-use Rattle.std.proofs.Common.{◌≡◌, ◌≢◌, ℕ, zero, suc, ◌+◌, ◌<◌, Bool, List, [], ◌∷◌, Option, Some, None, option_map, is_some, refl, sym, ap, ◌∙◌, arith}
+use Rattle.std.proofs.Common.{◌≡◌, ◌≢◌, ℕ, zero, suc, ◌+◌, List, [], ◌∷◌, Option, Some, None, option_map, is_some, refl, sym, ap, ◌∙◌, arith}
 use Rattle.std.specs.Prelude.{slice_get, option_and_then}
 use Rattle.std.specs.Ordering.{nat_cmp}
-use Rattle.std.specs.FinMap.{FinMap, get, empty, get-empty}
+use Rattle.std.specs.FinMap.{get, empty, get-empty}
 use Rattle.std.proofs.lemmas.Option.{none-some, same_Some, slice_get_within}
 use Rattle.tss_base.specs.declared.operand.OpName.{OpName}
 use Rattle.tss_base.specs.declared.range.Range.{Range}
 use Rattle.tss_base.specs.declared.machine.Sizes.{Sizes}
-use Rattle.tss_base.specs.Names.{Named, Numbered, name_cmp}
+use Rattle.tss_base.specs.Names.{Named, name_cmp}
 use Rattle.tss_maps.specs.Ordered.{key_at}
 use Rattle.tss_maps.proofs.Keys.{nat_order, name_order}
 use Rattle.tss_maps.proofs.OrderedLemmas.{key_there}
@@ -35,15 +35,18 @@ use Rattle.tss_pipeline.proofs.BankPartLemmas.{entries_there, places_there, buff
 -- ---- names and versions
 
 module _ (m : Named ℕ) (i : ℕ) where
-  name_by : (o : Option OpName) → key_at m i ≡ o → option_map (λ (b : OpName × ℕ). b.0) (option_and_then (buffer_under m) o) ≡ o
+  name_by : (o : Option OpName) → key_at m i ≡ o
+      → option_map (λ (b : OpName × ℕ). b.0) (option_and_then (buffer_under m) o) ≡ o
   name_by None e = refl
-  name_by (Some k) e = ap (λ o. option_map (λ (b : OpName × ℕ). b.0) (option_map (λ p. (k, p)) o)) (key_there name_order m i k e).1
+  name_by (Some k) e =
+      ap (λ o. option_map (λ (b : OpName × ℕ). b.0) (option_map (λ p. (k, p)) o)) (key_there name_order m i k e).1
 
   -- each name holds its buffer
   pub name_under : option_map (λ (b : OpName × ℕ). b.0) (option_and_then (buffer_under m) (key_at m i)) ≡ key_at m i
   name_under = name_by (key_at m i) refl
 
-shown_by : (v : OpName) (o : Option Kept) → option_map version_shown (option_map (view_of v) o) ≡ option_map version_of o
+shown_by : (v : OpName) (o : Option Kept)
+    → option_map version_shown (option_map (view_of v) o) ≡ option_map version_of o
 shown_by v None = refl
 shown_by v (Some x) = refl
 
@@ -76,7 +79,8 @@ module _ (vs : Named Kept) where
       ap (λ o. option_map (λ (x : VersionView). x.name) (option_map (view_of v) o)) (key_there name_order vs i v e).1
 
   pub version_named_at : (i : ℕ)
-      → option_map (λ (x : VersionView). x.name) (option_and_then (view_in vs) (key_at vs i)) ≡ key_at (versions_of vs) i
+      → option_map (λ (x : VersionView). x.name) (option_and_then (view_in vs) (key_at vs i))
+      ≡ key_at (versions_of vs) i
   version_named_at i = named_by i (key_at vs i) refl ∙ sym (key_at-mapped version_of vs i)
 
 -- ---- copies
@@ -124,10 +128,12 @@ from_first n = omega arith
 
 -- ---- what is seen
 
-module _ (u : Units) (fit : IsFit u) (p : PipelineState) (is : seen_of u ≡ p) (bs : List Bank) (same : bs ≡ u.banks.items)
-    (n : ℕ) where
+module _ (u : Units) (fit : IsFit u) (p : PipelineState) (is : seen_of u ≡ p) (bs : List Bank)
+    (same : bs ≡ u.banks.items) (n : ℕ) where
   copy_seen : get p.state.copies n ≡ get (copies_from 0 u.banks.items) (0 + n)
-  copy_seen = ap (λ (p : PipelineState). get p.state.copies n) (sym is) ∙ ap (get (copies_from 0 u.banks.items)) (from_first n)
+  copy_seen =
+      ap (λ (p : PipelineState). get p.state.copies n) (sym is)
+      ∙ ap (get (copies_from 0 u.banks.items)) (from_first n)
 
   -- of a bank that is there
   module _ (b : Bank) (read : Some b ≡ slice_get bs n) where

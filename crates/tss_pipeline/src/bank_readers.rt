@@ -65,8 +65,8 @@ impl Pipeline {
         }
     }
 
-    /// The name for which a buffer of a bank is held, by its place, from 0, in the order of these names, and the buffer's
-    /// place.
+    /// The name for which a buffer of a bank is held, by its place, from 0, in the order of these names, and where the
+    /// buffer lies in the bank.
     pub fn buffer_at(&self, bank: u32, i: u32) -> Option<(OpName, u32)>
         ensures { option_map (λ b. b.0) result ≡ key_at (names_at bank self.now.state.buffers) i }
     {

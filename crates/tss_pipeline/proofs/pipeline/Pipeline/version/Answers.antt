@@ -9,8 +9,11 @@ pub returns-in-Some : goal.returns-in-Some
 returns-in-Some c =
     ap (option_map version_shown) c.version.ensures
     ∙ version_told c.in-Some.bank.now.versions.versions c.args.v
-    ∙ ap (λ m. get m c.args.v) (seen_versions c.self.inside.units c.self.invariant c.args.self.now c.self.view_is c.deref.result.now c.deref.ensures.value c.args.bank c.in-Some.bank.now c.in-Some.ensures)
+    ∙ ap (λ m. get m c.args.v)
+    (seen_versions c.self.inside.units c.self.invariant c.args.self.now c.self.view_is
+    c.deref.result.now c.deref.ensures.value c.args.bank c.in-Some.bank.now c.in-Some.ensures)
 
 pub returns-in-None : goal.returns-in-None
 returns-in-None c =
-    seen_no_version c.self.inside.units c.self.invariant c.args.self.now c.self.view_is c.deref.result.now c.deref.ensures.value c.args.bank c.in-None.ensures c.args.v
+    seen_no_version c.self.inside.units c.self.invariant c.args.self.now c.self.view_is
+    c.deref.result.now c.deref.ensures.value c.args.bank c.in-None.ensures c.args.v
