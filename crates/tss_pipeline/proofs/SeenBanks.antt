@@ -59,6 +59,18 @@ module _ (vs : Named Kept) where
   pub version_told : (v : OpName) → option_map version_shown (view_in vs v) ≡ get (versions_of vs) v
   version_told v = shown_by v (get vs v) ∙ sym (get-mapped version_of vs v)
 
+  name_of_shown : (v : OpName) (o : Option Kept)
+      → option_map (λ (x : VersionView). x.name) (option_map (view_of v) o)
+      ≡ option_map (λ (x : Version). v) (option_map version_of o)
+  name_of_shown v None = refl
+  name_of_shown v (Some x) = refl
+
+  -- under its name
+  pub version_named : (v : OpName) → option_map (λ (x : VersionView). x.name) (view_in vs v)
+      ≡ option_map (λ (x : Version). v) (get (versions_of vs) v)
+  version_named v =
+      name_of_shown v (get vs v) ∙ ap (option_map (λ (x : Version). v)) (sym (get-mapped version_of vs v))
+
   pub version_there : (v : OpName) → is_some (get vs v) ≡ is_some (get (versions_of vs) v)
   version_there v = some_mapped version_of (get vs v) ∙ ap is_some (sym (get-mapped version_of vs v))
 

@@ -102,8 +102,10 @@ impl Pipeline {
 
     /// A version that is registered in a bank.
     pub fn version(&self, bank: u32, v: OpName) -> Option<VersionView>
-        ensures { option_map version_shown result
+        ensures version { option_map version_shown result
             ≡ get (versions_at self.now.machine.sizes bank self.now.state.versions) v }
+        ensures name { option_map (λ x. x.name) result
+            ≡ option_map (λ x. v) (get (versions_at self.now.machine.sizes bank self.now.state.versions) v) }
     {
         match bank_at(&self.units.banks, bank) {
             Some(bank) => bank.versions.version(v),
