@@ -1,5 +1,5 @@
 -- What banks have in use, by the joined tables, and what stands in one of them.
-use Rattle.std.proofs.Common.{◌≡◌, ℕ, suc, ◌+◌, ◌<◌, List, length, Option, Some, None, refl, sym, ap, ◌∙◌, get_or, max, arith}
+use Rattle.std.proofs.Common.{◌≡◌, ℕ, suc, ◌+◌, ◌<◌, List, length, Option, Some, refl, sym, ap, ◌∙◌, get_or, max, arith}
 use Rattle.std.specs.Prelude.{slice_get}
 use Rattle.std.specs.Ordering.{nat_cmp, ord_max}
 use Rattle.std.proofs.lemmas.Bool.Decides.{nat_tests}
@@ -13,9 +13,9 @@ use Rattle.tss_maps.proofs.MappedLemmas.{len-mapped}
 use Rattle.tss_protocol.specs.Names.{bank_of}
 use Rattle.tss_protocol.specs.State.{Entry}
 use Rattle.tss_protocol.specs.Counts.{greatest}
-use Rattle.tss_protocol.specs.Renaming.{Fill, Tables, entries_in, places_in, buffers_in}
+use Rattle.tss_protocol.specs.Renaming.{Fill, entries_in, places_in, buffers_in}
 use Rattle.tss_protocol.specs.MainEvent.{is_entry_of}
-use Rattle.tss_banks.specs.Tables.{AreBankTables, no_tables, own_fill, tables_at, entries_of, places_of, buffers_of, joined_tables}
+use Rattle.tss_banks.specs.Tables.{AreBankTables, no_tables, own_fill, entries_of, places_of, buffers_of, joined_tables}
 use Rattle.tss_banks.proofs.BankCounts.{most_entries, most_places, most_buffers, bank-entries, bank-places, bank-buffers}
 use Rattle.tss_renaming.specs.Bank.{RenamingState, tables_of, fill_in}
 use Rattle.tss_pipeline.specs.declared.units.Units.{Units}
@@ -57,20 +57,23 @@ one_more n = omega arith
 greater : (a b : ℕ) → ord_max nat_cmp a b ≡ max a b
 greater a b = grind (arith, nat_tests)
 
-module _ (bs : List Bank) (n : ℕ) (b : Bank) (within : n < length bs) (read : b ≡ get_or bs n b) (most own new : ℕ) where
+module _ (bs : List Bank) (n : ℕ) (b : Bank) (within : n < length bs) (read : b ≡ get_or bs n b)
+    (most own new : ℕ) where
   -- the most with one bank more
   pub more_places : most ≡ greatest (λ b. (fill_at bs b).places) n → own ≡ len b.renaming.places
       → new ≡ ord_max nat_cmp most own → new ≡ greatest (λ b. (fill_at bs b).places) (n + 1)
   more_places before this is =
       is ∙ greater most own
-      ∙ (λ i. max (before i) ((this ∙ sym (ap (λ (f : Fill). f.places) (fill_there bs n b (bank_read bs n b within read)))) i))
+      ∙ (λ i. max (before i)
+      ((this ∙ sym (ap (λ (f : Fill). f.places) (fill_there bs n b (bank_read bs n b within read)))) i))
       ∙ ap (greatest (λ b. (fill_at bs b).places)) (one_more n)
 
   pub more_buffers : most ≡ greatest (λ b. (fill_at bs b).buffers) n → own ≡ len b.renaming.buffers
       → new ≡ ord_max nat_cmp most own → new ≡ greatest (λ b. (fill_at bs b).buffers) (n + 1)
   more_buffers before this is =
       is ∙ greater most own
-      ∙ (λ i. max (before i) ((this ∙ sym (ap (λ (f : Fill). f.buffers) (fill_there bs n b (bank_read bs n b within read)))) i))
+      ∙ (λ i. max (before i)
+      ((this ∙ sym (ap (λ (f : Fill). f.buffers) (fill_there bs n b (bank_read bs n b within read)))) i))
       ∙ ap (greatest (λ b. (fill_at bs b).buffers)) (one_more n)
 
 module _ (m : Machine) (bs : List Bank) (sized : AreBanks m bs) (tables : AreBankTables m.sizes (bank_tables bs)) where

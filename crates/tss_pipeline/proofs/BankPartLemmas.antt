@@ -1,13 +1,10 @@
 -- The parts of a state that stand in one bank are those that the bank has.
-use Rattle.std.proofs.Common.{◌≡◌, ◌≢◌, ℕ, zero, suc, Bool, true, false, List, [], ◌∷◌, map, get_or, Option, Some, None, option_map, refl, sym, ap, ◌∙◌, subst, inl, inr}
+use Rattle.std.proofs.Common.{◌≡◌, ◌≢◌, ℕ, zero, suc, List, [], ◌∷◌, map, get_or, Option, Some, None, refl, sym, ap, ◌∙◌, inl, inr}
 use Rattle.std.specs.Prelude.{◌==◌, slice_get, option_and_then}
 use Rattle.std.specs.FinMap.{FinMap, get, empty, get-empty}
 use Rattle.std.specs.declared.cmp.Ordering.{Ordering}
 use Rattle.std.proofs.lemmas.Option.{none-some}
-use Rattle.tss_base.specs.declared.operand.OpName.{OpName}
 use Rattle.tss_base.specs.declared.machine.Machine.{Machine}
-use Rattle.tss_base.specs.declared.machine.Sizes.{Sizes}
-use Rattle.tss_base.specs.Names.{Named, Numbered}
 use Rattle.tss_maps.specs.Ordered.{key_at}
 use Rattle.tss_maps.proofs.Keys.{IsKeyOrder, nat_order, name_order, decide_key}
 use Rattle.tss_maps.proofs.Changes.{decide_get, same_by_get}
@@ -25,10 +22,8 @@ use Rattle.tss_protocol.specs.Renaming.{Tables}
 use Rattle.tss_renaming.specs.Bank.{tables_of}
 use Rattle.tss_versions.specs.Known.{versions_of}
 use Rattle.tss_pipeline.specs.declared.bank.Bank.{Bank}
-use Rattle.tss_pipeline.specs.declared.units.Units.{Units}
 use Rattle.tss_pipeline.specs.State.{bank_tables, bank_versions}
 use Rattle.tss_pipeline.specs.BankParts.{value_if, entries_at, names_at, versions_at}
-use Rattle.tss_pipeline.specs.Fit.{IsFit}
 use Rattle.tss_pipeline.proofs.Lookups.{tables_here, versions_here}
 
 -- ---- one of several maps that are joined

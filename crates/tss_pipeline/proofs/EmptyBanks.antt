@@ -1,5 +1,5 @@
 -- The tables of all banks are empty exactly where each bank is.
-use Rattle.std.proofs.Common.{◌≡◌, ◌≢◌, ℕ, zero, suc, ◌<◌, Bool, true, false, List, [], ◌∷◌, Option, Some, None, is_none, refl, sym, ap, ◌∙◌, inl, inr, arith}
+use Rattle.std.proofs.Common.{◌≡◌, ◌≢◌, ℕ, zero, suc, ◌<◌, Bool, true, List, [], ◌∷◌, Option, Some, None, is_none, refl, sym, ap, ◌∙◌, inl, inr, arith}
 use Rattle.std.specs.Prelude.{◌==◌, ◌&&◌, slice_get}
 use Rattle.std.specs.List.{list_all}
 use Rattle.std.specs.Ordering.{nat_cmp}
@@ -7,13 +7,12 @@ use Rattle.std.specs.declared.cmp.Ordering.{Ordering}
 use Rattle.std.specs.FinMap.{FinMap, get, len, get-empty}
 use Rattle.std.proofs.lemmas.Option.{none-some}
 use Rattle.std.proofs.lemmas.Bool.Decides.{nat_tests}
-use Rattle.tss_base.specs.Names.{Named, Numbered}
+use Rattle.tss_base.specs.Names.{Numbered}
 use Rattle.tss_maps.proofs.Keys.{IsKeyOrder, nat_order, name_order, decide_key}
 use Rattle.tss_maps.proofs.Changes.{absent_removed, at_inserted}
 use Rattle.tss_maps.proofs.Entries.{some_entry, absent_empty, len_there}
 use Rattle.tss_maps.proofs.MappedLemmas.{len-mapped}
 use Rattle.tss_protocol.specs.State.{Entry, Version, CopyState}
-use Rattle.tss_protocol.specs.Renaming.{Tables}
 use Rattle.tss_banks.specs.Joined.{joined}
 use Rattle.tss_banks.specs.Collected.{with_at}
 use Rattle.tss_banks.specs.Tables.{entries_of, places_of, buffers_of}
@@ -130,17 +129,20 @@ pub empty_banks : (n : ℕ) (bs : List Bank)
     → list_all is_empty bs ≡ nothing_in n bs
 empty_banks n [] engaged =
     sym (λ i. len-joined_nil nat_order Entry i && len-joined_nil name_order ℕ i && len-joined_nil name_order ℕ i
-    && len-joined_nil name_order Version i && same_number (len (copies_from n [])) 0 (len_nothing nat_order CopyState (copies_from n []) (λ k. get-empty nat_cmp k)) i)
+    && len-joined_nil name_order Version i && same_number (len (copies_from n [])) 0
+    (len_nothing nat_order CopyState (copies_from n []) (λ k. get-empty nat_cmp k)) i)
 empty_banks n (b ∷ bs) engaged =
     let entries = len-joined_cons nat_order Entry b.renaming.entries (entries_of (bank_tables bs)) in
     let places = len-joined_cons name_order ℕ (tables_of b.renaming).places (places_of (bank_tables bs))
-        ∙ ap (λ n. (n == 0) && (len (joined (places_of (bank_tables bs))) == 0)) (len-mapped (λ p. b.renaming.bank) b.renaming.places) in
+    ∙ ap (λ n. (n == 0) && (len (joined (places_of (bank_tables bs))) == 0))
+    (len-mapped (λ p. b.renaming.bank) b.renaming.places) in
     let buffers = len-joined_cons name_order ℕ (tables_of b.renaming).buffers (buffers_of (bank_tables bs))
-        ∙ ap (λ n. (n == 0) && (len (joined (buffers_of (bank_tables bs))) == 0)) (len-mapped (λ p. b.renaming.bank) b.renaming.buffers) in
+    ∙ ap (λ n. (n == 0) && (len (joined (buffers_of (bank_tables bs))) == 0))
+    (len-mapped (λ p. b.renaming.bank) b.renaming.buffers) in
     let versions = len-joined_cons name_order Version (versions_of b.versions.versions) (bank_versions bs)
-        ∙ ap (λ n. (n == 0) && (len (joined (bank_versions bs)) == 0)) (len-mapped version_of b.versions.versions) in
+    ∙ ap (λ n. (n == 0) && (len (joined (bank_versions bs)) == 0)) (len-mapped version_of b.versions.versions) in
     let copies = len-with_at (copies_from (suc n) bs) n (bank_copy b) (none_before (suc n) bs n (own_below n))
-        ∙ ap (λ t. t && (len (copies_from (suc n) bs) == 0)) (no_job b.renaming b.engine b.job (engaged zero b refl)) in
+    ∙ ap (λ t. t && (len (copies_from (suc n) bs) == 0)) (no_job b.renaming b.engine b.job (engaged zero b refl)) in
     ap (λ t. is_empty b && t) (empty_banks (suc n) bs (λ i x at. engaged (suc i) x at))
     ∙ each_test (len b.renaming.entries == 0) (len b.renaming.places == 0) (len b.renaming.buffers == 0)
     (len b.versions.versions == 0) (is_none b.job) (len (joined (entries_of (bank_tables bs))) == 0)

@@ -1,10 +1,8 @@
 -- When main's event may happen, by its next call.
-use Rattle.std.proofs.Common.{◌≡◌, Bool, true, false, Option, is_none, refl, sym, ap, ◌∙◌}
+use Rattle.std.proofs.Common.{◌≡◌, Bool, true, false, Option, is_none, sym, ap, ◌∙◌}
 use Rattle.std.specs.Prelude.{◌&&◌}
-use Rattle.tss_base.specs.declared.machine.Machine.{Machine}
 use Rattle.tss_base.specs.declared.event.Event.TheVariants as event
 use Rattle.tss_model.specs.MainStep.{Call, next_call}
-use Rattle.tss_protocol.specs.State.{State}
 use Rattle.tss_protocol.specs.MainEvent.{flat_of, call_next, may_call}
 use Rattle.tss_protocol.specs.UnitMachine.{is_enabled}
 use Rattle.tss_pipeline.specs.declared.units.Units.{Units}
@@ -20,12 +18,14 @@ module _ (u : Units) where
       → c ≡ may_call (state_of u) (call_next u.machine (state_of u))
       → c ≡ is_enabled u.machine (state_of u) event.Main
   unfolding is_enabled
-  main_goes b on is c call = call ∙ ap (λ a. a && may_call (state_of u) (call_next u.machine (state_of u))) (sym on ∙ is)
+  main_goes b on is c call =
+      call ∙ ap (λ a. a && may_call (state_of u) (call_next u.machine (state_of u))) (sym on ∙ is)
 
   -- else it may not
   pub main_stops : (b : Bool) → b ≡ false → b ≡ Goes → b ≡ is_enabled u.machine (state_of u) event.Main
   unfolding is_enabled
-  main_stops b off is = off ∙ ap (λ a. a && may_call (state_of u) (call_next u.machine (state_of u))) (sym off ∙ is)
+  main_stops b off is =
+      off ∙ ap (λ a. a && may_call (state_of u) (call_next u.machine (state_of u))) (sym off ∙ is)
 
   -- the next call under main's limits is that under the machine's
   pub same_call : IsFit u → (o : Option Call) → o ≡ next_call u.code u.main.limits (flat_of (state_of u))

@@ -7,7 +7,7 @@ use Rattle.tss_base.specs.Names.{Numbered}
 use Rattle.tss_maps.specs.Mapped.{mapped}
 use Rattle.tss_maps.specs.Ordered.{key_at}
 use Rattle.tss_maps.proofs.MappedLemmas.{get-mapped, keys-mapped}
-use Rattle.tss_protocol.specs.State.{Busy, State}
+use Rattle.tss_protocol.specs.State.{Busy}
 use Rattle.tss_workers.specs.Seen.{busy_of, workers_of}
 use Rattle.tss_workers.specs.declared.running.Worker.{Worker}
 use Rattle.tss_pipeline.specs.Seen.{PipelineState}
@@ -19,7 +19,8 @@ unfolding key_at
 key_at-mapped f m i = ap (λ ks. slice_get ks i) (keys-mapped f m)
 
 -- one map after another
-twice : {X Y Z : Type 0} (f : X → Y) (g : Y → Z) (o : Option X) → option_map g (option_map f o) ≡ option_map (λ x. g (f x)) o
+twice : {X Y Z : Type 0} (f : X → Y) (g : Y → Z) (o : Option X)
+    → option_map g (option_map f o) ≡ option_map (λ x. g (f x)) o
 twice f g None = refl
 twice f g (Some x) = refl
 

@@ -1,15 +1,18 @@
 -- The parts of a state that stand in one bank.
-use Rattle.std.specs.Prelude.{ℕ, ◌==◌, Bool, true, false, Option, Some, None, option_map, option_and_then}
+use Rattle.std.specs.Prelude.{ℕ, ◌==◌, Bool, true, false, List, Option, Some, None, option_map, option_and_then}
 use Rattle.std.specs.FinMap.{FinMap, get}
 use Rattle.std.specs.declared.cmp.Ordering.{Ordering}
+use Rattle.tss_base.specs.declared.range.Range.{Range}
+use Rattle.tss_base.specs.declared.operand.OpName.{OpName}
 use Rattle.tss_base.specs.declared.machine.Sizes.{Sizes}
 use Rattle.tss_base.specs.Names.{Named, Numbered}
 use Rattle.tss_maps.specs.Ordered.{key_at}
 use Rattle.tss_banks.specs.Collected.{collected}
 use Rattle.tss_protocol.specs.Names.{bank_of}
-use Rattle.tss_protocol.specs.State.{Entry, Version}
+use Rattle.tss_protocol.specs.State.{Entry, Version, CopyState}
 use Rattle.tss_events.specs.Events.{storage_name}
 use Rattle.tss_versions.specs.declared.version_view.VersionView.{VersionView}
+use Rattle.tss_pipeline.specs.declared.bank.Job.{Job}
 
 -- a value where a test passes
 abbrev pub value_if : {X : Type 0} → X → Bool → Option X
@@ -27,6 +30,10 @@ entries_at sizes bank entries = collected (λ base e. value_if e (bank_of sizes 
 -- the places, or the buffers, that are held of a bank
 abbrev pub names_at : ℕ → Named ℕ → Named ℕ
 names_at bank held = collected (λ v b. value_if b (b == bank)) held
+
+-- the contents of a buffer that is held under a name
+abbrev pub contents_under : Named ℕ → Named (List ℕ) → OpName → Option (List ℕ)
+contents_under held contents name = option_and_then (λ bank. get contents name) (get held name)
 
 -- the versions of a bank's objects
 abbrev pub versions_at : Sizes → ℕ → Named Version → Named Version
@@ -47,3 +54,13 @@ version_shown x = record {
   asked = x.asked;
   refused = x.refused;
 }
+
+-- the version and the object of a copy, as it is shown, as a bank has it, and as the definitions have it
+abbrev pub copy_shown : OpName × Range × ℕ → OpName × Range
+copy_shown c = (c.0, c.1)
+
+abbrev pub job_told : Job → OpName × Range
+job_told j = (j.version, j.object)
+
+abbrev pub copy_told : CopyState → OpName × Range
+copy_told c = (c.version, c.object)

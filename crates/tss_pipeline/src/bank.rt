@@ -3,7 +3,9 @@ ghost use Rattle.std.specs.Prelude.{◌≡◌, IsSome, None, Some, option_map};
 ghost use Rattle.std.specs.FinMap as map;
 ghost use Rattle.tss_pipeline.specs.Registering.{is_home, CanBringHome, BringsHome};
 ghost use Rattle.tss_pipeline.specs.Pieces.{CopiesWithin, IsPieceOf, gone_with};
+ghost use Rattle.tss_pipeline.specs.BankParts.{copy_shown, job_told};
 ghost use Rattle.tss_pipeline.specs.Emptiness.{is_empty};
+ghost use Rattle.tss_pipeline.specs.Fit.{IsEngaged};
 
 use std::mem;
 use tss_base::{OpName, Range, Storage};
@@ -164,12 +166,16 @@ impl Bank {
             && self.job.is_none()
     }
 
-    /// What the bank copies home: the version, and its object.
-    pub(crate) fn copy(&self) -> Option<(OpName, Range)>
-        ensures { result ≡ option_map (λ j. (j.version, j.object)) self.now.job }
+    /// What the bank copies home: the version, its object, and the place of its buffer.
+    pub(crate) fn copy(&self) -> Option<(OpName, Range, u32)>
+        requires { IsEngaged self.now.renaming self.now.engine self.now.job }
+        ensures { option_map copy_shown result ≡ option_map job_told self.now.job }
     {
         match &self.job {
-            Some(job) => Some((job.version, job.object)),
+            Some(job) => match self.renaming.buffer(job.buffer) {
+                Some(place) => Some((job.version, job.object, place)),
+                None => unreachable!(),
+            },
             None => None,
         }
     }

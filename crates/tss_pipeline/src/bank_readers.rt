@@ -3,11 +3,13 @@ ghost use Rattle.std.specs.Prelude.{◌≡◌, is_some, option_map, slice_get};
 ghost use Rattle.std.specs.FinMap.{get};
 ghost use Rattle.tss_maps.specs.Ordered.{key_at};
 ghost use Rattle.tss_renaming.specs.Entries.{entry_of};
-ghost use Rattle.tss_pipeline.specs.BankParts.{entries_at, names_at, value_at, version_shown, versions_at};
+ghost use Rattle.tss_buffers.specs.Contents.{HasBuffer, seat};
+ghost use Rattle.tss_pipeline.specs.BankParts.{contents_under, copy_shown, copy_told, entries_at, names_at, value_at, version_shown, versions_at};
 
 use crate::bank::Bank;
 use crate::pipeline::Pipeline;
 use tss_base::{OpName, Range};
+use tss_buffers::Buffers;
 use tss_renaming::EntryView;
 use tss_versions::VersionView;
 
@@ -16,6 +18,18 @@ fn bank_at(banks: &[Bank], bank: u32) -> Option<&Bank>
     ensures { option_map (λ b. b.now) result ≡ slice_get banks.now bank }
 {
     banks.get(bank as usize)
+}
+
+/// The bytes of a buffer, where it is set.
+fn set_bytes(buffers: &Buffers, bank: u32, place: u32) -> Option<&[u8]>
+    requires { HasBuffer buffers.now bank place }
+    ensures { option_map (λ b. b.now) result ≡ get buffers.now.contents (seat bank place) }
+{
+    if buffers.is_set(bank, place) {
+        Some(buffers.bytes(bank, place))
+    } else {
+        None
+    }
 }
 
 impl Pipeline {
@@ -51,13 +65,27 @@ impl Pipeline {
         }
     }
 
-    /// The name for which a buffer of a bank is held, by its place, from 0, in the order of these names, and the buffer's
-    /// place.
+    /// The name for which a buffer of a bank is held, by its place, from 0, in the order of these names, and where the
+    /// buffer lies in the bank.
     pub fn buffer_at(&self, bank: u32, i: u32) -> Option<(OpName, u32)>
         ensures { option_map (λ b. b.0) result ≡ key_at (names_at bank self.now.state.buffers) i }
     {
         match bank_at(&self.units.banks, bank) {
             Some(bank) => bank.renaming.buffer_at(i),
+            None => None,
+        }
+    }
+
+    /// The bytes of a buffer of a bank by the name for which it is held, where it is set.
+    pub fn contents(&self, bank: u32, name: OpName) -> Option<&[u8]>
+        ensures { option_map (λ b. b.now) result
+            ≡ contents_under (names_at bank self.now.state.buffers) self.now.state.contents name }
+    {
+        match bank_at(&self.units.banks, bank) {
+            Some(own) => match own.renaming.buffer(name) {
+                Some(place) => set_bytes(&self.units.buffers, bank, place),
+                None => None,
+            },
             None => None,
         }
     }
@@ -74,8 +102,10 @@ impl Pipeline {
 
     /// A version that is registered in a bank.
     pub fn version(&self, bank: u32, v: OpName) -> Option<VersionView>
-        ensures { option_map version_shown result
+        ensures version { option_map version_shown result
             ≡ get (versions_at self.now.machine.sizes bank self.now.state.versions) v }
+        ensures name { option_map (λ x. x.name) result
+            ≡ option_map (λ x. v) (get (versions_at self.now.machine.sizes bank self.now.state.versions) v) }
     {
         match bank_at(&self.units.banks, bank) {
             Some(bank) => bank.versions.version(v),
@@ -106,9 +136,9 @@ impl Pipeline {
         }
     }
 
-    /// What a bank copies home: the version, and its object.
-    pub fn copy(&self, bank: u32) -> Option<(OpName, Range)>
-        ensures { result ≡ option_map (λ c. (c.version, c.object)) (get self.now.state.copies bank) }
+    /// What a bank copies home: the version, its object, and the place of its buffer.
+    pub fn copy(&self, bank: u32) -> Option<(OpName, Range, u32)>
+        ensures { option_map copy_shown result ≡ option_map copy_told (get self.now.state.copies bank) }
     {
         match bank_at(&self.units.banks, bank) {
             Some(bank) => bank.copy(),

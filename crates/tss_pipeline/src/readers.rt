@@ -52,6 +52,14 @@ impl Pipeline {
         self.units.main.epoch_at(i)
     }
 
+    /// A piece that main has printed, by its place from 0, with how many tasks had been spawned before it.
+    pub fn piece_at(&self, i: u32) -> Option<(u32, &[u8])>
+        ensures { option_map (λ p. record { before = p.0; bytes = p.1.now }) result
+            ≡ slice_get self.now.state.main.pieces i }
+    {
+        self.units.main.piece_at(i)
+    }
+
     /// The task in the inbox.
     pub fn inbox(&self) -> Option<&Task>
         ensures { option_map (λ t. t.now) result ≡ self.now.state.inbox }

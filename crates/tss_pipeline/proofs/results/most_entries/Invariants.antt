@@ -1,7 +1,6 @@
 -- The most of the banks so far.
 use Rattle.std.proofs.Common.{◌≡◌}
 use Rattle.tss_protocol.specs.Counts.{greatest}
-use Rattle.tss_protocol.specs.Renaming.{Fill}
 use Rattle.tss_pipeline.specs.Emptiness.{fill_at}
 use Rattle.tss_pipeline.proofs.results.most_entries.Given as goal
 

@@ -1,5 +1,5 @@
 -- The tasks in flight have the numbers of the slots.
-use Rattle.std.proofs.Common.{ℕ, Option, sym, ap, ◌∙◌, option_and_then}
+use Rattle.std.proofs.Common.{sym, ap, ◌∙◌, option_and_then}
 use Rattle.tss_maps.specs.Ordered.{key_at}
 use Rattle.tss_stations.specs.Reading.{found_in}
 use Rattle.tss_stations.specs.Views.{flight_of, flying_of}
@@ -12,4 +12,5 @@ returns c =
     let slots = c.self.inside.units.stations.slots in
     c.task_at.ensures
     ∙ ap (option_and_then (found_in (flight_of slots))) (sym (key_at-mapped flying_of slots c.args.i))
-    ∙ ap (λ (p : PipelineState). option_and_then (found_in p.state.flight) (key_at p.state.flight c.args.i)) c.self.view_is
+    ∙ ap (λ (p : PipelineState). option_and_then (found_in p.state.flight) (key_at p.state.flight c.args.i))
+    c.self.view_is

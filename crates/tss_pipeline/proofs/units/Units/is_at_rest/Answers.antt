@@ -1,5 +1,5 @@
 -- There are as many busy workers as entries.
-use Rattle.std.proofs.Common.{ℕ, sym, ap, ◌∙◌}
+use Rattle.std.proofs.Common.{sym, ap, ◌∙◌}
 use Rattle.std.specs.Prelude.{◌==◌}
 use Rattle.tss_maps.proofs.MappedLemmas.{len-mapped}
 use Rattle.tss_workers.specs.Seen.{busy_of}

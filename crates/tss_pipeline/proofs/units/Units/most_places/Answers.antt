@@ -1,7 +1,6 @@
 -- Each bank has as many as the joined tables say of it.
 use Rattle.std.proofs.Common.{ap, ◌∙◌, length}
 use Rattle.tss_protocol.specs.Counts.{greatest}
-use Rattle.tss_protocol.specs.Renaming.{Fill}
 use Rattle.tss_pipeline.specs.Emptiness.{fill_at}
 use Rattle.tss_pipeline.proofs.BankFills.{all_places}
 use Rattle.tss_pipeline.proofs.units.Units.most_places.Goals as goal
