@@ -104,15 +104,15 @@ names_there m =
     let retires = kind_there m event.Retire m.retires (λ o x. mail.Retire o) (λ o. refl) in
     let gones = kind_there m event.Gone m.gones mail.Gone (λ o. refl) in
     let early =
-        both_there m _ (map event.Link (keys m.links)) (both_there m _ (map event.Ready (keys m.readies))
-        (both_there m _ (map event.Use (keys m.uses)) (both_there m _ (map event.Open (keys m.opens))
-        (both_there m (map event.Decode (keys m.decodes)) (map event.Ack (keys m.acks)) decodes acks) opens) uses) readies)
-        links in
+    both_there m _ (map event.Link (keys m.links)) (both_there m _ (map event.Ready (keys m.readies))
+    (both_there m _ (map event.Use (keys m.uses)) (both_there m _ (map event.Open (keys m.opens))
+    (both_there m (map event.Decode (keys m.decodes)) (map event.Ack (keys m.acks)) decodes acks) opens) uses) readies)
+    links in
     let late =
-        both_there m _ (map event.Retire (keys m.retires)) (both_there m _ (map event.Nack (keys m.nacks))
-        (both_there m _ (map event.Idle (keys m.idles))
-        (both_there m (map event.Release (keys m.releases)) (map event.Bye (keys m.byes)) releases byes) idles) nacks)
-        retires in
+    both_there m _ (map event.Retire (keys m.retires)) (both_there m _ (map event.Nack (keys m.nacks))
+    (both_there m _ (map event.Idle (keys m.idles))
+    (both_there m (map event.Release (keys m.releases)) (map event.Bye (keys m.byes)) releases byes) idles) nacks)
+    retires in
     both_there m (early_names m ++ late_names m) (gone_names m)
     (both_there m (early_names m) (late_names m) early late) gones
 

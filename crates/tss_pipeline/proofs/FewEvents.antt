@@ -53,7 +53,7 @@ module _ (m : Machine) (S : State) where
       ≡ length (enabled_events m S)
   count_kind k count d within so_far =
       let both = ap (λ (es : List Event). length es) (opened k d within)
-          ∙ length-append (enabled_of_kind m S (get_or SOURCES k d)) (enabled_of_kinds m S (drop (k + 1) SOURCES)) in
+      ∙ length-append (enabled_of_kind m S (get_or SOURCES k d)) (enabled_of_kinds m S (drop (k + 1) SOURCES)) in
       omega (arith, both, so_far)
 
   pub count_all : (k count : ℕ) → length SOURCES ≤ k
@@ -152,6 +152,6 @@ module _ (u : Units) (fit : IsFit u) where
       let banks = (few_banks u.machine a).1 in
       let same = ap (λ (es : List Event). length es) all_by_kinds in
       let few =
-          few_kinds u.machine (state_of u) (omega (arith, messages, first, second, third)) (omega (arith, workers))
-          (omega (arith, banks)) SOURCES in
+      few_kinds u.machine (state_of u) (omega (arith, messages, first, second, third)) (omega (arith, workers))
+      (omega (arith, banks)) SOURCES in
       omega (arith, same, few)

@@ -53,8 +53,7 @@ contents_keys buffers [] i k y e = absurd (none-some y (sym (get-no_bank name_cm
 contents_keys buffers (b ∷ bs) zero k y e =
     let f = λ (name : OpName) (place : ℕ). get buffers.contents (seat b.renaming.bank place) in
     let has = sym (get-collected name_order f b.renaming.buffers k) ∙ e in
-    let held = (from_answer (f k) (get b.renaming.buffers k) y has).1 in
-    (
+    let held = (from_answer (f k) (get b.renaming.buffers k) y has).1 in (
       b.renaming.bank,
       get-mapped (λ p. b.renaming.bank) b.renaming.buffers k ∙ ap (option_map (λ p. b.renaming.bank)) held,
     )

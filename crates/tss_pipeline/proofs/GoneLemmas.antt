@@ -206,8 +206,8 @@ module _ (u : Units) (fit : IsFit u) (v : OpName) (x : Gone) (sent : get u.mail.
         versions = λ w y e.
             let own_bank = version_own u.machine.sizes banks versions n own own_there w y e in
             let law =
-                registered u.machine fit.reached.image S w (version_of y) reached
-                (version_joined u.machine.sizes banks versions n own own_there w y e) in
+            registered u.machine fit.reached.image S w (version_of y) reached
+            (version_joined u.machine.sizes banks versions n own own_there w y e) in
             record {
               place = place_left w y.place (law.place ∙ ap Some own_bank) (h.versions w y e).place;
               buffer = λ held f.
@@ -271,11 +271,11 @@ module _ (u : Units) (fit : IsFit u) (v : OpName) (x : Gone) (sent : get u.mail.
       → bank_of u.machine.sizes o.object ≡ n → get b.renaming.buffers m ≡ Some p → get left.buffers m ≡ Some p
   worker_left w y e k o p m at stored own_bank held =
       let law =
-          is_running u.machine fit.reached.image S w (busy_of y) reached
-          (get-mapped busy_of u.workers.entries w ∙ ap (option_map busy_of) e) in
+      is_running u.machine fit.reached.image S w (busy_of y) reached
+      (get-mapped busy_of u.workers.entries w ∙ ap (option_map busy_of) e) in
       let named =
-          slice_get-map storage_name (take y.task.count y.storages) k (storage.Buffer p m)
-          (taken_at y.task.count y.task.operands y.storages k o (storage.Buffer p m) at stored) in
+      slice_get-map storage_name (take y.task.count y.storages) k (storage.Buffer p m)
+      (taken_at y.task.count y.task.operands y.storages k o (storage.Buffer p m) at stored) in
       buffer_still_there m p (law.may.buffers k o m at named ∙ ap Some own_bank) held
 
   -- ---- all of it

@@ -104,10 +104,10 @@ module _ (sizes : Sizes) (bs : List Bank) (tables : AreBankTables sizes (bank_ta
   -- an entry of an object of the bank
   pub entry_here : (base : ℕ) (object : Range) → object.base ≡ base → bank_of sizes object ≡ n
       → get (joined_tables (bank_tables bs)).entries base ≡ get b.renaming.entries base
-  entry_here base object at own_bank = 
+  entry_here base object at own_bank =
       let only : IsInNoOther (entries_of (bank_tables bs)) n base =
-          subst (λ b. IsInNoOther (entries_of (bank_tables bs)) b base) (ap (bank_of_base sizes) (sym at) ∙ own_bank)
-          (alone_base sizes (entries_of (bank_tables bs)) tables.entries base) in
+      subst (λ b. IsInNoOther (entries_of (bank_tables bs)) b base) (ap (bank_of_base sizes) (sym at) ∙ own_bank)
+      (alone_base sizes (entries_of (bank_tables bs)) tables.entries base) in
       get-joined nat_order (entries_of (bank_tables bs)) n base only
       ∙ ap (λ m. get m base) (bank-entries (bank_tables bs) n ∙ ap (λ (t : Tables). t.entries) tables_here)
 
@@ -128,7 +128,7 @@ module _ (sizes : Sizes) (bs : List Bank) (versions : VersionsInBanks sizes (ban
   -- a version of an object of the bank stands here
   pub version_here : (v : OpName) (x : Version) → get (joined (bank_versions bs)) v ≡ Some x
       → bank_of sizes x.object ≡ n → (k : Kept) × (get b.versions.versions v ≡ Some k) × (version_of k ≡ x)
-  version_here v x at own_bank = 
+  version_here v x at own_bank =
       let at_bank = ap (λ i. get (bank (bank_versions bs) i) v) (sym own_bank) ∙ version_in_bank sizes (bank_versions bs) versions v x at in
       let mapped_here = sym (get-mapped version_of b.versions.versions v) ∙ ap (λ m. get m v) (sym versions_here) ∙ at_bank in
       elim (decide_get b.versions.versions v) [
@@ -140,7 +140,7 @@ module _ (sizes : Sizes) (bs : List Bank) (versions : VersionsInBanks sizes (ban
   -- what stands here is registered, of an object of the bank
   pub version_joined : (v : OpName) (k : Kept) → get b.versions.versions v ≡ Some k
       → get (joined (bank_versions bs)) v ≡ Some (version_of k)
-  version_joined v k at = 
+  version_joined v k at =
       joined_there name_order (bank_versions bs) versions.apart n v (version_of k) (at_own v k at)
 
   pub version_own : (v : OpName) (k : Kept) → get b.versions.versions v ≡ Some k

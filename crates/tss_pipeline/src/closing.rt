@@ -112,12 +112,14 @@ impl Bank {
             None => {}
         }
         match job {
-            Some(Job {
-                version: _,
-                object: _,
-                place,
-                buffer: _,
-            }) => place.end(&places),
+            Some(
+                Job {
+                    version: _,
+                    object: _,
+                    place,
+                    buffer: _,
+                },
+            ) => place.end(&places),
             None => {}
         }
         EndedBank {

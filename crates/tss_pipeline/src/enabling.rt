@@ -70,7 +70,12 @@ impl Source {
     {
         match self {
             Source::Letters(kind) => is_always(kind),
-            Source::Main | Source::Take | Source::Start | Source::Exec | Source::Finish | Source::Copy => false,
+            Source::Main
+            | Source::Take
+            | Source::Start
+            | Source::Exec
+            | Source::Finish
+            | Source::Copy => false,
         }
     }
 }

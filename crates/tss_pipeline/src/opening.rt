@@ -29,7 +29,9 @@ fn message_limit(machine: &Machine) -> u32
 {
     let sizes = &machine.sizes;
     let operands = machine.limits.max_operands;
-    sizes.window * operands + 2 * (sizes.stations * sizes.slots) * operands + sizes.banks * sizes.versions
+    sizes.window * operands
+        + 2 * (sizes.stations * sizes.slots) * operands
+        + sizes.banks * sizes.versions
 }
 
 /// A bank with nothing in it.
@@ -102,7 +104,12 @@ impl Units {
         let stations = Stations::open(alloc, sizes)?;
         let queue = ReadyQueue::open(alloc, sizes.stations * sizes.slots)?;
         let workers = Workers::open(alloc, sizes)?;
-        let buffers = Buffers::open(alloc, sizes.banks, sizes.buffers, machine.limits.object_bytes)?;
+        let buffers = Buffers::open(
+            alloc,
+            sizes.banks,
+            sizes.buffers,
+            machine.limits.object_bytes,
+        )?;
         let banks = open_banks(alloc, sizes)?;
         match Mail::open(alloc, message_limit(machine)) {
             Ok(mail) => Ok(Units {

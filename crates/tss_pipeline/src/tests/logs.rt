@@ -7,8 +7,8 @@ use std::process::Abort;
 use std::test::Fail;
 use tss_base::{Counts, Ending, Key, Machine, OpName, Trap};
 use tss_programs::{
-    HI_LOG, IDLE_RACE_LOG, LATE_TRAP_LOG, MANY_READERS_LOG, RENAMED_OUTPUT_LOG, hi, idle_race, late_trap, many_readers,
-    renamed_output,
+    HI_LOG, IDLE_RACE_LOG, LATE_TRAP_LOG, MANY_READERS_LOG, RENAMED_OUTPUT_LOG, hi, idle_race,
+    late_trap, many_readers, renamed_output,
 };
 
 /// What a run comes to.
@@ -22,7 +22,14 @@ struct Row<'a> {
 }
 
 /// Runs a log to its end.
-fn expect(rt: &impl Abort, alloc: Global, image: &[u8], machine: &Machine, log: &str, row: &Row) -> Result<(), Fail>
+fn expect(
+    rt: &impl Abort,
+    alloc: Global,
+    image: &[u8],
+    machine: &Machine,
+    log: &str,
+    row: &Row,
+) -> Result<(), Fail>
     requires { IsAdmissible machine.now }
 {
     let mut p = opened(alloc, image, machine)?;
@@ -35,7 +42,18 @@ fn expect(rt: &impl Abort, alloc: Global, image: &[u8], machine: &Machine, log: 
     assert_eq!(rt; p.tasks(), row.tasks);
     assert!(rt; p.output() == row.output);
     let [messages, slots, ready, workers, entries, versions, buffers] = row.peaks;
-    assert_eq!(rt; peaks, Counts { messages, slots, ready, workers, entries, versions, buffers });
+    assert_eq!(rt;
+        peaks,
+        Counts {
+            messages,
+            slots,
+            ready,
+            workers,
+            entries,
+            versions,
+            buffers
+        }
+    );
     p.close();
     Ok(())
 }
@@ -65,7 +83,14 @@ fn renamed_output_runs(rt: HostRuntime) -> Result<(), Fail> {
         events: 58,
         peaks: [5, 3, 1, 2, 2, 3, 1],
     };
-    expect(&rt, rt.alloc(), image.as_slice(), &machine, RENAMED_OUTPUT_LOG, &row)
+    expect(
+        &rt,
+        rt.alloc(),
+        image.as_slice(),
+        &machine,
+        RENAMED_OUTPUT_LOG,
+        &row,
+    )
 }
 
 #[test]
@@ -79,7 +104,14 @@ fn many_readers_run(rt: HostRuntime) -> Result<(), Fail> {
         events: 124,
         peaks: [10, 5, 7, 1, 1, 2, 0],
     };
-    expect(&rt, rt.alloc(), image.as_slice(), &machine, MANY_READERS_LOG, &row)
+    expect(
+        &rt,
+        rt.alloc(),
+        image.as_slice(),
+        &machine,
+        MANY_READERS_LOG,
+        &row,
+    )
 }
 
 #[test]
@@ -93,7 +125,14 @@ fn idle_race_runs(rt: HostRuntime) -> Result<(), Fail> {
         events: 33,
         peaks: [3, 1, 1, 1, 1, 1, 0],
     };
-    expect(&rt, rt.alloc(), image.as_slice(), &machine, IDLE_RACE_LOG, &row)
+    expect(
+        &rt,
+        rt.alloc(),
+        image.as_slice(),
+        &machine,
+        IDLE_RACE_LOG,
+        &row,
+    )
 }
 
 #[test]
@@ -101,13 +140,27 @@ fn late_trap_runs(rt: HostRuntime) -> Result<(), Fail> {
     let image = late_trap(rt.alloc())?;
     let machine = machine(rt.alloc(), &[])?;
     let row = Row {
-        ending: Ending::TaskTrap(2, Trap { pc: 0x10144, cause: 3, value: 0x10144 }),
+        ending: Ending::TaskTrap(
+            2,
+            Trap {
+                pc: 0x10144,
+                cause: 3,
+                value: 0x10144,
+            },
+        ),
         tasks: 2,
         output: b"a",
         events: 32,
         peaks: [0, 4, 4, 3, 0, 0, 0],
     };
-    expect(&rt, rt.alloc(), image.as_slice(), &machine, LATE_TRAP_LOG, &row)
+    expect(
+        &rt,
+        rt.alloc(),
+        image.as_slice(),
+        &machine,
+        LATE_TRAP_LOG,
+        &row,
+    )
 }
 
 #[test]

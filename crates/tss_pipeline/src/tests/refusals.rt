@@ -8,7 +8,14 @@ use tss_programs::{FULL_TABLES_LOG, IDLE_RACE_LOG, full_tables, idle_race};
 #[test]
 fn a_decode_waits_for_full_tables(rt: HostRuntime) -> Result<(), Fail> {
     let image = full_tables(rt.alloc())?;
-    let machine = machine(rt.alloc(), &[(Key::Entries, "7"), (Key::Versions, "7"), (Key::Buffers, "7")])?;
+    let machine = machine(
+        rt.alloc(),
+        &[
+            (Key::Entries, "7"),
+            (Key::Versions, "7"),
+            (Key::Buffers, "7"),
+        ],
+    )?;
     let mut p = opened(rt.alloc(), image.as_slice(), &machine)?;
     let mut peaks = p.counts();
     assert_eq!(rt; follow(&rt, &mut p, FULL_TABLES_LOG, &mut peaks), 51);
@@ -53,7 +60,17 @@ fn no_message_no_event(rt: HostRuntime) -> Result<(), Fail> {
     let machine = machine(rt.alloc(), &[])?;
     let mut p = opened(rt.alloc(), image.as_slice(), &machine)?;
     let start = p.counts();
-    for text in ["take", "decode 1.0", "ack 1.0", "start 0", "exec 0", "finish 0", "copy 0", "gone 1.0", "exec 63"] {
+    for text in [
+        "take",
+        "decode 1.0",
+        "ack 1.0",
+        "start 0",
+        "exec 0",
+        "finish 0",
+        "copy 0",
+        "gone 1.0",
+        "exec 63",
+    ] {
         assert_eq!(rt; p.step(event(&rt, text)), Err(NotEnabled));
     }
     assert_eq!(rt; p.counts(), start);

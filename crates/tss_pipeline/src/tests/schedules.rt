@@ -26,7 +26,14 @@ fn next(p: &Pipeline, which: Which) -> Option<Event> {
 }
 
 /// Runs a program to its end, which is an exit with 0.
-fn runs(rt: &impl Abort, alloc: Global, image: &[u8], machine: &Machine, which: Which, tasks: u32) -> Result<(), Fail>
+fn runs(
+    rt: &impl Abort,
+    alloc: Global,
+    image: &[u8],
+    machine: &Machine,
+    which: Which,
+    tasks: u32,
+) -> Result<(), Fail>
     requires { IsAdmissible machine.now }
 {
     let mut p = opened(alloc, image, machine)?;
@@ -47,8 +54,22 @@ fn all_run(rt: &impl Abort, alloc: Global, machine: &Machine, which: Which) -> R
     requires { IsAdmissible machine.now }
 {
     runs(rt, alloc, hi(alloc)?.as_slice(), machine, which, 1)?;
-    runs(rt, alloc, renamed_output(alloc)?.as_slice(), machine, which, 3)?;
-    runs(rt, alloc, many_readers(alloc)?.as_slice(), machine, which, 9)?;
+    runs(
+        rt,
+        alloc,
+        renamed_output(alloc)?.as_slice(),
+        machine,
+        which,
+        3,
+    )?;
+    runs(
+        rt,
+        alloc,
+        many_readers(alloc)?.as_slice(),
+        machine,
+        which,
+        9,
+    )?;
     runs(rt, alloc, full_tables(alloc)?.as_slice(), machine, which, 2)?;
     runs(rt, alloc, idle_race(alloc)?.as_slice(), machine, which, 2)
 }

@@ -56,9 +56,9 @@ loop-bank-preserved c =
     let b = c.in-Some.bank in
     let number = c.loop-bank.invariant.numbers (length xs) b (last_there bs xs b c.in-Some.ensures.items) in
     let before : AreEnded (length xs + 1) c.args.count c.loop-bank.ended.items =
-        subst (λ n. AreEnded n c.args.count c.loop-bank.ended.items)
-        (ap (λ (bs : List Bank). length bs) c.in-Some.ensures.items ∙ length-append xs (b ∷ []))
-        c.loop-bank.invariant.ended in
+    subst (λ n. AreEnded n c.args.count c.loop-bank.ended.items)
+    (ap (λ (bs : List Bank). length bs) c.in-Some.ensures.items ∙ length-append xs (b ∷ []))
+    c.loop-bank.invariant.ended in
     record {
       numbers = λ n x at. c.loop-bank.invariant.numbers n x (still_there bs xs b x n c.in-Some.ensures.items at);
       own = λ n x at. c.loop-bank.invariant.own n x (still_there bs xs b x n c.in-Some.ensures.items at);

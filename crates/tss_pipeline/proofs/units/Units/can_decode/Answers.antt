@@ -16,14 +16,14 @@ returns-in-Some-Decode c =
     let o = c.args.o in
     let p = c.in-Some-Decode.operand in
     let letter =
-        decode_letter_there o c.in-Some-Decode.field-0-0 (get u.mail.decodes o) p
-        (sym c.see.ensures.exact
-        ∙ ap (option_map (λ m. m.now)) c.in-Some-Decode.is
-        ∙ ap Some c.in-Some-Decode.field-0-is) in
+    decode_letter_there o c.in-Some-Decode.field-0-0 (get u.mail.decodes o) p
+    (sym c.see.ensures.exact
+    ∙ ap (option_map (λ m. m.now)) c.in-Some-Decode.is
+    ∙ ap Some c.in-Some-Decode.field-0-is) in
     let b = c.index.result.now in
     let there =
-        bank_there u.banks.items c.bank_of-bank.result (bank_of u.machine.sizes p.object) b c.bank_of-bank.ensures.exact
-        c.bank_of-bank.ensures.within c.index.ensures in
+    bank_there u.banks.items c.bank_of-bank.result (bank_of u.machine.sizes p.object) b c.bank_of-bank.ensures.exact
+    c.bank_of-bank.ensures.within c.index.ensures in
     is_none_by c.is_none.result c.wait_of.result (sym c.is_none.ensures)
     ∙ ap is_none c.wait_of.ensures
     ∙ is_none-mapped wait_number (wait_here b.renaming o p)

@@ -45,10 +45,10 @@ decode_at_once-sent-requires-clause-uses c =
 pub unset_if_any-requires : goal.unset_if_any-requires
 unset_if_any-requires c = λ place is.
     let held =
-        subst
-        (λ p. IfSome p (HoldsAlone c.decode_at_once-sent.new.renaming.buffers
-        c.decode_at_once-sent.new.renaming.sizes.buffers c.args.o))
-        is c.buffer-buffer.ensures.alone in
+    subst
+    (λ p. IfSome p (HoldsAlone c.decode_at_once-sent.new.renaming.buffers
+    c.decode_at_once-sent.new.renaming.sizes.buffers c.args.o))
+    is c.buffer-buffer.ensures.alone in
     has_buffer c.args.self.now c.requires.fit c.args.o c.take_decode-operand.result
     c.take_decode-operand.ensures.exact c.index_mut.result.now c.bank_of-bank.result c.bank_of-bank.ensures.exact
     c.bank_of-bank.ensures.within c.index_mut.ensures.value c.decode_at_once-sent.result c.decode_at_once-sent.new.renaming

@@ -18,8 +18,8 @@ overflow_add-count c =
     let few = few_events c.args.self.now c.requires in
     let now = c.enabled_of-count.ensures in
     let more =
-        count_kind c.args.self.now.machine (state_of c.args.self.now) c.loop-kind.kind c.loop-kind.count source.Main
-        c.loop-kind-test.true c.loop-kind.invariant in
+    count_kind c.args.self.now.machine (state_of c.args.self.now) c.loop-kind.kind c.loop-kind.count source.Main
+    c.loop-kind-test.true c.loop-kind.invariant in
     omega (arith, few, now, more)
 
 pub loop-kind-preserved : goal.loop-kind-preserved
@@ -27,7 +27,7 @@ loop-kind-preserved c =
     let now = c.enabled_of-count.ensures in
     ap (λ n. c.loop-kind.count + n + length (enabled_of_kinds c.args.self.now.machine (state_of c.args.self.now) (drop (c.loop-kind.kind + 1) SOURCES))) now
     ∙ count_kind c.args.self.now.machine (state_of c.args.self.now) c.loop-kind.kind c.loop-kind.count source.Main
-      c.loop-kind-test.true c.loop-kind.invariant
+    c.loop-kind-test.true c.loop-kind.invariant
 
 pub returns : goal.returns
 returns c =

@@ -39,11 +39,11 @@ loop-i-preserved c =
     let ok = is_enabled c.args.self.now.machine (state_of c.args.self.now) in
     let all = candidates_of c.args.self.now.machine (state_of c.args.self.now) c.args.source in
     elim c.if-is_enabled.branch [
-      | then-is_enabled+else-left-eq0 w ↦ 
+      | then-is_enabled+else-left-eq0 w ↦
           ap (slice_get (filter ok (drop (c.loop-i.i + 1) all))) w.left-is
           ∙ found_later ok all c.loop-i.i c.candidate-event.result c.candidate-event.ensures c.loop-i.left c.args.place
           (sym c.is_enabled.ensures ∙ w.if-is_enabled.true) w.if-left-eq0.false c.loop-i.invariant
-      | else-is_enabled w ↦ 
+      | else-is_enabled w ↦
           ap (slice_get (filter ok (drop (c.loop-i.i + 1) all))) w.left-is
           ∙ found_beside ok all c.loop-i.i c.candidate-event.result c.candidate-event.ensures c.loop-i.left c.args.place
           (sym c.is_enabled.ensures ∙ w.if-is_enabled.false) c.loop-i.invariant

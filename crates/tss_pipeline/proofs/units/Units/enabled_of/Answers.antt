@@ -22,9 +22,9 @@ overflow_add-count c =
     let many = c.candidates-i-end.ensures in
     let fits = c.candidates-i-end.type_inv in
     let within =
-        count_within (is_enabled c.args.self.now.machine (state_of c.args.self.now)) all c.loop-i.i c.candidate.result
-        c.candidate.ensures c.loop-i.count (length all) (sym c.is_enabled.ensures ∙ c.if-is_enabled.true)
-        c.loop-i.invariant (omega arith) in
+    count_within (is_enabled c.args.self.now.machine (state_of c.args.self.now)) all c.loop-i.i c.candidate.result
+    c.candidate.ensures c.loop-i.count (length all) (sym c.is_enabled.ensures ∙ c.if-is_enabled.true)
+    c.loop-i.invariant (omega arith) in
     omega (arith, many, fits, within)
 
 pub loop-i-preserved : goal.loop-i-preserved

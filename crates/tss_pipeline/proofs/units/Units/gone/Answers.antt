@@ -25,8 +25,8 @@ tokens c =
     let x = c.take_gone-gone.result in
     let b = c.index_mut.result.now in
     let there =
-        bank_there u.banks.items c.bank_of-bank.result (bank_of u.machine.sizes x.object) b c.bank_of-bank.ensures.exact
-        c.bank_of-bank.ensures.within c.index_mut.ensures.value in
+    bank_there u.banks.items c.bank_of-bank.result (bank_of u.machine.sizes x.object) b c.bank_of-bank.ensures.exact
+    c.bank_of-bank.ensures.within c.index_mut.ensures.value in
     (c.requires.fit.placed.letters (bank_of u.machine.sizes x.object) b there).gones c.args.v x
     c.take_gone-gone.ensures.exact refl
 
@@ -49,10 +49,10 @@ returns c =
     let x = c.take_gone-gone.result in
     let b = c.index_mut.result.now in
     let there =
-        bank_there u.banks.items c.bank_of-bank.result (bank_of u.machine.sizes x.object) b c.bank_of-bank.ensures.exact
-        c.bank_of-bank.ensures.within c.index_mut.ensures.value in
+    bank_there u.banks.items c.bank_of-bank.result (bank_of u.machine.sizes x.object) b c.bank_of-bank.ensures.exact
+    c.bank_of-bank.ensures.within c.index_mut.ensures.value in
     let left =
-        c.gone.ensures.exact ∙ ap (λ w. state_after_gone b.renaming w (gone_of x)) c.take_gone-gone.ensures.named in
+    c.gone.ensures.exact ∙ ap (λ w. state_after_gone b.renaming w (gone_of x)) c.take_gone-gone.ensures.named in
     subst
     (λ (p : ℕ × RenamingState). Does (event.Gone v) u
     (record u { banks = with_item u.banks p.0 (record b { renaming = p.1 }); mail = c.take_gone-gone.new.mail }))
