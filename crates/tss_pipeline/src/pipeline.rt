@@ -116,7 +116,7 @@ impl Pipeline {
 
     /// Says that some run of an accepted image leaves this state, so that the laws over every run hold of it. Does nothing.
     pub fn reached(&self)
-        ensures { IsReached self.now.machine self.now.state }
+        ensures reached { IsReached self.now.machine self.now.state }
     {
     }
 
