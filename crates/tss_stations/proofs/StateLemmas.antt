@@ -106,7 +106,7 @@ module _ (slots : Numbered Slot) (task : ℕ) where
       by : (m : Option Slot) → option_map (λ (x : Flying). length x.operands) (option_map flying_of m)
           ≡ option_map (λ (x : Slot). length (views_of x)) m
       by None = refl
-      by (Some x) = ap Some (length-map state_of (views_of x))
+      by (Some x) = ap Some (length-map (views_of x) state_of)
 
   pub has-flight_of : is_some (get (flight_of slots) task) ≡ is_some (get slots task)
   has-flight_of = ap is_some (get-mapped flying_of slots task) ∙ by (get slots task)
