@@ -4,4 +4,6 @@ use Rattle.tss_pipeline.specs.Seen.{PipelineState, IsReached}
 use Rattle.tss_pipeline.proofs.pipeline.Pipeline.reached.Goals as goal
 
 pub returns : goal.returns
-returns c = subst (λ (p : PipelineState). IsReached p.machine p.state) c.self.view_is c.self.invariant.reached
+returns c = record {
+  reached = subst (λ (p : PipelineState). IsReached p.machine p.state) c.self.view_is c.self.invariant.reached;
+}
