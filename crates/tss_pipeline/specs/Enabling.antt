@@ -1,5 +1,5 @@
 -- The events that may come into question, kind by kind, as the units look for those that may happen.
-use Rattle.std.specs.Prelude.{ℕ, Bool, true, false, List, [], ◌∷◌, map, filter}
+use Rattle.std.specs.Prelude.{Bool, true, false, List, [], ◌∷◌, map, filter}
 use Rattle.std.specs.List.{flat_map, range_with_len}
 use Rattle.tss_base.specs.declared.machine.Machine.{Machine}
 use Rattle.tss_base.specs.declared.event.Event.{Event}

@@ -1,6 +1,6 @@
 -- What holds of the units between two events: their sizes are the machine's, some run leaves their state, each record
 -- stands in the bank of its object, and each token is that of the place that its bank holds under its name.
-use Rattle.std.specs.Prelude.{◌≡◌, ◌<◌, ◌⊎◌, ℕ, ◌+◌, ◌*◌, List, Option, Some, None, length, slice_get}
+use Rattle.std.specs.Prelude.{◌≡◌, ◌<◌, ℕ, ◌+◌, ◌*◌, List, Option, Some, None, length, slice_get}
 use Rattle.std.specs.FinMap.{get}
 use Rattle.tss_base.specs.declared.machine.Machine.{Machine}
 use Rattle.tss_base.specs.declared.machine.Sizes.{Sizes}

@@ -1,15 +1,14 @@
 -- The definitions' state as the units have it: what stands in the banks is joined.
 use Rattle.std.specs.Prelude.{ℕ, suc, List, [], ◌∷◌, Option, Some, None, map, option_map}
-use Rattle.std.specs.FinMap.{get, empty, insert}
-use Rattle.tss_base.specs.declared.machine.Machine.{Machine}
+use Rattle.std.specs.FinMap.{get, empty}
 use Rattle.tss_base.specs.Names.{Named, Numbered}
 use Rattle.tss_banks.specs.Joined.{joined}
 use Rattle.tss_banks.specs.Collected.{collected, with_at}
 use Rattle.tss_banks.specs.Tables.{joined_tables}
 use Rattle.tss_protocol.specs.Renaming.{Tables}
-use Rattle.tss_protocol.specs.State.{State, Entry, Version, CopyState, HeldTrap}
+use Rattle.tss_protocol.specs.State.{State, Version, CopyState, HeldTrap}
 use Rattle.tss_stations.specs.Views.{flight_of}
-use Rattle.tss_renaming.specs.Bank.{RenamingState, tables_of}
+use Rattle.tss_renaming.specs.Bank.{tables_of}
 use Rattle.tss_versions.specs.Known.{versions_of}
 use Rattle.tss_buffers.specs.Contents.{BuffersState, seat}
 use Rattle.tss_buffers.specs.declared.copying.Copying.{Copying}

@@ -1,8 +1,7 @@
 -- A mail from which each named message is taken ends empty.
-use Rattle.std.proofs.Common.{◌≡◌, ℕ, zero, suc, ◌+◌, ◌<◌, Bool, List, [], ◌∷◌, ◌++◌, map, length, Option, Some, None, option_map, refl, sym, ap, ◌∙◌, subst, inl, inr, ◌⊎◌, arith}
+use Rattle.std.proofs.Common.{◌≡◌, ℕ, zero, suc, ◌+◌, ◌<◌, Bool, List, [], ◌∷◌, ◌++◌, map, length, Option, Some, None, option_map, refl, sym, ap, ◌∙◌, subst, arith}
 use Rattle.std.specs.Prelude.{slice_get}
-use Rattle.std.specs.FinMap.{FinMap, get, len, keys, entries, remove, len-entries}
-use Rattle.std.specs.declared.cmp.Ordering.{Ordering}
+use Rattle.std.specs.FinMap.{get, len, keys, entries, remove, len-entries}
 use Rattle.std.proofs.lemmas.List.{length-map, length-append}
 use Rattle.std.proofs.lemmas.Option.{none-some, same_Some}
 use Rattle.tss_base.specs.declared.machine.Sizes.{Sizes}
@@ -10,7 +9,7 @@ use Rattle.tss_base.specs.declared.operand.OpName.{OpName}
 use Rattle.tss_base.specs.declared.operand.Storage.{Storage}
 use Rattle.tss_base.specs.declared.event.Event.{Event}
 use Rattle.tss_base.specs.declared.event.Event.TheVariants as event
-use Rattle.tss_base.specs.Names.{name_cmp, Named}
+use Rattle.tss_base.specs.Names.{Named}
 use Rattle.tss_maps.specs.Ordered.{key_at}
 use Rattle.tss_maps.proofs.Keys.{name_order}
 use Rattle.tss_maps.proofs.Changes.{from_removed}
@@ -20,7 +19,7 @@ use Rattle.tss_events.specs.declared.message.Opening.{Opening}
 use Rattle.tss_events.specs.declared.message.Gone.{Gone}
 use Rattle.tss_events.specs.declared.message.Message.{Message as LetterOf}
 use Rattle.tss_events.specs.declared.message.Message.TheVariants as message
-use Rattle.tss_mail.specs.Letters.{MailState, mail_of, letter_at, without_letter}
+use Rattle.tss_mail.specs.Letters.{MailState, letter_at, without_letter}
 use Rattle.tss_pipeline.specs.Closing.{IsOfBank, AreOfBanks}
 use Rattle.tss_protocol.specs.Mail as mail
 use Rattle.tss_protocol.specs.Mail.{Mail, Message, message_at, taken, early_names, late_names, gone_names, message_names, early_count, late_count, message_count}

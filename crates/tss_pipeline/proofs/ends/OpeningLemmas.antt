@@ -1,5 +1,5 @@
 -- Units with nothing in them are those before the first event.
-use Rattle.std.proofs.Common.{◌≡◌, ℕ, zero, suc, List, [], ◌∷◌, map, length, Option, Some, None, option_map, refl, sym, ap, ◌∙◌, subst, get_or}
+use Rattle.std.proofs.Common.{◌≡◌, ℕ, zero, suc, List, [], ◌∷◌, map, Some, None, option_map, refl, sym, ap, ◌∙◌, subst, get_or}
 use Rattle.std.specs.Prelude.{slice_get}
 use Rattle.std.specs.FinMap.{FinMap, get, remove, empty, get-empty}
 use Rattle.std.specs.Ordering.{nat_cmp}
@@ -7,8 +7,7 @@ use Rattle.std.specs.declared.cmp.Ordering.{Ordering}
 use Rattle.std.proofs.lemmas.Option.{none-some}
 use Rattle.tss_base.specs.declared.machine.Machine.{Machine}
 use Rattle.tss_base.specs.declared.machine.Sizes.{Sizes}
-use Rattle.tss_base.specs.declared.operand.OpName.{OpName}
-use Rattle.tss_base.specs.Names.{name_cmp, Named, Numbered}
+use Rattle.tss_base.specs.Names.{name_cmp}
 use Rattle.tss_base.specs.Image.{ImageState, IsAccepted}
 use Rattle.tss_base.specs.Machine.{IsAdmissible}
 use Rattle.tss_model.specs.Memory.{loaded, frozen}
@@ -18,7 +17,7 @@ use Rattle.tss_maps.proofs.Changes.{absent_removed}
 use Rattle.tss_maps.proofs.MappedLemmas.{mapped-empty}
 use Rattle.tss_protocol.specs.Counts.{message_limit, all_slots}
 use Rattle.tss_protocol.specs.Mail.{no_mail}
-use Rattle.tss_protocol.specs.State.{State, Version, CopyState, initial_state}
+use Rattle.tss_protocol.specs.State.{State, initial_state}
 use Rattle.tss_protocol.specs.Renaming.{Tables}
 use Rattle.tss_protocol.specs.Renaming.{line_of}
 use Rattle.tss_banks.specs.Collected.{with_at}
@@ -34,14 +33,14 @@ use Rattle.tss_conditions.proofs.Known.{reached_first}
 use Rattle.tss_events.specs.Events.{opening_of, gone_of}
 use Rattle.tss_stations.specs.Views.{flight_of, flying_of}
 use Rattle.tss_workers.specs.Seen.{workers_of, busy_of}
-use Rattle.tss_mail.specs.Letters.{MailState, mail_of, no_letters, told_source, told_release, told_idle}
+use Rattle.tss_mail.specs.Letters.{mail_of, no_letters, told_source, told_release, told_idle}
 use Rattle.tss_renaming.specs.Bank.{tables_of}
 use Rattle.tss_versions.specs.Known.{versions_of, version_of}
 use Rattle.tss_buffers.specs.Contents.{BuffersState, seat}
 use Rattle.tss_pipeline.specs.declared.bank.Bank.{Bank}
 use Rattle.tss_pipeline.specs.declared.units.Units.{Units}
 use Rattle.tss_pipeline.specs.State.{held_trap, state_of, bank_tables, bank_versions, contents_in, contents_of, bank_copy, copies_from}
-use Rattle.tss_pipeline.specs.Fit.{IsSized, AreBanks, AreSized, HoldsOwn, ArePlaced, HoldsLetters, ground_of, IsFit}
+use Rattle.tss_pipeline.specs.Fit.{AreBanks, AreSized, HoldsOwn, ArePlaced, ground_of}
 use Rattle.tss_pipeline.specs.Opening.{empty_bank, AreEmpty, AreOpened}
 
 -- no message

@@ -1,22 +1,20 @@
 -- The events that may happen, kind by kind, are all that may happen.
-use Rattle.std.proofs.Common.{◌≡◌, ℕ, zero, suc, ◌+◌, ◌<◌, Bool, true, false, cond, List, [], ◌∷◌, ◌++◌, map, length, Option, Some, None, refl, sym, ap, ◌∙◌, subst, append_assoc, append-nil, arith}
+use Rattle.std.proofs.Common.{◌≡◌, ℕ, ◌<◌, Bool, true, false, List, [], ◌∷◌, ◌++◌, map, Option, Some, None, refl, sym, ap, ◌∙◌, append_assoc, append-nil}
 use Rattle.std.specs.Prelude.{filter, is_some}
-use Rattle.std.specs.List.{flat_map, range_with_len}
+use Rattle.std.specs.List.{range_with_len}
 use Rattle.std.specs.FinMap.{get, keys}
 use Rattle.std.proofs.lemmas.List.Elements.{filter-append}
 use Rattle.tss_base.specs.declared.machine.Machine.{Machine}
 use Rattle.tss_base.specs.declared.event.Event.{Event}
 use Rattle.tss_base.specs.declared.event.Event.TheVariants as event
-use Rattle.tss_protocol.specs.Mail.{Mail, early_names, late_names, gone_names}
+use Rattle.tss_protocol.specs.Mail.{early_names, late_names, gone_names}
 use Rattle.tss_protocol.specs.State.{State, Busy, CopyState}
 use Rattle.tss_protocol.specs.Workers.{can_exec, can_finish}
 use Rattle.tss_protocol.specs.UnitMachine.{is_enabled, worker_events, copy_events, candidate_events, enabled_events}
-use Rattle.tss_mail.specs.declared.kind.Kind.TheVariants as kind
-use Rattle.tss_pipeline.specs.declared.enabling.Source.{Source}
 use Rattle.tss_pipeline.specs.declared.enabling.Source.TheVariants as source
 use Rattle.tss_pipeline.specs.declared.enabling.TheConstants.{SOURCES}
-use Rattle.tss_pipeline.specs.Enabling.{candidates_of, enabled_of_kind, enabled_of_kinds}
-use Rattle.tss_pipeline.proofs.listed.KeyLists.{has, same_filtered}
+use Rattle.tss_pipeline.specs.Enabling.{enabled_of_kind, enabled_of_kinds}
+use Rattle.tss_pipeline.proofs.listed.KeyLists.{same_filtered}
 
 -- ---- lists that are joined from the left, and from the right
 

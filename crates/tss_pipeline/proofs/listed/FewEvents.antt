@@ -1,18 +1,13 @@
 -- The events that may happen are found kind by kind, and there are few.
-use Rattle.std.proofs.Common.{◌≡◌, ℕ, zero, suc, ◌+◌, ◌-◌, ◌*◌, ◌<◌, ◌≤◌, ◌^◌, List, [], ◌∷◌, ◌++◌, map, length, drop, get_or, Option, Some, None, refl, sym, ap, ◌∙◌, subst, arith}
+use Rattle.std.proofs.Common.{◌≡◌, ℕ, ◌+◌, ◌-◌, ◌*◌, ◌<◌, ◌≤◌, ◌^◌, List, [], ◌∷◌, ◌++◌, length, drop, get_or, None, refl, sym, ap, ◌∙◌, arith}
 use Rattle.std.specs.Prelude.{slice_get}
-use Rattle.std.specs.FinMap.{get, len}
 use Rattle.std.proofs.lemmas.List.{length-append, drop_more, drop_all}
-use Rattle.tss_base.specs.declared.bounds.TheConstants.{MAX_OPERANDS, MAX_STATIONS, MAX_SLOTS, MAX_WORKERS, MAX_BANKS, MAX_VERSIONS, MAX_WINDOW}
 use Rattle.tss_base.specs.declared.machine.Machine.{Machine}
 use Rattle.tss_base.specs.declared.machine.Key.TheVariants as key
 use Rattle.tss_base.specs.declared.event.Event.{Event}
 use Rattle.tss_base.specs.declared.event.Event.TheVariants as event
-use Rattle.tss_base.specs.Names.{Named}
-use Rattle.tss_base.specs.Machine.{IsInRange}
-use Rattle.tss_protocol.specs.Mail.{Mail, message_count}
-use Rattle.tss_protocol.specs.Counts.{message_limit}
-use Rattle.tss_protocol.specs.State.{State, Busy, CopyState}
+use Rattle.tss_protocol.specs.Mail.{message_count}
+use Rattle.tss_protocol.specs.State.{State}
 use Rattle.tss_protocol.specs.UnitMachine.{is_enabled, enabled_events}
 use Rattle.tss_conditions.proofs.Filling.{within_sizes}
 use Rattle.tss_conditions.proofs.Running.{is_running}

@@ -1,6 +1,6 @@
 -- Events of some kinds may happen wherever their message is.
-use Rattle.std.proofs.Common.{◌≡◌, ℕ, Bool, true, false, List, map, Option, Some, None, refl, sym, ap, ◌∙◌, subst}
-use Rattle.std.specs.Prelude.{slice_get, is_some, filter}
+use Rattle.std.proofs.Common.{◌≡◌, ℕ, true, false, map, Some, refl, sym, ap, ◌∙◌}
+use Rattle.std.specs.Prelude.{slice_get, is_some}
 use Rattle.std.specs.FinMap.{get, keys}
 use Rattle.tss_base.specs.declared.operand.OpName.{OpName}
 use Rattle.tss_base.specs.declared.machine.Machine.{Machine}

@@ -1,14 +1,13 @@
 -- The keys of a map of numbers, among all numbers below one.
-use Rattle.std.proofs.Common.{◌≡◌, ◌≢◌, ℕ, zero, suc, ◌+◌, ◌<◌, ◌≤◌, Bool, true, false, cond, List, [], ◌∷◌, map, length, Option, Some, None, refl, sym, ap, ◌∙◌, subst, inl, inr, arith}
+use Rattle.std.proofs.Common.{◌≡◌, ◌≢◌, ℕ, zero, suc, ◌+◌, ◌<◌, ◌≤◌, Bool, true, false, cond, List, [], ◌∷◌, map, length, Some, None, refl, sym, ap, ◌∙◌, inl, inr, arith}
 use Rattle.std.specs.Prelude.{filter, is_some, slice_get}
 use Rattle.std.specs.List.{range_with_len}
-use Rattle.std.specs.FinMap.{FinMap, get, remove, insert, keys, len, entries, len-entries, entries-insert}
+use Rattle.std.specs.FinMap.{get, remove, insert, keys, len, entries, len-entries, entries-insert}
 use Rattle.std.specs.FinMap.Entries.{put, by_order}
 use Rattle.std.specs.Ordering.{nat_cmp}
-use Rattle.std.specs.declared.cmp.Ordering.TheVariants.{Less, Equal, Greater}
 use Rattle.std.proofs.lemmas.Option.{none-some}
 use Rattle.tss_base.specs.Names.{Numbered}
-use Rattle.tss_maps.proofs.Keys.{nat_order, less_from_below, decide_key}
+use Rattle.tss_maps.proofs.Keys.{nat_order, less_from_below}
 use Rattle.tss_maps.proofs.Changes.{decide_get, beside_removed, from_removed, insert_removed}
 use Rattle.tss_maps.proofs.Entries.{some_entry}
 use Rattle.tss_maps.proofs.OrderedLemmas.{get_from_place}

@@ -1,20 +1,16 @@
 -- What the banks are together, where one of them is another.
-use Rattle.std.proofs.Common.{◌≡◌, ◌≢◌, ℕ, zero, suc, ◌+◌, ◌<◌, List, [], ◌∷◌, map, length, set, Option, Some, None, refl, sym, ap, ◌∙◌, subst, inl, inr, ◌⊎◌, arith, get_or}
+use Rattle.std.proofs.Common.{◌≡◌, ◌≢◌, ℕ, zero, suc, ◌+◌, List, [], ◌∷◌, map, set, Option, Some, refl, sym, ap, ◌∙◌, subst, inl, inr, arith}
 use Rattle.std.specs.Prelude.{slice_get}
-use Rattle.std.specs.FinMap.{FinMap, get, empty, insert, remove, get-empty}
-use Rattle.std.specs.Ordering.{nat_cmp}
-use Rattle.std.specs.declared.cmp.Ordering.{Ordering}
-use Rattle.std.proofs.lemmas.List.{length-map, length-set, map-set}
+use Rattle.std.specs.FinMap.{get}
+use Rattle.std.proofs.lemmas.List.{length-set, map-set}
 use Rattle.std.proofs.lemmas.Option.{none-some, same_Some}
 use Rattle.tss_base.specs.declared.machine.Machine.{Machine}
-use Rattle.tss_base.specs.Names.{Named, Numbered}
-use Rattle.tss_maps.proofs.Keys.{IsKeyOrder, nat_order, name_order, decide_key}
-use Rattle.tss_maps.proofs.Changes.{same_by_get, at_removed}
+use Rattle.tss_base.specs.Names.{Numbered}
+use Rattle.tss_maps.proofs.Keys.{nat_order, decide_key}
+use Rattle.tss_maps.proofs.Changes.{same_by_get}
 use Rattle.tss_banks.specs.Joined.{joined}
 use Rattle.tss_banks.specs.Collected.{with_at}
 use Rattle.tss_banks.proofs.CollectedLemmas.{at_with, beside_with}
-use Rattle.tss_protocol.specs.State.{CopyState}
-use Rattle.tss_protocol.specs.Renaming.{Tables}
 use Rattle.tss_renaming.specs.Bank.{tables_of}
 use Rattle.tss_versions.specs.Known.{versions_of}
 use Rattle.tss_buffers.specs.Contents.{BuffersState}

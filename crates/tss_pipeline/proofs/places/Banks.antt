@@ -1,18 +1,14 @@
 -- Each object has a bank, whose pools the tokens of its messages are of.
-use Rattle.std.proofs.Common.{◌≡◌, ℕ, ◌+◌, ◌*◌, ◌<◌, ◌≤◌, length, Option, Some, refl, sym, ap, ◌∙◌, subst, inl, inr, arith}
+use Rattle.std.proofs.Common.{◌≡◌, ℕ, ◌+◌, ◌*◌, ◌<◌, length, Some, refl, sym, ap, ◌∙◌, subst, inl, inr, arith}
 use Rattle.std.specs.Prelude.{slice_get}
 use Rattle.std.proofs.lemmas.Option.{slice_get_cases}
 use Rattle.tss_base.specs.declared.range.Range.{Range}
-use Rattle.tss_tokens.specs.Pool.{TokenState}
-use Rattle.tss_events.specs.declared.message.Opening.{Opening}
-use Rattle.tss_events.specs.declared.message.HeldBuffer.{HeldBuffer}
-use Rattle.tss_events.specs.declared.message.Gone.{Gone}
 use Rattle.tss_protocol.specs.Names.{bank_of}
 use Rattle.tss_banks.proofs.BankCounts.{bank_of_base_below}
 use Rattle.tss_pipeline.specs.declared.bank.Bank.{Bank}
 use Rattle.tss_pipeline.specs.declared.units.Units.{Units}
-use Rattle.tss_pipeline.specs.Fit.{IsFit, HoldsOpening, HoldsGone}
-use Rattle.tss_pipeline.specs.Closing.{IsOpeningOf, IsGoneOf, AreOfBanks}
+use Rattle.tss_pipeline.specs.Fit.{IsFit}
+use Rattle.tss_pipeline.specs.Closing.{AreOfBanks}
 use Rattle.tss_pipeline.proofs.places.SizeLemmas.{few_banks}
 
 module _ (u : Units) (fit : IsFit u) where

@@ -1,5 +1,5 @@
 -- Tokens and places stay those of a bank as long as the bank holds their names.
-use Rattle.std.proofs.Common.{◌≡◌, ℕ, ◌+◌, ◌*◌, Option, Some, None, refl, sym, ap, ◌∙◌, subst}
+use Rattle.std.proofs.Common.{◌≡◌, ℕ, ◌+◌, ◌*◌, Option, Some, None, sym, ap, ◌∙◌}
 use Rattle.std.specs.FinMap.{get}
 use Rattle.tss_base.specs.declared.operand.OpName.{OpName}
 use Rattle.tss_tokens.specs.Pool.{TokenState}
@@ -8,11 +8,9 @@ use Rattle.tss_events.specs.declared.message.HeldBuffer.{HeldBuffer}
 use Rattle.tss_events.specs.declared.message.Gone.{Gone}
 use Rattle.tss_renaming.specs.Bank.{RenamingState}
 use Rattle.tss_versions.specs.declared.kept.Kept.{Kept}
-use Rattle.tss_versions.specs.Known.{buffer_in}
 use Rattle.tss_buffers.specs.declared.copying.Copying.{Copying}
-use Rattle.tss_pipeline.specs.declared.bank.Bank.{Bank}
 use Rattle.tss_pipeline.specs.declared.bank.Job.{Job}
-use Rattle.tss_pipeline.specs.Fit.{HoldsPlace, HoldsBuffer, HoldsOpening, HoldsGone, HoldsKept, HoldsJob, IsEngaged}
+use Rattle.tss_pipeline.specs.Fit.{HoldsPlace, HoldsBuffer, HoldsOpening, HoldsGone, HoldsKept, IsEngaged}
 
 -- a bank holds all that another state of it holds
 pub record HoldsAll (x y : RenamingState) : Type 0 where

@@ -1,17 +1,16 @@
 -- What the joined state says of one bank.
-use Rattle.std.proofs.Common.{◌≡◌, ◌≢◌, ℕ, zero, suc, ◌<◌, ◌≤◌, List, length, map, Option, Some, None, option_map, refl, sym, ap, ◌∙◌, subst, inl, inr, ◌⊎◌, get_or}
+use Rattle.std.proofs.Common.{◌≡◌, ℕ, List, Some, None, option_map, sym, ap, ◌∙◌, subst, inl, inr}
 use Rattle.std.specs.Prelude.{slice_get}
 use Rattle.std.specs.FinMap.{get, empty}
-use Rattle.std.proofs.lemmas.Option.{none-some, same_Some, slice_get_within, get_or_from_slice_get}
+use Rattle.std.proofs.lemmas.Option.{none-some, same_Some, get_or_from_slice_get}
 use Rattle.tss_base.specs.declared.range.Range.{Range}
 use Rattle.tss_base.specs.declared.operand.OpName.{OpName}
 use Rattle.tss_base.specs.declared.machine.Sizes.{Sizes}
-use Rattle.tss_maps.specs.Mapped.{mapped}
 use Rattle.tss_maps.proofs.Keys.{nat_order, name_order}
 use Rattle.tss_maps.proofs.Changes.{decide_get}
 use Rattle.tss_maps.proofs.MappedLemmas.{get-mapped}
 use Rattle.tss_protocol.specs.Names.{bank_of}
-use Rattle.tss_protocol.specs.State.{Version, Entry}
+use Rattle.tss_protocol.specs.State.{Version}
 use Rattle.tss_banks.specs.Joined.{bank, joined, IsInNoOther}
 use Rattle.tss_base.specs.Names.{Named}
 use Rattle.tss_protocol.specs.Renaming.{Tables}

@@ -1,12 +1,11 @@
 -- Each thing is in its place, where one bank is another, or messages have come or gone.
-use Rattle.std.proofs.Common.{◌≡◌, ◌≢◌, ℕ, List, set, Option, Some, None, refl, sym, ap, ◌∙◌, subst, inl, inr}
+use Rattle.std.proofs.Common.{◌≡◌, ℕ, set, Some, refl, sym, ap, ◌∙◌, subst, inl, inr}
 use Rattle.std.specs.Prelude.{slice_get}
 use Rattle.std.specs.FinMap.{get, insert}
 use Rattle.tss_base.specs.declared.operand.OpName.{OpName}
 use Rattle.tss_base.specs.declared.operand.Operand.{Operand}
 use Rattle.tss_base.specs.declared.operand.Storage.{Storage}
 use Rattle.tss_base.specs.declared.operand.Storage.TheVariants as storage
-use Rattle.tss_model.specs.Access.{operands_of}
 use Rattle.tss_workers.specs.declared.running.Worker.{Worker}
 use Rattle.tss_events.specs.declared.message.Opening.{Opening}
 use Rattle.tss_events.specs.declared.message.Gone.{Gone}
@@ -20,10 +19,9 @@ use Rattle.tss_banks.specs.Versions.{VersionsInBanks}
 use Rattle.tss_renaming.specs.Bank.{tables_of}
 use Rattle.tss_versions.specs.Known.{versions_of}
 use Rattle.tss_pipeline.specs.declared.bank.Bank.{Bank}
-use Rattle.tss_pipeline.specs.State.{bank_tables, bank_versions}
+use Rattle.tss_pipeline.specs.State.{bank_versions}
 use Rattle.tss_pipeline.specs.Fit.{Ground, ArePlaced, HoldsOpening, HoldsGone, HoldsLetters, HoldsOwn, HoldsStorage, HoldsStorages}
-use Rattle.tss_pipeline.proofs.places.Holds.{HoldsAll, opening_held, gone_held}
-use Rattle.tss_pipeline.proofs.places.BankChanges.{each_bank, tables_set, versions_set, versions_kept, tables_kept}
+use Rattle.tss_pipeline.proofs.places.BankChanges.{each_bank, versions_set, tables_kept}
 
 -- the letters of a bank, where no other have come, and the line is the same
 pub letters_fewer : (g new : Ground) (n : ℕ) (b : Bank) → new.sizes ≡ g.sizes

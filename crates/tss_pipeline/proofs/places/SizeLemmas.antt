@@ -1,7 +1,7 @@
 -- The sizes of an admissible machine are small.
-use Rattle.std.proofs.Common.{◌≡◌, ℕ, ◌+◌, ◌*◌, ◌≤◌, ◌<◌, refl, arith}
+use Rattle.std.proofs.Common.{◌*◌, ◌≤◌, refl, arith}
 use Rattle.std.proofs.lemmas.Nat.{mul-le}
-use Rattle.tss_base.specs.declared.bounds.TheConstants.{MAX_OPERANDS, MAX_STATIONS, MAX_SLOTS, MAX_WORKERS, MAX_BANKS, MAX_ENTRIES, MAX_VERSIONS, MAX_BUFFERS, MAX_WINDOW, MAX_OBJECT_BYTES, MAX_QUANTUM, MAX_TASK_BUDGET}
+use Rattle.tss_base.specs.declared.bounds.TheConstants.{MAX_OPERANDS, MAX_STATIONS, MAX_SLOTS, MAX_BANKS, MAX_VERSIONS, MAX_WINDOW}
 use Rattle.tss_base.specs.declared.machine.Machine.{Machine}
 use Rattle.tss_base.specs.declared.machine.Key.TheVariants as key
 use Rattle.tss_base.specs.Machine.{IsAdmissible, IsInRange}

@@ -1,10 +1,9 @@
-use Rattle.std.proofs.Common.{◌≡◌, ℕ, ◌+◌, ◌-◌, ◌<◌, ◌≤◌, ◌++◌, List, [], ◌∷◌, length, Some, refl, sym, ap, ◌∙◌, subst, inl, inr, arith}
+use Rattle.std.proofs.Common.{◌≡◌, ℕ, ◌+◌, ◌-◌, ◌≤◌, ◌++◌, List, [], ◌∷◌, length, Some, sym, ap, ◌∙◌, subst, inl, inr, arith}
 use Rattle.std.specs.Prelude.{slice_get}
 use Rattle.std.proofs.lemmas.List.{length-append}
 use Rattle.tss_maps.proofs.Keys.{nat_order, decide_key}
 use Rattle.tss_pipeline.specs.declared.bank.Bank.{Bank}
 use Rattle.tss_pipeline.specs.declared.closing.EndedBank.{EndedBank}
-use Rattle.tss_pipeline.specs.Fit.{HoldsOwn}
 use Rattle.tss_pipeline.specs.Closing.{ended_bank, AreEnded}
 use Rattle.tss_pipeline.proofs.places.AppendedLemmas.{slice_get-last, slice_get-before}
 use Rattle.tss_pipeline.proofs.closing.end_banks.Goals as goal

@@ -1,8 +1,7 @@
-use Rattle.std.proofs.Common.{◌≡◌, ◌<◌, Option, Some, None, option_map, refl, sym, ap, ◌∙◌, subst}
-use Rattle.std.specs.Prelude.{slice_get}
+use Rattle.std.proofs.Common.{◌<◌, option_map, sym, ap, ◌∙◌, subst}
 use Rattle.std.proofs.lemmas.Option.{none-some}
 use Rattle.tss_events.specs.Events.{message_of}
-use Rattle.tss_protocol.specs.Mail.{Mail, taken, message_names, message_count}
+use Rattle.tss_protocol.specs.Mail.{Mail, message_count}
 use Rattle.tss_mail.specs.Letters.{mail_of}
 use Rattle.tss_pipeline.specs.Closing.{AreOfBanks}
 use Rattle.tss_pipeline.proofs.ends.EndingLemmas.{fewer_taken, names_there, none_named, banks_taken, letter_of_bank}

@@ -1,7 +1,7 @@
-use Rattle.std.proofs.Common.{◌≡◌, ◌+◌, ◌≤◌, ◌++◌, List, [], ◌∷◌, length, Some, refl, sym, ap, ◌∙◌, subst, inl, inr, arith}
+use Rattle.std.proofs.Common.{List, sym, ap, ◌∙◌, inl, inr, arith}
 use Rattle.std.specs.Prelude.{slice_get}
 use Rattle.tss_pipeline.specs.declared.bank.Bank.{Bank}
-use Rattle.tss_pipeline.specs.Opening.{empty_bank, AreEmpty}
+use Rattle.tss_pipeline.specs.Opening.{empty_bank}
 use Rattle.tss_pipeline.proofs.places.AppendedLemmas.{from_appended}
 use Rattle.tss_pipeline.proofs.opening.open_banks.Goals as goal
 

@@ -1,4 +1,4 @@
-use Rattle.std.proofs.Common.{◌≡◌, sym, ◌∙◌}
+use Rattle.std.proofs.Common.{sym, ◌∙◌}
 use Rattle.tss_pipeline.proofs.bank.Bank.close.Goals as goal
 
 pub close-requires : goal.close-requires

@@ -1,11 +1,9 @@
-use Rattle.std.proofs.Common.{◌≡◌, ℕ, ◌<◌, List, map, length, Some, refl, sym, ap, ◌∙◌, subst}
+use Rattle.std.proofs.Common.{◌<◌, length, ap, ◌∙◌, subst}
 use Rattle.std.specs.Prelude.{slice_get}
-use Rattle.std.specs.List.{range_with_len}
 use Rattle.tss_base.specs.declared.event.Event.TheVariants as event
 use Rattle.tss_pipeline.specs.declared.enabling.Source.{Source}
 use Rattle.tss_pipeline.specs.Enabling.{candidates_of}
 use Rattle.tss_pipeline.specs.State.{state_of}
-use Rattle.tss_pipeline.proofs.listed.EnabledKinds.{enabled_by_kinds}
 use Rattle.tss_pipeline.proofs.listed.FilteredLists.{length-numbers, number_from_zero}
 use Rattle.tss_pipeline.proofs.units.Units.candidate.Goals as goal
 

@@ -1,4 +1,4 @@
-use Rattle.std.proofs.Common.{◌≡◌, length, sym, ap, ◌∙◌, inl, inr}
+use Rattle.std.proofs.Common.{length, sym, ap, ◌∙◌, inl, inr}
 use Rattle.tss_base.specs.declared.event.Event.TheVariants as event
 use Rattle.tss_pipeline.specs.declared.enabling.Source.{Source}
 use Rattle.tss_pipeline.specs.Enabling.{candidates_of}

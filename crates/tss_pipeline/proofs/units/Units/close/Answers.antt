@@ -1,4 +1,3 @@
-use Rattle.std.proofs.Common.{◌≡◌, ◌+◌, ◌*◌, ◌<◌, Some, sym, ap, ◌∙◌, arith}
 use Rattle.tss_pipeline.proofs.places.SizeLemmas.{few_banks}
 use Rattle.tss_pipeline.proofs.places.Banks.{letters_of_banks}
 use Rattle.tss_pipeline.proofs.units.Units.close.Goals as goal

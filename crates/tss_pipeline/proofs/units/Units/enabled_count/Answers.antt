@@ -1,9 +1,8 @@
-use Rattle.std.proofs.Common.{◌≡◌, ◌+◌, ◌≤◌, ◌<◌, List, length, drop, sym, ap, ◌∙◌, arith}
+use Rattle.std.proofs.Common.{◌+◌, List, length, drop, ap, ◌∙◌, arith}
 use Rattle.tss_base.specs.declared.event.Event.{Event}
-use Rattle.tss_protocol.specs.UnitMachine.{enabled_events}
 use Rattle.tss_pipeline.specs.declared.enabling.Source.TheVariants as source
 use Rattle.tss_pipeline.specs.declared.enabling.TheConstants.{SOURCES}
-use Rattle.tss_pipeline.specs.Enabling.{enabled_of_kind, enabled_of_kinds}
+use Rattle.tss_pipeline.specs.Enabling.{enabled_of_kinds}
 use Rattle.tss_pipeline.specs.State.{state_of}
 use Rattle.tss_pipeline.proofs.listed.FewEvents.{all_by_kinds, few_events, count_kind, count_all}
 use Rattle.tss_pipeline.proofs.units.Units.enabled_count.Goals as goal

@@ -1,4 +1,4 @@
-use Rattle.std.proofs.Common.{◌≡◌, None, refl, sym, ap, ◌∙◌}
+use Rattle.std.proofs.Common.{None, refl, ap, ◌∙◌}
 use Rattle.tss_base.specs.declared.machine.Key.TheVariants as key
 use Rattle.tss_model.specs.MainStep.{main_start}
 use Rattle.tss_mail.specs.Letters.{no_letters}
