@@ -3,3 +3,4 @@ pub mod FilteredLists
 pub mod EnabledKinds
 pub mod FreeEvents
 pub mod FewEvents
+pub mod KeptKinds

@@ -1,8 +1,10 @@
 // The events that may happen, in order.
 ghost use Rattle.std.specs.Prelude.{◌≡◌, ◌<◌, Some, length, slice_get};
+ghost use Rattle.tss_locality.specs.Leaves.{changes};
 ghost use Rattle.tss_protocol.specs.UnitMachine.{is_enabled, enabled_events};
 ghost use Rattle.tss_pipeline.specs.Enabling.{candidates_of, enabled_of_kind, enabled_of_kinds, is_always, is_free};
 ghost use Rattle.tss_pipeline.specs.Fit.{IsFit};
+ghost use Rattle.tss_pipeline.specs.Keeping.{AreWaiting, WereEnabled, WereWaiting, letters_enabled};
 ghost use Rattle.tss_pipeline.specs.State.{state_of};
 
 use crate::units::Units;
@@ -45,6 +47,40 @@ const SOURCES: [Source; KINDS] = [
     Source::Copy,
     Source::Letters(Kind::Gone),
 ];
+
+/// How many messages may be taken, of each kind that waits for something: a decode for its turn and for room in its bank,
+/// an open and a use for the version that they name, and a retire for its bank's copy engine.
+#[derive(Clone, Copy, Debug, PartialEq, Eq)]
+pub(crate) struct Waiting {
+    decodes: u32,
+    opens: u32,
+    uses: u32,
+    retires: u32,
+}
+
+/// Whether an event may take or send messages.
+fn changes_mail(e: &Event) -> bool
+    ensures { result ≡ (changes e.now).mail }
+{
+    match e {
+        Event::Main | Event::Start(_) | Event::Exec(_) => false,
+        Event::Take
+        | Event::Decode(_)
+        | Event::Ack(_)
+        | Event::Open(_)
+        | Event::Use(_)
+        | Event::Ready(_)
+        | Event::Link(_)
+        | Event::Finish(_)
+        | Event::Release(_)
+        | Event::Bye(_)
+        | Event::Idle(_)
+        | Event::Nack(_)
+        | Event::Retire(_)
+        | Event::Copy(_)
+        | Event::Gone(_) => true,
+    }
+}
 
 /// Whether a message of a kind may be taken wherever it is.
 fn is_always(kind: Kind) -> bool
@@ -155,27 +191,109 @@ impl Units {
         None
     }
 
-    /// How many events may happen.
-    pub(crate) fn enabled_count(&self) -> u32
+    /// How many messages of a kind may be taken.
+    fn letters_of(&self, kept: &Waiting, kind: Kind) -> u32
+        requires fit { IsFit self.now }
+        requires kept { AreWaiting self.now kept.now }
+        ensures { result ≡ letters_enabled self.now kind }
+    {
+        match kind {
+            Kind::Decode => kept.decodes,
+            Kind::Open => kept.opens,
+            Kind::Use => kept.uses,
+            Kind::Retire => kept.retires,
+            Kind::Ack
+            | Kind::Ready
+            | Kind::Link
+            | Kind::Release
+            | Kind::Bye
+            | Kind::Idle
+            | Kind::Nack
+            | Kind::Gone => self.enabled_of(Source::Letters(kind)),
+        }
+    }
+
+    /// How many events of a kind may happen, by what is kept.
+    fn count_of(&self, kept: &Waiting, source: Source) -> u32
+        requires fit { IsFit self.now }
+        requires kept { AreWaiting self.now kept.now }
+        ensures { result ≡ length (enabled_of_kind self.now.machine (state_of self.now) source) }
+    {
+        match source {
+            Source::Letters(kind) => self.letters_of(kept, kind),
+            Source::Main
+            | Source::Take
+            | Source::Start
+            | Source::Exec
+            | Source::Finish
+            | Source::Copy => self.enabled_of(source),
+        }
+    }
+
+    /// How many messages may be taken, of each kind that waits for something.
+    pub(crate) fn waiting(&self) -> Waiting
         requires { IsFit self.now }
+        ensures { AreWaiting self.now result }
+    {
+        Waiting {
+            decodes: self.enabled_of(Source::Letters(Kind::Decode)),
+            opens: self.enabled_of(Source::Letters(Kind::Open)),
+            uses: self.enabled_of(Source::Letters(Kind::Use)),
+            retires: self.enabled_of(Source::Letters(Kind::Retire)),
+        }
+    }
+
+    /// How many messages of a kind may be taken after an event, by how many might before it. Where the event leaves the
+    /// messages alone, they are as many.
+    fn letters_after(&self, e: &Event, kind: Kind, before: u32) -> u32
+        requires fit { IsFit self.now }
+        requires before { WereEnabled e.now self.now kind before }
+        ensures { result ≡ letters_enabled self.now kind }
+    {
+        if changes_mail(e) {
+            self.enabled_of(Source::Letters(kind))
+        } else {
+            before
+        }
+    }
+
+    /// The same of each kind that waits for something.
+    pub(crate) fn waiting_after(&self, e: &Event, before: &Waiting) -> Waiting
+        requires fit { IsFit self.now }
+        requires before { WereWaiting e.now self.now before.now }
+        ensures { AreWaiting self.now result }
+    {
+        Waiting {
+            decodes: self.letters_after(e, Kind::Decode, before.decodes),
+            opens: self.letters_after(e, Kind::Open, before.opens),
+            uses: self.letters_after(e, Kind::Use, before.uses),
+            retires: self.letters_after(e, Kind::Retire, before.retires),
+        }
+    }
+
+    /// How many events may happen.
+    pub(crate) fn enabled_count(&self, kept: &Waiting) -> u32
+        requires fit { IsFit self.now }
+        requires kept { AreWaiting self.now kept.now }
         ensures { result ≡ length (enabled_events self.now.machine (state_of self.now)) }
     {
         let mut count = 0;
         for kind in 0..KINDS {
-            count += self.enabled_of(SOURCES[kind]);
+            count += self.count_of(kept, SOURCES[kind]);
         }
         count
     }
 
     /// The event at a place, from 0, of those that may happen, in order.
-    pub(crate) fn enabled_at(&self, i: u32) -> Option<Event>
-        requires { IsFit self.now }
+    pub(crate) fn enabled_at(&self, kept: &Waiting, i: u32) -> Option<Event>
+        requires fit { IsFit self.now }
+        requires kept { AreWaiting self.now kept.now }
         ensures { result ≡ slice_get (enabled_events self.now.machine (state_of self.now)) i }
     {
         let mut left = i;
         for kind in 0..KINDS {
             let source = SOURCES[kind];
-            let count = self.enabled_of(source);
+            let count = self.count_of(kept, source);
             if left < count {
                 return self.enabled_in(source, left);
             }

@@ -8,6 +8,7 @@ ghost use Rattle.tss_protocol.specs.Result.{is_finished, result_of, tasks_of, pr
 ghost use Rattle.tss_protocol.specs.UnitMachine.{enabled_events};
 ghost use Rattle.tss_pipeline.specs.Seen.{IsReached, StepsTo};
 
+use crate::enabling::Waiting;
 use crate::step::NotEnabled;
 use crate::units::Units;
 use std::alloc::Global;
@@ -21,6 +22,7 @@ use tss_memory::Space;
 pub struct Pipeline {
     pub(crate) units: Units,
     counts: Counts,
+    waiting: Waiting,
 }
 
 impl Model for Pipeline {
@@ -34,7 +36,7 @@ impl Model for Pipeline {
 
     ghost view = { λ p. seen_of p.units };
 
-    ghost invariant = { λ p. IsKept p.units p.counts };
+    ghost invariant = { λ p. IsKept p.units p.counts p.waiting };
 }
 
 impl Pipeline {
@@ -45,7 +47,12 @@ impl Pipeline {
     {
         let units = Units::open(alloc, image, machine)?;
         let counts = units.counts();
-        Ok(Pipeline { units, counts })
+        let waiting = units.waiting();
+        Ok(Pipeline {
+            units,
+            counts,
+            waiting,
+        })
     }
 
     /// Does one event, where it may happen.
@@ -57,6 +64,7 @@ impl Pipeline {
         }
         self.units.event(e);
         self.counts = self.units.counts_after(&e, &self.counts);
+        self.waiting = self.units.waiting_after(&e, &self.waiting);
         Ok(())
     }
 
@@ -64,14 +72,14 @@ impl Pipeline {
     pub fn enabled_count(&self) -> u32
         ensures { result ≡ length (enabled_events self.now.machine self.now.state) }
     {
-        self.units.enabled_count()
+        self.units.enabled_count(&self.waiting)
     }
 
     /// The event at a place, from 0, of those that may happen, in the order of events.
     pub fn enabled_at(&self, i: u32) -> Option<Event>
         ensures { result ≡ slice_get (enabled_events self.now.machine self.now.state) i }
     {
-        self.units.enabled_at(i)
+        self.units.enabled_at(&self.waiting, i)
     }
 
     /// Whether the run is over.
@@ -125,7 +133,11 @@ impl Pipeline {
 
     /// Ends the machine, in any state.
     pub fn close(self) {
-        let Pipeline { units, counts: _ } = self;
+        let Pipeline {
+            units,
+            counts: _,
+            waiting: _,
+        } = self;
         units.close();
     }
 }

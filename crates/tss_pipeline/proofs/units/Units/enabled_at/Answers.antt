@@ -9,21 +9,21 @@ use Rattle.tss_pipeline.proofs.listed.FewEvents.{all_by_kinds, find_kind, find_f
 use Rattle.tss_pipeline.proofs.units.Units.enabled_at.Goals as goal
 
 pub loop-kind-init : goal.loop-kind-init
-loop-kind-init c = ap (λ (es : List Event). slice_get es c.args.i) (all_by_kinds c.args.self.now c.requires)
+loop-kind-init c = ap (λ (es : List Event). slice_get es c.args.i) (all_by_kinds c.args.self.now c.requires.fit)
 
 pub returns-then-left-count : goal.returns-then-left-count
 returns-then-left-count c =
     c.enabled_in.ensures
     ∙ find_kind c.args.self.now.machine (state_of c.args.self.now) c.loop-kind.kind c.loop-kind.left c.args.i source.Main
-    c.loop-kind-test.true c.loop-kind.invariant (subst (λ n. c.loop-kind.left < n) c.enabled_of-count.ensures c.if-left-count.true)
+    c.loop-kind-test.true c.loop-kind.invariant (subst (λ n. c.loop-kind.left < n) c.count_of-count.ensures c.if-left-count.true)
 
 pub loop-kind-preserved : goal.loop-kind-preserved
 loop-kind-preserved c =
     let m = c.args.self.now.machine in
     let S = state_of c.args.self.now in
-    ap (λ n. slice_get (enabled_of_kinds m S (drop (c.loop-kind.kind + 1) SOURCES)) (c.loop-kind.left - n)) c.enabled_of-count.ensures
+    ap (λ n. slice_get (enabled_of_kinds m S (drop (c.loop-kind.kind + 1) SOURCES)) (c.loop-kind.left - n)) c.count_of-count.ensures
     ∙ find_further m S c.loop-kind.kind c.loop-kind.left c.args.i source.Main c.loop-kind-test.true c.loop-kind.invariant
-    (subst (λ n. n ≤ c.loop-kind.left) c.enabled_of-count.ensures c.if-left-count.false)
+    (subst (λ n. n ≤ c.loop-kind.left) c.count_of-count.ensures c.if-left-count.false)
 
 pub returns : goal.returns
 returns c =

@@ -9,13 +9,13 @@ use Rattle.tss_pipeline.proofs.units.Units.enabled_count.Goals as goal
 
 pub loop-kind-init : goal.loop-kind-init
 loop-kind-init c =
-    let all = ap (λ (es : List Event). length es) (all_by_kinds c.args.self.now c.requires) in
+    let all = ap (λ (es : List Event). length es) (all_by_kinds c.args.self.now c.requires.fit) in
     omega (arith, all)
 
 pub overflow_add-count : goal.overflow_add-count
 overflow_add-count c =
-    let few = few_events c.args.self.now c.requires in
-    let now = c.enabled_of-count.ensures in
+    let few = few_events c.args.self.now c.requires.fit in
+    let now = c.count_of-count.ensures in
     let more =
     count_kind c.args.self.now.machine (state_of c.args.self.now) c.loop-kind.kind c.loop-kind.count source.Main
     c.loop-kind-test.true c.loop-kind.invariant in
@@ -23,7 +23,7 @@ overflow_add-count c =
 
 pub loop-kind-preserved : goal.loop-kind-preserved
 loop-kind-preserved c =
-    let now = c.enabled_of-count.ensures in
+    let now = c.count_of-count.ensures in
     ap (λ n. c.loop-kind.count + n + length (enabled_of_kinds c.args.self.now.machine (state_of c.args.self.now) (drop (c.loop-kind.kind + 1) SOURCES))) now
     ∙ count_kind c.args.self.now.machine (state_of c.args.self.now) c.loop-kind.kind c.loop-kind.count source.Main
     c.loop-kind-test.true c.loop-kind.invariant
