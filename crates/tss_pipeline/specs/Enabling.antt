@@ -4,6 +4,7 @@ use Rattle.std.specs.List.{flat_map, range_with_len}
 use Rattle.tss_base.specs.declared.machine.Machine.{Machine}
 use Rattle.tss_base.specs.declared.event.Event.{Event}
 use Rattle.tss_base.specs.declared.event.Event.TheVariants as event
+use Rattle.tss_locality.specs.Leaves.{changes}
 use Rattle.tss_protocol.specs.State.{State}
 use Rattle.tss_protocol.specs.UnitMachine.{is_enabled}
 use Rattle.tss_mail.specs.declared.kind.Kind.{Kind}
@@ -42,3 +43,25 @@ is_always k = true
 abbrev pub is_free : Source → Bool
 is_free (source.Letters k) = is_always k
 is_free s = false
+
+-- ---- which events may change what may be taken
+
+-- which decodes may: those that send or take one, or change a bank's tables
+abbrev pub touches_decodes : Event → Bool
+touches_decodes event.Take = true
+touches_decodes (event.Decode o) = true
+touches_decodes (event.Idle v) = true
+touches_decodes (event.Gone v) = true
+touches_decodes e = false
+
+-- which opens and uses may: a decode, which sends one, and those that change versions
+abbrev pub touches_openings : Event → Bool
+touches_openings (event.Decode o) = true
+touches_openings e = (changes e).versions
+
+-- which messages of a kind may
+abbrev pub touches : Kind → Event → Bool
+touches kind.Decode e = touches_decodes e
+touches kind.Open e = touches_openings e
+touches kind.Use e = touches_openings e
+touches k e = (changes e).mail

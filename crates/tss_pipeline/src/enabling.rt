@@ -2,7 +2,7 @@
 ghost use Rattle.std.specs.Prelude.{◌≡◌, ◌<◌, Some, length, slice_get};
 ghost use Rattle.tss_locality.specs.Leaves.{changes};
 ghost use Rattle.tss_protocol.specs.UnitMachine.{is_enabled, enabled_events};
-ghost use Rattle.tss_pipeline.specs.Enabling.{candidates_of, enabled_of_kind, enabled_of_kinds, is_always, is_free};
+ghost use Rattle.tss_pipeline.specs.Enabling.{candidates_of, enabled_of_kind, enabled_of_kinds, is_always, is_free, touches, touches_decodes, touches_openings};
 ghost use Rattle.tss_pipeline.specs.Fit.{IsFit};
 ghost use Rattle.tss_pipeline.specs.Keeping.{AreWaiting, WereEnabled, WereWaiting, letters_enabled};
 ghost use Rattle.tss_pipeline.specs.State.{state_of};
@@ -79,6 +79,74 @@ fn changes_mail(e: &Event) -> bool
         | Event::Retire(_)
         | Event::Copy(_)
         | Event::Gone(_) => true,
+    }
+}
+
+/// Whether an event may change which decodes may be taken.
+fn touches_decodes(e: &Event) -> bool
+    ensures { result ≡ touches_decodes e.now }
+{
+    match e {
+        Event::Take | Event::Decode(_) | Event::Idle(_) | Event::Gone(_) => true,
+        Event::Main
+        | Event::Ack(_)
+        | Event::Open(_)
+        | Event::Use(_)
+        | Event::Ready(_)
+        | Event::Link(_)
+        | Event::Start(_)
+        | Event::Exec(_)
+        | Event::Finish(_)
+        | Event::Release(_)
+        | Event::Bye(_)
+        | Event::Nack(_)
+        | Event::Retire(_)
+        | Event::Copy(_) => false,
+    }
+}
+
+/// Whether an event may change which opens and uses may be taken.
+fn touches_openings(e: &Event) -> bool
+    ensures { result ≡ touches_openings e.now }
+{
+    match e {
+        Event::Decode(_)
+        | Event::Open(_)
+        | Event::Use(_)
+        | Event::Release(_)
+        | Event::Nack(_)
+        | Event::Retire(_) => true,
+        Event::Main
+        | Event::Take
+        | Event::Ack(_)
+        | Event::Ready(_)
+        | Event::Link(_)
+        | Event::Start(_)
+        | Event::Exec(_)
+        | Event::Finish(_)
+        | Event::Bye(_)
+        | Event::Idle(_)
+        | Event::Copy(_)
+        | Event::Gone(_) => false,
+    }
+}
+
+/// Whether an event may change which messages of a kind may be taken.
+fn touches(kind: Kind, e: &Event) -> bool
+    ensures { result ≡ touches kind e.now }
+{
+    match kind {
+        Kind::Decode => touches_decodes(e),
+        Kind::Open | Kind::Use => touches_openings(e),
+        Kind::Ack
+        | Kind::Ready
+        | Kind::Link
+        | Kind::Release
+        | Kind::Bye
+        | Kind::Idle
+        | Kind::Nack
+        | Kind::Retire
+        | Kind::Gone => changes_mail(e),
     }
 }
 
@@ -243,14 +311,14 @@ impl Units {
         }
     }
 
-    /// How many messages of a kind may be taken after an event, by how many might before it. Where the event leaves the
-    /// messages alone, they are as many.
+    /// How many messages of a kind may be taken after an event, by how many might before it. Where the event leaves
+    /// them alone, they are as many.
     fn letters_after(&self, e: &Event, kind: Kind, before: u32) -> u32
         requires fit { IsFit self.now }
         requires before { WereEnabled e.now self.now kind before }
         ensures { result ≡ letters_enabled self.now kind }
     {
-        if changes_mail(e) {
+        if touches(kind, e) {
             self.enabled_of(Source::Letters(kind))
         } else {
             before

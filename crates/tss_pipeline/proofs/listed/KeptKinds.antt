@@ -1,4 +1,4 @@
--- An event that takes and sends no message leaves as many messages that may be taken.
+-- An event that leaves the messages of a kind alone, and what they wait for, leaves as many that may be taken.
 use Rattle.std.proofs.Common.{◌≡◌, ℕ, Bool, true, false, cond, List, [], ◌∷◌, map, length, Option, Some, None, refl, sym, ap, ◌∙◌}
 use Rattle.std.specs.Prelude.{filter, is_some, ◌&&◌}
 use Rattle.std.specs.FinMap.{get, keys}
@@ -9,9 +9,14 @@ use Rattle.tss_base.specs.declared.machine.Machine.{Machine}
 use Rattle.tss_base.specs.declared.event.Event.{Event}
 use Rattle.tss_base.specs.declared.event.Event.TheVariants as event
 use Rattle.tss_locality.specs.Leaves.{changes}
-use Rattle.tss_locality.proofs.LeftFields.{Leaves-after_event}
+use Rattle.tss_locality.proofs.LeftFields.{Leaves-after_event, left_entries, left_places, left_buffers, left_versions}
 use Rattle.tss_protocol.specs.Mail.{OpenContents}
 use Rattle.tss_protocol.specs.State.{State, Version}
+use Rattle.tss_protocol.specs.Renaming.{can_decode}
+use Rattle.tss_protocol.specs.Versions.{can_open, can_use}
+use Rattle.tss_protocol.specs.MainEvent.{call_next}
+use Rattle.tss_protocol.proofs.FrontLemmas.{Front, KeepsFront, KeepsFront-after_event}
+use Rattle.tss_names.proofs.OpeningFrames.{all_from, KeepsOpenings, openings_main, openings_take, openings_ready, openings_link, openings_bye, openings_start, openings_exec, openings_finish, openings_idle, openings_copy, openings_gone}
 use Rattle.tss_protocol.specs.UnitMachine.{is_enabled, after_event, can_decode_message, can_open_message, can_use_message, can_retire}
 use Rattle.tss_mail.specs.declared.kind.Kind.{Kind}
 use Rattle.tss_mail.specs.declared.kind.Kind.TheVariants as kind
@@ -19,7 +24,7 @@ use Rattle.tss_mail.specs.KindNames.{names_of_kind}
 use Rattle.tss_pipeline.specs.declared.enabling.Source.TheVariants as source
 use Rattle.tss_pipeline.specs.declared.units.Units.{Units}
 use Rattle.tss_pipeline.specs.State.{state_of}
-use Rattle.tss_pipeline.specs.Enabling.{enabled_of_kind}
+use Rattle.tss_pipeline.specs.Enabling.{enabled_of_kind, touches_decodes, touches_openings, touches}
 use Rattle.tss_pipeline.specs.Keeping.{letters_enabled, WereEnabled}
 
 -- the same pass two tests that agree on what is listed
@@ -141,16 +146,177 @@ module _ (m : Machine) (S : State) where
   no_message (event.Copy b) left = absurd (not_both left)
   no_message (event.Gone v) left = absurd (not_both left)
 
-  kept_letters : (e : Event) → (changes e).mail ≡ false → (k : Kind)
+  letters_left : (e : Event) → (changes e).mail ≡ false → (k : Kind)
       → enabled_of_kind m (after_event m S e) (source.Letters k) ≡ enabled_of_kind m S (source.Letters k)
-  kept_letters e left k =
+  letters_left e left k =
       ap (λ T. enabled_of_kind m T (source.Letters k)) (alike_is m S (after_event m S e) (no_message e left))
       ∙ kind_alike m S (after_event m S e) k
 
+-- ---- decodes, opens and uses rest on less
+
+module _ (m : Machine) (S T : State) where
+  module _ (decodes : T.mail.decodes ≡ S.mail.decodes) (entries : T.entries ≡ S.entries) (places : T.places ≡ S.places)
+      (buffers : T.buffers ≡ S.buffers) where
+    decode_by : (o : OpName) (x : Option Operand) → can_decode_message m T o x ≡ can_decode_message m S o x
+    decode_by o None = refl
+    decode_by o (Some x) =
+        λ i. can_decode m.sizes (record { entries = entries i; places = places i; buffers = buffers i }) (decodes i) o x
+
+    decodes_alike : enabled_of_kind m T (source.Letters kind.Decode) ≡ enabled_of_kind m S (source.Letters kind.Decode)
+    unfolding is_enabled
+    decodes_alike =
+        filter_alike event.Decode (is_enabled m T) (is_enabled m S)
+        (λ o. ap (λ ds. can_decode_message m T o (get ds o)) decodes ∙ decode_by o (get S.mail.decodes o))
+        (keys T.mail.decodes)
+        ∙ ap (λ ds. filter (is_enabled m S) (map event.Decode (keys ds))) decodes
+
+  module _ (versions : T.versions ≡ S.versions) where
+    open_by : (x : Option OpenContents) → can_open_message T x ≡ can_open_message S x
+    open_by None = refl
+    open_by (Some x) = ap (λ vs. can_open vs x) versions
+
+    use_by : (x : Option OpName) → can_use_message T x ≡ can_use_message S x
+    use_by None = refl
+    use_by (Some v) = ap (λ vs. can_use vs v) versions
+
+    opens_alike : T.mail.opens ≡ S.mail.opens
+        → enabled_of_kind m T (source.Letters kind.Open) ≡ enabled_of_kind m S (source.Letters kind.Open)
+    unfolding is_enabled
+    opens_alike opens =
+        filter_alike event.Open (is_enabled m T) (is_enabled m S)
+        (λ o. ap (λ os. can_open_message T (get os o)) opens ∙ open_by (get S.mail.opens o)) (keys T.mail.opens)
+        ∙ ap (λ os. filter (is_enabled m S) (map event.Open (keys os))) opens
+
+    uses_alike : T.mail.uses ≡ S.mail.uses
+        → enabled_of_kind m T (source.Letters kind.Use) ≡ enabled_of_kind m S (source.Letters kind.Use)
+    unfolding is_enabled
+    uses_alike uses =
+        filter_alike event.Use (is_enabled m T) (is_enabled m S)
+        (λ o. ap (λ us. can_use_message T (get us o)) uses ∙ use_by (get S.mail.uses o)) (keys T.mail.uses)
+        ∙ ap (λ us. filter (is_enabled m S) (map event.Use (keys us))) uses
+
+module _ (m : Machine) (S : State) where
+  -- an event that leaves opens and uses alone
+  openings_left : (e : Event) → touches_openings e ≡ false → KeepsOpenings S (after_event m S e)
+  unfolding after_event
+  openings_left event.Main left = openings_main m S (call_next m S)
+  openings_left event.Take left = openings_take m S S.inbox
+  openings_left (event.Decode o) left = absurd (not_both left)
+  openings_left (event.Ack o) left = record { opens = refl; uses = refl; versions = all_from S.versions }
+  openings_left (event.Open o) left = absurd (not_both left)
+  openings_left (event.Use o) left = absurd (not_both left)
+  openings_left (event.Ready o) left = openings_ready m S o (get S.mail.readies o)
+  openings_left (event.Link o) left = openings_link m S o (get S.mail.links o)
+  openings_left (event.Start w) left = openings_start m S w S.queue
+  openings_left (event.Exec w) left = openings_exec m S w (get S.workers w)
+  openings_left (event.Finish w) left = openings_finish m S w (get S.workers w)
+  openings_left (event.Release o) left = absurd (not_both left)
+  openings_left (event.Bye o) left = openings_bye m S o (get S.mail.byes o)
+  openings_left (event.Idle v) left = openings_idle m S v (get S.mail.idles v)
+  openings_left (event.Nack v) left = absurd (not_both left)
+  openings_left (event.Retire v) left = absurd (not_both left)
+  openings_left (event.Copy b) left = openings_copy m S b (get S.copies b)
+  openings_left (event.Gone v) left = openings_gone m S v (get S.mail.gones v)
+
+  versions_left : (e : Event) → touches_openings e ≡ false → (changes e).versions ≡ false
+  versions_left event.Main left = refl
+  versions_left event.Take left = refl
+  versions_left (event.Decode o) left = refl
+  versions_left (event.Ack o) left = refl
+  versions_left (event.Open o) left = left
+  versions_left (event.Use o) left = left
+  versions_left (event.Ready o) left = refl
+  versions_left (event.Link o) left = refl
+  versions_left (event.Start w) left = refl
+  versions_left (event.Exec w) left = refl
+  versions_left (event.Finish w) left = refl
+  versions_left (event.Release o) left = left
+  versions_left (event.Bye o) left = refl
+  versions_left (event.Idle v) left = refl
+  versions_left (event.Nack v) left = left
+  versions_left (event.Retire v) left = left
+  versions_left (event.Copy b) left = refl
+  versions_left (event.Gone v) left = refl
+
+  front_decodes : (T : State) → KeepsFront S T → T.mail.decodes ≡ S.mail.decodes
+  front_decodes T k = ap (λ (f : Front). f.decodes) k.front
+
+  ack_decodes : (o : OpName) → (after_event m S (event.Ack o)).mail.decodes ≡ S.mail.decodes
+  unfolding after_event
+  ack_decodes o = refl
+
+  -- one that leaves decodes alone
+  decodes_left : (e : Event) → touches_decodes e ≡ false → (after_event m S e).mail.decodes ≡ S.mail.decodes
+  decodes_left event.Main left = λ j. (Leaves-after_event m S event.Main j).mail.decodes
+  decodes_left event.Take left = absurd (not_both left)
+  decodes_left (event.Decode o) left = absurd (not_both left)
+  decodes_left (event.Ack o) left = ack_decodes o
+  decodes_left (event.Open o) left = front_decodes _ (KeepsFront-after_event m S (event.Open o) refl)
+  decodes_left (event.Use o) left = front_decodes _ (KeepsFront-after_event m S (event.Use o) refl)
+  decodes_left (event.Ready o) left = front_decodes _ (KeepsFront-after_event m S (event.Ready o) refl)
+  decodes_left (event.Link o) left = front_decodes _ (KeepsFront-after_event m S (event.Link o) refl)
+  decodes_left (event.Start w) left = front_decodes _ (KeepsFront-after_event m S (event.Start w) refl)
+  decodes_left (event.Exec w) left = front_decodes _ (KeepsFront-after_event m S (event.Exec w) refl)
+  decodes_left (event.Finish w) left = front_decodes _ (KeepsFront-after_event m S (event.Finish w) refl)
+  decodes_left (event.Release o) left = front_decodes _ (KeepsFront-after_event m S (event.Release o) refl)
+  decodes_left (event.Bye o) left = front_decodes _ (KeepsFront-after_event m S (event.Bye o) refl)
+  decodes_left (event.Idle v) left = absurd (not_both left)
+  decodes_left (event.Nack v) left = front_decodes _ (KeepsFront-after_event m S (event.Nack v) refl)
+  decodes_left (event.Retire v) left = front_decodes _ (KeepsFront-after_event m S (event.Retire v) refl)
+  decodes_left (event.Copy b) left = front_decodes _ (KeepsFront-after_event m S (event.Copy b) refl)
+  decodes_left (event.Gone v) left = absurd (not_both left)
+
+  -- it leaves the tables alone
+  tables_left : (e : Event) → touches_decodes e ≡ false
+      → ((changes e).entries ≡ false) × ((changes e).places ≡ false) × ((changes e).buffers ≡ false)
+  tables_left event.Main left = (refl, refl, refl)
+  tables_left event.Take left = (refl, refl, refl)
+  tables_left (event.Decode o) left = (left, left, left)
+  tables_left (event.Ack o) left = (refl, refl, refl)
+  tables_left (event.Open o) left = (refl, refl, refl)
+  tables_left (event.Use o) left = (refl, refl, refl)
+  tables_left (event.Ready o) left = (refl, refl, refl)
+  tables_left (event.Link o) left = (refl, refl, refl)
+  tables_left (event.Start w) left = (refl, refl, refl)
+  tables_left (event.Exec w) left = (refl, refl, refl)
+  tables_left (event.Finish w) left = (refl, refl, refl)
+  tables_left (event.Release o) left = (refl, refl, refl)
+  tables_left (event.Bye o) left = (refl, refl, refl)
+  tables_left (event.Idle v) left = (left, refl, refl)
+  tables_left (event.Nack v) left = (refl, refl, refl)
+  tables_left (event.Retire v) left = (refl, refl, refl)
+  tables_left (event.Copy b) left = (refl, refl, refl)
+  tables_left (event.Gone v) left = (left, left, left)
+
+  kept_decodes : (e : Event) → touches_decodes e ≡ false
+      → enabled_of_kind m (after_event m S e) (source.Letters kind.Decode) ≡ enabled_of_kind m S (source.Letters kind.Decode)
+  kept_decodes e left =
+      let t = tables_left e left in
+      decodes_alike m S (after_event m S e) (decodes_left e left)
+      (left_entries m S e t.0) (left_places m S e t.1) (left_buffers m S e t.2)
+
+  -- what isn't touched stays
+  kept_letters : (k : Kind) (e : Event) → touches k e ≡ false
+      → enabled_of_kind m (after_event m S e) (source.Letters k) ≡ enabled_of_kind m S (source.Letters k)
+  kept_letters kind.Decode e left = kept_decodes e left
+  kept_letters kind.Ack e left = letters_left m S e left kind.Ack
+  kept_letters kind.Open e left =
+      opens_alike m S (after_event m S e) (left_versions m S e (versions_left e left)) (openings_left e left).opens
+  kept_letters kind.Use e left =
+      uses_alike m S (after_event m S e) (left_versions m S e (versions_left e left)) (openings_left e left).uses
+  kept_letters kind.Ready e left = letters_left m S e left kind.Ready
+  kept_letters kind.Link e left = letters_left m S e left kind.Link
+  kept_letters kind.Release e left = letters_left m S e left kind.Release
+  kept_letters kind.Bye e left = letters_left m S e left kind.Bye
+  kept_letters kind.Idle e left = letters_left m S e left kind.Idle
+  kept_letters kind.Nack e left = letters_left m S e left kind.Nack
+  kept_letters kind.Retire e left = letters_left m S e left kind.Retire
+  kept_letters kind.Gone e left = letters_left m S e left kind.Gone
+
 -- as many as before
-pub kept_count : (e : Event) (u : Units) (k : Kind) (count : ℕ) → WereEnabled e u k count → (changes e).mail ≡ false
+pub kept_count : (e : Event) (u : Units) (k : Kind) (count : ℕ) → WereEnabled e u k count → touches k e ≡ false
     → count ≡ letters_enabled u k
 kept_count e u k count were left =
     were.same
-    ∙ ap (λ (es : List Event). length es) (sym (kept_letters were.old.machine (state_of were.old) e left k))
+    ∙ ap (λ (es : List Event). length es) (sym (kept_letters were.old.machine (state_of were.old) k e left))
     ∙ (λ i. length (enabled_of_kind (sym were.does.machine i) (sym were.does.state i) (source.Letters k)))
