@@ -1,5 +1,5 @@
 -- The events that may come into question, kind by kind, as the units look for those that may happen.
-use Rattle.std.specs.Prelude.{Bool, true, false, List, [], ◌∷◌, map, filter}
+use Rattle.std.specs.Prelude.{Bool, true, false, ◌||◌, List, [], ◌∷◌, map, filter}
 use Rattle.std.specs.List.{flat_map, range_with_len}
 use Rattle.tss_base.specs.declared.machine.Machine.{Machine}
 use Rattle.tss_base.specs.declared.event.Event.{Event}
@@ -44,7 +44,7 @@ abbrev pub is_free : Source → Bool
 is_free (source.Letters k) = is_always k
 is_free s = false
 
--- ---- which events may change what may be taken
+-- ---- which events may change what may happen
 
 -- which decodes may: those that send or take one, or change a bank's tables
 abbrev pub touches_decodes : Event → Bool
@@ -60,8 +60,18 @@ touches_openings (event.Decode o) = true
 touches_openings e = (changes e).versions
 
 -- which messages of a kind may
-abbrev pub touches : Kind → Event → Bool
-touches kind.Decode e = touches_decodes e
-touches kind.Open e = touches_openings e
-touches kind.Use e = touches_openings e
-touches k e = (changes e).mail
+abbrev pub touches_letters : Kind → Event → Bool
+touches_letters kind.Decode e = touches_decodes e
+touches_letters kind.Open e = touches_openings e
+touches_letters kind.Use e = touches_openings e
+touches_letters k e = (changes e).mail
+
+-- which events of a kind may happen
+abbrev pub touches : Source → Event → Bool
+touches source.Main e = true
+touches source.Take e = true
+touches (source.Letters k) e = touches_letters k e
+touches source.Start e = (changes e).workers || (changes e).queue
+touches source.Exec e = (changes e).workers
+touches source.Finish e = (changes e).workers
+touches source.Copy e = (changes e).copies

@@ -4,10 +4,10 @@ use Rattle.std.specs.Prelude.{◌≡◌, ℕ, length}
 use Rattle.tss_base.specs.declared.counts.Counts.{Counts}
 use Rattle.tss_base.specs.declared.event.Event.{Event}
 use Rattle.tss_protocol.specs.Counts.{counts_of}
-use Rattle.tss_mail.specs.declared.kind.Kind.{Kind}
 use Rattle.tss_mail.specs.declared.kind.Kind.TheVariants as kind
+use Rattle.tss_pipeline.specs.declared.enabling.Source.{Source}
 use Rattle.tss_pipeline.specs.declared.enabling.Source.TheVariants as source
-use Rattle.tss_pipeline.specs.declared.enabling.Waiting.{Waiting}
+use Rattle.tss_pipeline.specs.declared.keeping.Tested.{Tested}
 use Rattle.tss_pipeline.specs.declared.units.Units.{Units}
 use Rattle.tss_pipeline.specs.Enabling.{enabled_of_kind}
 use Rattle.tss_pipeline.specs.State.{state_of}
@@ -24,31 +24,35 @@ pub record WereCounts (e : Event) (new : Units) (c : Counts) : Type 0 where
   pub does : Does e old new
   pub counts : AreCounts old c
 
--- so many messages of a kind may be taken
-abbrev pub letters_enabled : Units → Kind → ℕ
-letters_enabled u k = length (enabled_of_kind u.machine (state_of u) (source.Letters k))
+-- so many events of a kind may happen
+abbrev pub count_enabled : Units → Source → ℕ
+count_enabled u s = length (enabled_of_kind u.machine (state_of u) s)
 
 -- so many might before an event that the units have done
-pub record WereEnabled (e : Event) (new : Units) (k : Kind) (count : ℕ) : Type 0 where
+pub record WereEnabled (e : Event) (new : Units) (s : Source) (count : ℕ) : Type 0 where
   pub old : Units
   pub does : Does e old new
-  pub same : count ≡ letters_enabled old k
+  pub same : count ≡ count_enabled old s
 
--- these are the numbers of messages that may be taken, of the kinds that wait for something
-pub record AreWaiting (u : Units) (w : Waiting) : Type 0 where
-  pub decodes : w.decodes ≡ letters_enabled u kind.Decode
-  pub opens : w.opens ≡ letters_enabled u kind.Open
-  pub uses : w.uses ≡ letters_enabled u kind.Use
-  pub retires : w.retires ≡ letters_enabled u kind.Retire
+-- these are the numbers of the kinds whose candidates are tested one by one
+pub record AreTested (u : Units) (t : Tested) : Type 0 where
+  pub decodes : t.decodes ≡ count_enabled u (source.Letters kind.Decode)
+  pub opens : t.opens ≡ count_enabled u (source.Letters kind.Open)
+  pub uses : t.uses ≡ count_enabled u (source.Letters kind.Use)
+  pub retires : t.retires ≡ count_enabled u (source.Letters kind.Retire)
+  pub starts : t.starts ≡ count_enabled u source.Start
+  pub execs : t.execs ≡ count_enabled u source.Exec
+  pub finishes : t.finishes ≡ count_enabled u source.Finish
+  pub copies : t.copies ≡ count_enabled u source.Copy
 
 -- these were the numbers before an event
-pub record WereWaiting (e : Event) (new : Units) (w : Waiting) : Type 0 where
+pub record WereTested (e : Event) (new : Units) (t : Tested) : Type 0 where
   pub old : Units
   pub does : Does e old new
-  pub waiting : AreWaiting old w
+  pub tested : AreTested old t
 
 -- the units fit, and the numbers are theirs
-pub record IsKept (u : Units) (c : Counts) (w : Waiting) : Type 0 where
+pub record IsKept (u : Units) (c : Counts) (t : Tested) : Type 0 where
   pub fit : IsFit u
   pub counts : AreCounts u c
-  pub waiting : AreWaiting u w
+  pub tested : AreTested u t

@@ -10,6 +10,7 @@ mod closing;
 mod counting;
 mod enabling;
 mod front;
+mod keeping;
 mod letters;
 mod opening;
 mod pipeline;

@@ -8,7 +8,7 @@ ghost use Rattle.tss_protocol.specs.Result.{is_finished, result_of, tasks_of, pr
 ghost use Rattle.tss_protocol.specs.UnitMachine.{enabled_events};
 ghost use Rattle.tss_pipeline.specs.Seen.{IsReached, StepsTo};
 
-use crate::enabling::Waiting;
+use crate::keeping::Tested;
 use crate::step::NotEnabled;
 use crate::units::Units;
 use std::alloc::Global;
@@ -22,7 +22,7 @@ use tss_memory::Space;
 pub struct Pipeline {
     pub(crate) units: Units,
     counts: Counts,
-    waiting: Waiting,
+    tested: Tested,
 }
 
 impl Model for Pipeline {
@@ -36,7 +36,7 @@ impl Model for Pipeline {
 
     ghost view = { λ p. seen_of p.units };
 
-    ghost invariant = { λ p. IsKept p.units p.counts p.waiting };
+    ghost invariant = { λ p. IsKept p.units p.counts p.tested };
 }
 
 impl Pipeline {
@@ -47,11 +47,11 @@ impl Pipeline {
     {
         let units = Units::open(alloc, image, machine)?;
         let counts = units.counts();
-        let waiting = units.waiting();
+        let tested = units.tested();
         Ok(Pipeline {
             units,
             counts,
-            waiting,
+            tested,
         })
     }
 
@@ -64,22 +64,22 @@ impl Pipeline {
         }
         self.units.event(e);
         self.counts = self.units.counts_after(&e, &self.counts);
-        self.waiting = self.units.waiting_after(&e, &self.waiting);
+        self.tested = self.units.tested_after(&e, &self.tested);
         Ok(())
     }
 
-    /// How many events may happen.
+    /// How many events may happen. Each kind's number is kept from event to event.
     pub fn enabled_count(&self) -> u32
         ensures { result ≡ length (enabled_events self.now.machine self.now.state) }
     {
-        self.units.enabled_count(&self.waiting)
+        self.units.enabled_count(&self.tested)
     }
 
     /// The event at a place, from 0, of those that may happen, in the order of events.
     pub fn enabled_at(&self, i: u32) -> Option<Event>
         ensures { result ≡ slice_get (enabled_events self.now.machine self.now.state) i }
     {
-        self.units.enabled_at(&self.waiting, i)
+        self.units.enabled_at(&self.tested, i)
     }
 
     /// Whether the run is over.
@@ -136,7 +136,7 @@ impl Pipeline {
         let Pipeline {
             units,
             counts: _,
-            waiting: _,
+            tested: _,
         } = self;
         units.close();
     }

@@ -1,6 +1,7 @@
--- An event that leaves the messages of a kind alone, and what they wait for, leaves as many that may be taken.
+-- An event that leaves alone what the events of a kind rest on leaves as many of them that may happen.
 use Rattle.std.proofs.Common.{◌≡◌, ℕ, Bool, true, false, cond, List, [], ◌∷◌, map, length, Option, Some, None, refl, sym, ap, ◌∙◌}
-use Rattle.std.specs.Prelude.{filter, is_some, ◌&&◌}
+use Rattle.std.specs.Prelude.{filter, is_some, ◌&&◌, ◌||◌}
+use Rattle.std.specs.List.{range_with_len}
 use Rattle.std.specs.FinMap.{get, keys}
 use Rattle.tss_base.specs.declared.operand.OpName.{OpName}
 use Rattle.tss_base.specs.declared.operand.Operand.{Operand}
@@ -9,11 +10,12 @@ use Rattle.tss_base.specs.declared.machine.Machine.{Machine}
 use Rattle.tss_base.specs.declared.event.Event.{Event}
 use Rattle.tss_base.specs.declared.event.Event.TheVariants as event
 use Rattle.tss_locality.specs.Leaves.{changes}
-use Rattle.tss_locality.proofs.LeftFields.{Leaves-after_event, left_entries, left_places, left_buffers, left_versions}
+use Rattle.tss_locality.proofs.LeftFields.{Leaves-after_event, left_entries, left_places, left_buffers, left_versions, left_queue, left_workers, left_copies}
 use Rattle.tss_protocol.specs.Mail.{OpenContents}
 use Rattle.tss_protocol.specs.State.{State, Version}
 use Rattle.tss_protocol.specs.Renaming.{can_decode}
 use Rattle.tss_protocol.specs.Versions.{can_open, can_use}
+use Rattle.tss_protocol.specs.Workers.{can_start, can_exec, can_finish}
 use Rattle.tss_protocol.specs.MainEvent.{call_next}
 use Rattle.tss_protocol.proofs.FrontLemmas.{Front, KeepsFront, KeepsFront-after_event}
 use Rattle.tss_names.proofs.OpeningFrames.{all_from, KeepsOpenings, openings_main, openings_take, openings_ready, openings_link, openings_bye, openings_start, openings_exec, openings_finish, openings_idle, openings_copy, openings_gone}
@@ -21,11 +23,12 @@ use Rattle.tss_protocol.specs.UnitMachine.{is_enabled, after_event, can_decode_m
 use Rattle.tss_mail.specs.declared.kind.Kind.{Kind}
 use Rattle.tss_mail.specs.declared.kind.Kind.TheVariants as kind
 use Rattle.tss_mail.specs.KindNames.{names_of_kind}
+use Rattle.tss_pipeline.specs.declared.enabling.Source.{Source}
 use Rattle.tss_pipeline.specs.declared.enabling.Source.TheVariants as source
 use Rattle.tss_pipeline.specs.declared.units.Units.{Units}
 use Rattle.tss_pipeline.specs.State.{state_of}
-use Rattle.tss_pipeline.specs.Enabling.{enabled_of_kind, touches_decodes, touches_openings, touches}
-use Rattle.tss_pipeline.specs.Keeping.{letters_enabled, WereEnabled}
+use Rattle.tss_pipeline.specs.Enabling.{enabled_of_kind, touches_decodes, touches_openings, touches_letters, touches}
+use Rattle.tss_pipeline.specs.Keeping.{count_enabled, WereEnabled}
 
 -- the same pass two tests that agree on what is listed
 filter_alike : {K X : Type 0} (f : K → X) (p q : X → Bool) → ((k : K) → p (f k) ≡ q (f k)) → (ks : List K)
@@ -295,8 +298,8 @@ module _ (m : Machine) (S : State) where
       decodes_alike m S (after_event m S e) (decodes_left e left)
       (left_entries m S e t.0) (left_places m S e t.1) (left_buffers m S e t.2)
 
-  -- what isn't touched stays
-  kept_letters : (k : Kind) (e : Event) → touches k e ≡ false
+  -- messages of a kind that isn't touched
+  kept_letters : (k : Kind) (e : Event) → touches_letters k e ≡ false
       → enabled_of_kind m (after_event m S e) (source.Letters k) ≡ enabled_of_kind m S (source.Letters k)
   kept_letters kind.Decode e left = kept_decodes e left
   kept_letters kind.Ack e left = letters_left m S e left kind.Ack
@@ -313,10 +316,54 @@ module _ (m : Machine) (S : State) where
   kept_letters kind.Retire e left = letters_left m S e left kind.Retire
   kept_letters kind.Gone e left = letters_left m S e left kind.Gone
 
+module _ (m : Machine) (S T : State) where
+  starts_alike : T.workers ≡ S.workers → T.queue ≡ S.queue
+      → enabled_of_kind m T source.Start ≡ enabled_of_kind m S source.Start
+  unfolding is_enabled
+  starts_alike workers queue =
+      filter_alike event.Start (is_enabled m T) (is_enabled m S)
+      (λ w i. can_start m.sizes.workers w (get (workers i) w) (queue i)) (range_with_len 0 m.sizes.workers)
+
+  execs_alike : T.workers ≡ S.workers → enabled_of_kind m T source.Exec ≡ enabled_of_kind m S source.Exec
+  unfolding is_enabled
+  execs_alike workers =
+      filter_alike event.Exec (is_enabled m T) (is_enabled m S) (λ w i. can_exec (get (workers i) w))
+      (range_with_len 0 m.sizes.workers)
+
+  finishes_alike : T.workers ≡ S.workers → enabled_of_kind m T source.Finish ≡ enabled_of_kind m S source.Finish
+  unfolding is_enabled
+  finishes_alike workers =
+      filter_alike event.Finish (is_enabled m T) (is_enabled m S) (λ w i. can_finish (get (workers i) w))
+      (range_with_len 0 m.sizes.workers)
+
+  copies_alike : T.copies ≡ S.copies → enabled_of_kind m T source.Copy ≡ enabled_of_kind m S source.Copy
+  unfolding is_enabled
+  copies_alike copies =
+      filter_alike event.Copy (is_enabled m T) (is_enabled m S) (λ b i. is_some (get (copies i) b))
+      (range_with_len 0 m.sizes.banks)
+
+neither : (a b : Bool) → (a || b) ≡ false → (a ≡ false) × (b ≡ false)
+neither true b e = absurd (not_both e)
+neither false b e = (refl, e)
+
+module _ (m : Machine) (S : State) where
+  -- what isn't touched stays
+  kept_kind : (s : Source) (e : Event) → touches s e ≡ false
+      → enabled_of_kind m (after_event m S e) s ≡ enabled_of_kind m S s
+  kept_kind source.Main e left = absurd (not_both left)
+  kept_kind source.Take e left = absurd (not_both left)
+  kept_kind (source.Letters k) e left = kept_letters m S k e left
+  kept_kind source.Start e left =
+      let t = neither (changes e).workers (changes e).queue left in
+      starts_alike m S (after_event m S e) (left_workers m S e t.0) (left_queue m S e t.1)
+  kept_kind source.Exec e left = execs_alike m S (after_event m S e) (left_workers m S e left)
+  kept_kind source.Finish e left = finishes_alike m S (after_event m S e) (left_workers m S e left)
+  kept_kind source.Copy e left = copies_alike m S (after_event m S e) (left_copies m S e left)
+
 -- as many as before
-pub kept_count : (e : Event) (u : Units) (k : Kind) (count : ℕ) → WereEnabled e u k count → touches k e ≡ false
-    → count ≡ letters_enabled u k
-kept_count e u k count were left =
+pub kept_count : (e : Event) (u : Units) (s : Source) (count : ℕ) → WereEnabled e u s count → touches s e ≡ false
+    → count ≡ count_enabled u s
+kept_count e u s count were left =
     were.same
-    ∙ ap (λ (es : List Event). length es) (sym (kept_letters were.old.machine (state_of were.old) k e left))
-    ∙ (λ i. length (enabled_of_kind (sym were.does.machine i) (sym were.does.state i) (source.Letters k)))
+    ∙ ap (λ (es : List Event). length es) (sym (kept_kind were.old.machine (state_of were.old) s e left))
+    ∙ (λ i. length (enabled_of_kind (sym were.does.machine i) (sym were.does.state i) s))
