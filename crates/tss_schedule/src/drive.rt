@@ -1,0 +1,1 @@
+// A pipeline driven by a schedule.
