@@ -1,1 +1,1 @@
-// A pipeline driven by a schedule.
+// A pipeline that a schedule drives.

@@ -8,6 +8,8 @@ mod drive;
 mod given;
 mod schedule;
 mod seeded;
+#[cfg(test)]
+mod tests;
 
 pub use given::Given;
 pub use schedule::{Pick, Schedule};
