@@ -1,5 +1,5 @@
 -- What a schedule does by its meaning: its picks, one after another, the events that are done by them, and how they end.
-use Rattle.std.specs.Prelude.{◌≡◌, ◌×◌, ℕ, ◌+◌, true, false, List, [], ◌∷◌, length, Option, Some, None}
+use Rattle.std.specs.Prelude.{◌≡◌, ℕ, ◌+◌, true, false, List, [], ◌∷◌, length, Option, Some, None}
 use Rattle.tss_base.specs.declared.event.Event.{Event}
 use Rattle.tss_base.specs.declared.machine.Machine.{Machine}
 use Rattle.tss_base.specs.Image.{ImageState}
@@ -59,6 +59,12 @@ DoesAll f d (e ∷ es) = Does f d e × DoesAll f (after_pick f d e) es
 unfoldable pub after_picks : {X : Type 0} → Meaning X → Driven X → List Event → Driven X
 after_picks f d [] = d
 after_picks f d (e ∷ es) = after_picks f (after_pick f d e) es
+
+-- a pick that has no fault: an event that may be done, or the end of a run that is over
+abbrev pub Fits : PipelineState → Pick → Type 0
+Fits p pick.End = is_finished p.state ≡ true
+Fits p pick.Bad = ⊥
+Fits p (pick.Do e) = MayBeDone p e
 
 -- ---- how it ends
 

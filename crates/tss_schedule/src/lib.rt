@@ -6,11 +6,13 @@
 
 mod drive;
 mod given;
+mod laws;
 mod schedule;
 mod seeded;
 #[cfg(test)]
 mod tests;
 
 pub use given::Given;
+pub use laws::{by_log, by_seed, going};
 pub use schedule::{Pick, Schedule};
 pub use seeded::Seeded;
