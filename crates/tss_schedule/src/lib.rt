@@ -4,7 +4,6 @@
 //! run is that of the seed. `Given` reads the lines of a log where they lie, and does what the log's judgement says.
 #![tactic(auto)]
 
-mod drive;
 mod given;
 mod laws;
 mod schedule;

@@ -1,1 +1,0 @@
-// A pipeline that a schedule drives.
