@@ -59,7 +59,7 @@ some_chosen m S w e on =
 module _ (m : Machine) (i : ImageState) (S : State) (r : Reached m i S) where
   -- a run that isn't over can go on
   pub goes_on : is_finished S ≡ false → (e : Event) × (is_enabled m S e ≡ true)
-  goes_on open = enabled_of_runs keeps_groups m i r.reachable.0 S r.accepted r.admissible r.reachable.1 open
+  goes_on undone = enabled_of_runs keeps_groups m i r.reachable.0 S r.accepted r.admissible r.reachable.1 undone
 
   -- and none can that is over
   pub is_over : IsFinished S → (e : Event) → is_enabled m S e ≡ false

@@ -75,7 +75,7 @@ ends_undone m S k n e rest (Some (NotEnabled i)) ends =
     let off = subst (λ d. is_enabled m S d ≡ false) (sym (same_do ends.2)) ends.4 in
     ap (λ i. judgement [] (Some (NotEnabled i))) (ap (λ i. i + k) ends.0 ∙ add_last n k)
     ∙ sym (ap (λ b. by_tests m S (k + n) e done b (is_enabled m S e)) ends.3
-        ∙ ap (by_tests m S (k + n) e done false) off)
+    ∙ ap (by_tests m S (k + n) e done false) off)
 ends_undone m S k n e rest (Some (Short i)) ends = let h = ends.1 in absurd (cc)
 ends_undone m S k n e rest (Some (Long i)) ends =
     let done = judged_after e (rest (after_event m S e)) in
@@ -85,9 +85,9 @@ ends_undone m S k n e rest (Some (Long i)) ends =
 -- an event that is done
 line_done : (m : Machine) (S : State) (n : ℕ) (e : Event) (rest : State → Judgement) → is_finished S ≡ false
     → is_enabled m S e ≡ true → judged_line m S n rest (Some e) ≡ judged_after e (rest (after_event m S e))
-line_done m S n e rest open on =
+line_done m S n e rest undone on =
     let done = judged_after e (rest (after_event m S e)) in
-    ap (λ b. by_tests m S n e done b (is_enabled m S e)) open ∙ ap (by_tests m S n e done false) on
+    ap (λ b. by_tests m S n e done b (is_enabled m S e)) undone ∙ ap (by_tests m S n e done false) on
 
 -- ---- over all lines
 
@@ -110,7 +110,7 @@ pick_done (Some d) e h = cc
 reads : (ls : List (List ℕ)) (m : Machine) (S : State) (k n : ℕ) (es : List Event) (fault : Option LogFault)
     → Reads (reading m S k ls) n es fault
     → judgement es (option_map (line_fault k) fault) ≡ judged_from m S (k + n) ls
-unfolding DoesAll, after_picks, judged_from
+unfolding DoesAll after_picks judged_from
 reads [] m S k n [] fault h = ends_short m S k n fault h.1
 reads [] m S k n (e ∷ es) fault h = let is = h.0.0.picked in absurd (cc)
 reads (l ∷ ls) m S k n [] fault h = by (event_of_text l) refl
@@ -131,7 +131,7 @@ reads (l ∷ ls) m S k n (e ∷ es) fault h =
     let is = pick_done (event_of_text l) e h.0.0.picked in
     let d = reading m T k ls in
     let last = subst (λ i. EndsBy (after_picks given_picks d es).pipeline i (picked given_picks (after_picks given_picks d es)) fault)
-        (add_next (length es) n) h.1 in
+    (add_next (length es) n) h.1 in
     let then = reads ls m T k (suc n) es fault (h.0.1, last) in
     ap (judged_after e) (then ∙ ap (λ i. judged_from m T i ls) (add_suc k n))
     ∙ sym (line_done m S (k + n) e (λ T. judged_from m T (suc (k + n)) ls) may.unfinished may.enabled)
@@ -147,6 +147,7 @@ judged_left m S (l ∷ ls) = by (bytes_eq l log_header)
   where
     seen : Bool → LinesLeft
     seen b = cond b (record { left = ls; offset = 1 }) (record { left = l ∷ ls; offset = 0 })
+
     by : (b : Bool) → judged_from m S ((seen b).offset + 1) (seen b).left
         ≡ cond b (judged_from m S 2 ls) (judged_from m S 1 (l ∷ ls))
     by true = refl

@@ -106,7 +106,7 @@ one_drawn n m S g d e is =
 -- the machine and the generator after a drawn event
 after_drawn : (m : Machine) (S : State) (g : Lcg) (e : Event) → is_finished S ≡ false
     → after_pick seeded_picks (drawing m S g) e ≡ drawing m (after_event m S e) (pcg32 g).1
-after_drawn m S g e open = ap (λ (x : Pick × Lcg). drawing m (after_event m S e) x.1) (at_draw m S g open)
+after_drawn m S g e undone = ap (λ (x : Pick × Lcg). drawing m (after_event m S e) x.1) (at_draw m S g undone)
 
 -- what the schedule does in all
 abbrev Ends : Driven Lcg → List Event → ℕ → Option LogFault → Type 0
@@ -117,7 +117,7 @@ Ends d es k fault =
 -- it does no other events, and has no fault
 only : (n : ℕ) (m : Machine) (i : ImageState) (S : State) (g : Lcg) (es : List Event) (k : ℕ) (fault : Option LogFault)
     → Reached m i S → IsShort m S n → Ends (drawing m S g) es k fault → (es ≡ seeded_from n m S g) × (fault ≡ None)
-unfolding DoesAll, after_picks
+unfolding DoesAll after_picks
 only n m i S g [] k fault r short h =
     let p = (drawing m S g).pipeline in
     let c = picked seeded_picks (drawing m S g) in
@@ -126,16 +126,16 @@ only n m i S g [] k fault r short h =
 only zero m i S g (e ∷ es) k fault r short h = absurd (none_left m S e h.0.0.may.enabled short)
 only (suc n) m i S g (e ∷ es) k fault r short h =
     let on = h.0.0.may.enabled in
-    let open = h.0.0.may.unfinished in
-    let is = drawn_do (chosen_event m S (pcg32 g).0) e (sym (ap (λ x. x.0) (at_draw m S g open)) ∙ h.0.0.picked) in
-    let rest = subst (λ d. Ends d es k fault) (after_drawn m S g e open) (h.0.1, h.1) in
+    let undone = h.0.0.may.unfinished in
+    let is = drawn_do (chosen_event m S (pcg32 g).0) e (sym (ap (λ x. x.0) (at_draw m S g undone)) ∙ h.0.0.picked) in
+    let rest = subst (λ d. Ends d es k fault) (after_drawn m S g e undone) (h.0.1, h.1) in
     let then = only n m i (after_event m S e) (pcg32 g).1 es k fault (reached_after m i S e r on) (one_less m S n e on short) rest in
-    (ap (λ ds. e ∷ ds) then.0 ∙ sym (one_drawn n m S g e open is), then.1)
+    (ap (λ ds. e ∷ ds) then.0 ∙ sym (one_drawn n m S g e undone is), then.1)
 
 -- it does these, and then the run is over
 does : (n : ℕ) (m : Machine) (i : ImageState) (S : State) (g : Lcg) (k : ℕ) (b : Bool) → Reached m i S → IsShort m S n
     → is_finished S ≡ b → Ends (drawing m S g) (seeded_from n m S g) k None
-unfolding DoesAll, after_picks
+unfolding DoesAll after_picks
 does n m i S g k true r short e =
     subst (λ es. Ends (drawing m S g) es k None) (sym (none_drawn n m S g e)) (tt, (ap (λ x. x.0) (at_end m S g e), e))
 does zero m i S g k false r short e =
@@ -155,7 +155,7 @@ does (suc n) m i S g k false r short e =
 -- from a state that a run leaves, it has no fault
 none_from : (m : Machine) (i : ImageState) (S : State) (g : Lcg) (es : List Event) (k : ℕ) (fault : Option LogFault)
     → Reached m i S → Ends (drawing m S g) es k fault → fault ≡ None
-unfolding DoesAll, after_picks
+unfolding DoesAll after_picks
 none_from m i S g [] k fault r h =
     no_fault (drawing m S g).pipeline k (picked seeded_picks (drawing m S g)) fault (fits m i S g r) h.1
 none_from m i S g (e ∷ es) k fault r h =
@@ -179,11 +179,10 @@ pub run_of_seed : SeededLaw
 run_of_seed m i n j accepted fit =
     let r = reached_first m i accepted fit in
     let short = bounded m i r in
-    let g = seeded n in
-    (
+    let g = seeded n in (
       λ h. let same = only (event_bound m) m i (initial_state i) g j.events (length j.events + 1) j.fault r short (h.done, h.ends) in
           ap (λ es. judgement es j.fault) same.0 ∙ ap (judgement (seeded_events m i n)) same.1,
       λ e. subst (Comes seeded_picks (drawing m (initial_state i) g)) (sym e)
           (let h = does (event_bound m) m i (initial_state i) g (length (seeded_events m i n) + 1) (is_finished (initial_state i)) r short refl in
-          record { done = h.0; ends = h.1 })
+          record { done = h.0; ends = h.1 }),
     )
