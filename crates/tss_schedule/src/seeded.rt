@@ -1,6 +1,8 @@
 // The schedule of a seed.
 ghost use Rattle.std.specs.Prelude.{◌≡◌};
 ghost use Rattle.tss_protocol.specs.Schedule.{seeded};
+ghost use Rattle.tss_schedule.specs.Picks.{Fits};
+ghost use Rattle.tss_schedule.specs.Seeds.{seeded_picks};
 
 use crate::schedule::{Pick, Schedule};
 use rand_core::SeedableRng;
@@ -35,11 +37,14 @@ impl Seeded {
 }
 
 impl Schedule for Seeded {
-    ghost use Rattle.tss_schedule.specs.Seeds.{seeded_picks};
-
     ghost picks = { seeded_picks };
 
-    fn pick(&mut self, p: &Pipeline) -> Pick {
+    /// An event that may happen, or the end, and then the run is over.
+    fn pick(&mut self, p: &Pipeline) -> Pick
+        ensures picks { (result, self.new) ≡ seeded_picks self.old p.now }
+        ensures fits { Fits p.now result }
+    {
+        p.reached();
         if p.finished() {
             return Pick::End;
         }
