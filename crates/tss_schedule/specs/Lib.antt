@@ -1,3 +1,4 @@
 pub mod Picks
 pub mod Seeds
 pub mod Givens
+pub mod Driving

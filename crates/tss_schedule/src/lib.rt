@@ -4,11 +4,12 @@
 //! run is that of the seed. `Given` reads the lines of a log where they lie, and does what the log's judgement says.
 #![tactic(auto)]
 
-mod drive;
+mod driving;
 mod given;
 mod schedule;
 mod seeded;
 
+pub use driving::{ScheduleFault, drive};
 pub use given::Given;
 pub use schedule::{Pick, Schedule};
 pub use seeded::Seeded;

@@ -1,1 +1,0 @@
-// A pipeline driven by a schedule.
