@@ -4,7 +4,7 @@ use Rattle.tss_maps.specs.Ordered.{key_at}
 use Rattle.tss_stations.specs.Reading.{found_in}
 use Rattle.tss_stations.specs.Views.{flight_of, flying_of}
 use Rattle.tss_pipeline.specs.Seen.{PipelineState}
-use Rattle.tss_pipeline.proofs.ReaderLemmas.{key_at-mapped}
+use Rattle.tss_pipeline.proofs.shown.ReaderLemmas.{key_at-mapped}
 use Rattle.tss_pipeline.proofs.pipeline.Pipeline.task_at.Goals as goal
 
 pub returns : goal.returns
