@@ -1,5 +1,5 @@
 -- What driving a unit machine by a schedule comes to: the events that are done, the answer, and what a log then has.
-use Rattle.std.specs.Prelude.{◌≡◌, ◌≢◌, ◌×◌, ◌⊎◌, ℕ, ◌+◌, ◌≤◌, List, map, length, Option, Some, None, Result, Ok, Err, OnOk}
+use Rattle.std.specs.Prelude.{◌≡◌, ◌≢◌, ◌⊎◌, ℕ, ◌+◌, ◌≤◌, List, map, length, Option, Some, None, Result, Ok, Err, OnOk}
 use Rattle.tss_base.specs.declared.event.Event.{Event}
 use Rattle.tss_base.specs.declared.counts.Peaks.{Peaks}
 use Rattle.tss_base.specs.Image.{ImageState, IsAccepted}
@@ -103,7 +103,7 @@ pub record KeepsLog {L : Type 0} (g : Ghosts L) (old new : L) (answer : Answer) 
 -- ---- all of it
 
 -- some events were done: the schedule's picks, as the answer says. They are a run from the state before to that after,
--- and their lines are in the log
+-- their lines were put into the log, and all else of it was kept
 pub record Drives {X L : Type 0} (f : Meaning X) (g : Ghosts L) (old new : Driven X) (log log_after : L) (answer : Answer)
     : Type 0 where
   pub events : List Event
@@ -111,6 +111,7 @@ pub record Drives {X L : Type 0} (f : Meaning X) (g : Ghosts L) (old new : Drive
   pub machine : new.pipeline.machine ≡ old.pipeline.machine
   pub run : after_events old.pipeline.machine old.pipeline.state events ≡ Some new.pipeline.state
   pub lines : PutsLines g log log_after events answer
+  pub kept : KeepsLog g log log_after answer
 
 -- ---- what follows
 

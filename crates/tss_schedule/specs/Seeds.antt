@@ -1,5 +1,5 @@
 -- The schedule of a seed, and the run that it comes to.
-use Rattle.std.specs.Prelude.{◌≡◌, ◌×◌, ℕ, if◌then◌else◌, Option, Some, None}
+use Rattle.std.specs.Prelude.{◌≡◌, ℕ, if◌then◌else◌, Option, Some, None}
 use Rattle.rand_pcg.specs.Lcg.{Lcg}
 use Rattle.rand_pcg.specs.Pcg.{pcg32}
 use Rattle.tss_base.specs.declared.event.Event.{Event}

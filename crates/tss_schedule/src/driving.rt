@@ -1,7 +1,7 @@
 // A pipeline driven by a schedule.
 ghost use Rattle.std.specs.Prelude.{◌≡◌, ◌+◌, ◌^◌, ◌<◌, OnOk};
 ghost use Rattle.tss_protocol.specs.Counts.{counts_of, greater_counts};
-ghost use Rattle.tss_schedule.specs.Driving.{driven, TurnsOn, Drives, KeepsLog, AnswersExactly, EndsInOrder};
+ghost use Rattle.tss_schedule.specs.Driving.{driven, TurnsOn, Drives, AnswersExactly, EndsInOrder};
 
 use crate::schedule::{Pick, Schedule};
 use thiserror::Error;
@@ -87,7 +87,6 @@ pub fn drive<S: Schedule, L: Log>(
     log: &mut L,
 ) -> Result<Peaks, ScheduleFault>
     ensures run { Drives S.Schedule.picks L.Log (driven p.old schedule.old) (driven p.new schedule.new) log.old log.new result }
-    ensures log { KeepsLog L.Log log.old log.new result }
 
     // Each answer but that of a failed write comes exactly where the schedule comes to it.
     ensures exact { AnswersExactly S.Schedule.picks (driven p.old schedule.old) result }

@@ -5,6 +5,8 @@
 #![tactic(auto)]
 
 mod driving;
+#[cfg(test)]
+mod driving_tests;
 mod given;
 mod schedule;
 mod seeded;

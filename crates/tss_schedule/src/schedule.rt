@@ -1,5 +1,5 @@
 // What says which event a pipeline does next.
-ghost use Rattle.std.specs.Prelude.{◌≡◌, ◌×◌};
+ghost use Rattle.std.specs.Prelude.{◌≡◌};
 ghost use Rattle.tss_pipeline.specs.Seen.{PipelineState};
 
 use tss_base::Event;
