@@ -4,6 +4,9 @@
 //! run is that of the seed. `Given` reads the lines of a log where they lie, and does what the log's judgement says.
 #![tactic(auto)]
 
+mod driving;
+#[cfg(test)]
+mod driving_tests;
 mod given;
 mod laws;
 mod schedule;
@@ -11,6 +14,7 @@ mod seeded;
 #[cfg(test)]
 mod tests;
 
+pub use driving::{ScheduleFault, drive};
 pub use given::Given;
 pub use laws::{by_log, by_seed, going};
 pub use schedule::{Pick, Schedule};
