@@ -49,10 +49,7 @@ impl Schedule for Seeded {
             return Pick::End;
         }
         let word: u32 = self.generator.next_word();
-        let drawn = word
-            .checked_rem(p.enabled_count())
-            .and_then(|i| p.enabled_at(i));
-        match drawn {
+        match p.enabled_at(word % p.enabled_count()) {
             Some(e) => Pick::Do(e),
             None => Pick::End,
         }

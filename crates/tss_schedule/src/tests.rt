@@ -2,7 +2,9 @@
 ghost use Rattle.std.specs.Prelude.{IfOk};
 ghost use Rattle.tss_base.specs.Machine.{IsAdmissible};
 
+mod faults;
 mod logs;
+mod rows;
 mod seeds;
 
 use crate::{Pick, Schedule};
