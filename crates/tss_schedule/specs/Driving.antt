@@ -36,7 +36,7 @@ driven p s = record { pipeline = p; schedule = s }
 -- the pick with this number does no event: it has this fault, or it ends the run
 pub record Stops {X : Type 0} (f : Meaning X) (n : ℕ) (old new : Driven X) (end : Option LogFault) : Type 0 where
   pub ends : EndsBy old.pipeline n (picked f old) end
-  pub new : new ≡ driven old.pipeline (left_by f old)
+  pub stands : new ≡ driven old.pipeline (left_by f old)
 
 -- the event of the pick with this number was done, or why none was
 abbrev pub TurnsOn : {X : Type 0} → Meaning X → ℕ → Driven X → Driven X → Result (Option Event) ScheduleFault → Type 0

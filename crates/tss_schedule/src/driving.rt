@@ -1,6 +1,7 @@
 // A pipeline driven by a schedule.
 ghost use Rattle.std.specs.Prelude.{◌≡◌, ◌+◌, ◌^◌, ◌<◌, OnOk};
 ghost use Rattle.tss_protocol.specs.Counts.{counts_of, greater_counts};
+ghost use Rattle.tss_schedule.specs.declared.driving.ScheduleFault.TheVariants as fault;
 ghost use Rattle.tss_schedule.specs.Driving.{driven, TurnsOn, Drives, AnswersExactly, EndsInOrder};
 
 use crate::schedule::{Pick, Schedule};
@@ -31,7 +32,7 @@ pub enum ScheduleFault {
 }
 
 impl From<Failed> for ScheduleFault {
-    ghost from_gives = { λ _ e. e ≡ ScheduleFault.WriteFault };
+    ghost from_gives = { λ _ e. e ≡ fault.WriteFault };
 
     fn from(_e: Failed) -> ScheduleFault {
         ScheduleFault::WriteFault

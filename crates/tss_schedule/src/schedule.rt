@@ -15,6 +15,8 @@ pub enum Pick {
 
 /// What says which event a pipeline does next. Whether the event may happen is left to who drives the pipeline.
 pub trait Schedule {
+    ghost use Rattle.tss_schedule.specs.declared.schedule.Pick.{Pick};
+
     /// By what the schedule holds and the pipeline as it stands, the pick, and what the schedule holds afterwards.
     ghost picks: { Self → PipelineState → Pick × Self };
 

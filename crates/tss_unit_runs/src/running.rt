@@ -1,5 +1,5 @@
 // Runs of an image: by a seed, and by a log that is given.
-ghost use Rattle.std.specs.Prelude.{◌≡◌, ◌≢◌, ◌+◌, ◌^◌, ◌<◌, ◌≤◌, ℕ, Some, None, IfOk, IsErrOf, OnOk};
+ghost use Rattle.std.specs.Prelude.{◌≡◌, ◌≤◌, ℕ, List, Some, None, IfOk, IsErrOf, OnOk};
 ghost use Rattle.tss_base.specs.Machine.{IsAdmissible};
 ghost use Rattle.tss_model.specs.Memory.{loaded};
 ghost use Rattle.tss_outside.specs.Outside.{Rose, AppendsTo};
@@ -7,9 +7,7 @@ ghost use Rattle.tss_protocol.specs.Run.{IsRun};
 ghost use Rattle.tss_protocol.specs.Schedule.{seeded_events, judged};
 ghost use Rattle.tss_protocol.specs.State.{initial_state};
 ghost use Rattle.tss_protocol.specs.Text.{log_text};
-ghost use Rattle.tss_schedule.specs.Driving.{KeepsLog};
-ghost use Rattle.tss_schedule.specs.declared.driving.ScheduleFault.TheVariants as fault;
-ghost use Rattle.tss_unit_runs.specs.Runs.{run_of, fault_of, PutsPart, Finishes, answer_of, later_fault, IsJudgedSoFar};
+ghost use Rattle.tss_unit_runs.specs.Runs.{run_of, fault_of, PutsPart, Finishes, later_fault, IsCounted, IsNotShort, IsWholeOrShort};
 
 use crate::faults::{GivenFault, LineFault, LoggedFault};
 use crate::finished::FinishedRun;
@@ -28,8 +26,7 @@ fn finish<S: Schedule, L: Log>(
     log: &mut L,
 ) -> Result<FinishedRun, ScheduleFault>
     requires { pipeline.state ≡ initial_state image }
-    ensures run { Finishes S.Schedule.picks L.Log pipeline.machine image schedule.old log.old log.new result }
-    ensures log { KeepsLog L.Log log.old log.new (answer_of result) }
+    ensures { Finishes S.Schedule.picks L.Log pipeline.machine image schedule.old log.old log.new result }
 {
     let _entry = image.entry();
     match drive(&mut pipeline, schedule, log) {
@@ -146,7 +143,7 @@ pub fn state_given(
     ensures ranges { IfOk result (λ p. p.state.home.ranges ≡ (loaded image.now).ranges) }
     ensures ok { OnOk result (IsWholeOrShort (judged machine.now image.now bytes.now).fault) }
     ensures line { (f : LineFault) → IsErrOf result (GivenFault.Line f)
-        → ((judged machine.now image.now bytes.now).fault ≡ Some (fault_of f)) × IsNoEnd f }
+        → ((judged machine.now image.now bytes.now).fault ≡ Some (fault_of f)) × IsNotShort f }
 {
     let Ok(mut pipeline) = Pipeline::open(alloc, image, machine) else {
         return Err(GivenFault::NoMemory);

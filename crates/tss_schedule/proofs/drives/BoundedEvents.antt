@@ -8,8 +8,9 @@ use Rattle.tss_base.specs.declared.machine.Key.TheVariants as key
 use Rattle.tss_base.specs.Event.{fits}
 use Rattle.tss_base.specs.Image.{ImageState}
 use Rattle.tss_base.specs.Machine.{IsAdmissible}
-use Rattle.tss_protocol.specs.State.{State, initial_state}
+use Rattle.tss_protocol.specs.State.{initial_state}
 use Rattle.tss_protocol.specs.UnitMachine.{is_enabled}
+use Rattle.tss_protocol.specs.Run.{IsRun}
 use Rattle.tss_protocol.specs.Counts.{event_bound, pieces_of_object}
 use Rattle.tss_progress.proofs.bound.Runs.{events_of_runs}
 use Rattle.tss_conditions.specs.Reached.{Reached}
@@ -43,21 +44,27 @@ bound_fits m admissible =
 -- ---- the events
 
 module _ {X : Type 0} (f : Meaning X) (d : Driven X) (r : IsReached d.pipeline.machine d.pipeline.state) where
-  -- what they leave is reached too
+  -- with those before they are a run
+  run_then : (es : List Event) → DoesAll f d es
+      → IsRun d.pipeline.machine r.image (r.reached.reachable.0 ++ es) (after_picks f d es).pipeline.state
+  run_then es done =
+      after_events-append d.pipeline.machine r.reached.reachable.0 es (initial_state r.image) d.pipeline.state
+      (after_picks f d es).pipeline.state r.reached.reachable.1 (picked_run f d es done)
+
+  -- so what they leave is reached too
   pub reached_then : (es : List Event) → DoesAll f d es
       → Reached d.pipeline.machine r.image (after_picks f d es).pipeline.state
-  reached_then es done =
-      let before = r.reached.reachable in
-      let run = after_events-append d.pipeline.machine before.0 es (initial_state r.image) d.pipeline.state
-      (after_picks f d es).pipeline.state before.1 (picked_run f d es done) in
-      record { accepted = r.reached.accepted; admissible = r.reached.admissible; reachable = (before.0 ++ es, run) }
+  reached_then es done = record {
+    accepted = r.reached.accepted;
+    admissible = r.reached.admissible;
+    reachable = (r.reached.reachable.0 ++ es, run_then es done);
+  }
 
   -- they are no more than the bound
   pub within_bound : (es : List Event) → DoesAll f d es → length es ≤ event_bound d.pipeline.machine
   within_bound es done =
-      let all = reached_then es done in
-      let bound = events_of_runs d.pipeline.machine r.image all.reachable.0 (after_picks f d es).pipeline.state
-      all.accepted all.admissible all.reachable.1 in
+      let bound = events_of_runs d.pipeline.machine r.image (r.reached.reachable.0 ++ es) (after_picks f d es).pipeline.state
+      r.reached.accepted r.reached.admissible (run_then es done) in
       let sum = length-append r.reached.reachable.0 es in
       omega (arith, bound, sum)
 

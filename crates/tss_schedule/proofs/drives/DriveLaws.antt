@@ -1,5 +1,5 @@
 -- What follows of a drive: its answer is that of the schedule's judgement, and its result that of program order.
-use Rattle.std.proofs.Common.{◌≡◌, List, ◌++◌, Some, None, Ok, Err, OnOk, refl, sym, ap, ◌∙◌, subst}
+use Rattle.std.proofs.Common.{◌≡◌, List, ◌++◌, Option, Some, None, Ok, Err, refl, sym, ap, ◌∙◌, subst}
 use Rattle.tss_base.specs.declared.event.Event.{Event}
 use Rattle.tss_base.specs.declared.counts.Peaks.{Peaks}
 use Rattle.tss_base.specs.Image.{ImageState, IsAccepted}

@@ -1,5 +1,5 @@
 -- What a drive has done before its next pick, and what it has done where it ends.
-use Rattle.std.proofs.Common.{◌≡◌, ℕ, ◌+◌, ◌≤◌, List, [], ◌∷◌, ◌++◌, length, Option, Some, None, Ok, Err, refl, sym, ap, ◌∙◌, subst, inl, inr}
+use Rattle.std.proofs.Common.{◌≡◌, ℕ, ◌+◌, ◌≤◌, List, [], ◌∷◌, ◌++◌, length, Option, Some, None, Ok, Err, refl, sym, ap, ◌∙◌, subst, inl, inr, arith}
 use Rattle.tss_base.specs.declared.event.Event.{Event}
 use Rattle.tss_base.specs.declared.counts.Peaks.{Peaks}
 use Rattle.tss_outside.specs.Outside.{Rose, AppendsWhereTold}
@@ -89,7 +89,7 @@ pub record HasDriven {X L : Type 0} (f : Meaning X) (g : Ghosts L) (old new : Dr
   pub events : List Event
   pub done : DoesAll f old events
   pub stands : new ≡ after_picks f old events
-  pub peaks : peaks ≡ peaks_of old.pipeline.machine old.pipeline.state events
+  pub counted : peaks ≡ peaks_of old.pipeline.machine old.pipeline.state events
   pub logged : HasLogged g log log_after events
 
 -- the peaks with one more event
@@ -107,7 +107,7 @@ module _ {X L : Type 0} (f : Meaning X) (g : Ghosts L) (laws : Keeping g) (d : D
     events = [];
     done = tt;
     stands = refl;
-    peaks = sym (peaks-none d);
+    counted = sym (peaks-none f d);
     logged = logged_none g laws log;
   }
 
@@ -123,7 +123,7 @@ module _ {X L : Type 0} (f : Meaning X) (g : Ghosts L) (laws : Keeping g) (d : D
         → more_peaks peaks new ≡ peaks_of d.pipeline.machine d.pipeline.state (h.events ++ e ∷ [])
     next_peaks e new is =
         ap (λ x. more_peaks peaks x) (is ∙ ap (λ x. after_pick f x e) h.stands)
-        ∙ ap (λ p. more_peaks p (after_pick f (after_picks f d h.events) e)) h.peaks
+        ∙ ap (λ p. more_peaks p (after_pick f (after_picks f d h.events) e)) h.counted
         ∙ sym (peaks-push f d h.events e)
 
     -- one more
@@ -134,7 +134,7 @@ module _ {X L : Type 0} (f : Meaning X) (g : Ghosts L) (laws : Keeping g) (d : D
       events = h.events ++ e ∷ [];
       done = next_done e does;
       stands = next_stands e new is;
-      peaks = next_peaks e new is;
+      counted = next_peaks e new is;
       logged = logged_line g laws log log_mid log_new h.events e h.logged line kept;
     }
 
@@ -147,7 +147,7 @@ module _ {X L : Type 0} (f : Meaning X) (g : Ghosts L) (laws : Keeping g) (d : D
     machine_so_far = ap (λ x. x.pipeline.machine) h.stands ∙ same_machine f d h.events
 
     count_so_far : peaks.events ≡ length h.events
-    count_so_far = ap (λ p. p.events) h.peaks
+    count_so_far = ap (λ p. p.events) h.counted
 
     -- the pick after them ends it
     ended : (new : Driven X) (end : Option LogFault) → Stops f (peaks.events + 1) mid new end → Ends f d new h.events end
@@ -158,15 +158,15 @@ module _ {X L : Type 0} (f : Meaning X) (g : Ghosts L) (laws : Keeping g) (d : D
             subst (λ x. EndsBy x.pipeline (length h.events + 1) (picked f x) end) h.stands
             (subst (λ n. EndsBy mid.pipeline (n + 1) (picked f mid) end) count_so_far stops.ends);
       };
-      pipeline = ap (λ x. x.pipeline) stops.new ∙ ap (λ x. x.pipeline) h.stands;
-      schedule = ap (λ x. x.schedule) stops.new ∙ ap (left_by f) h.stands;
+      pipeline = ap (λ x. x.pipeline) stops.stands ∙ ap (λ x. x.pipeline) h.stands;
+      schedule = ap (λ x. x.schedule) stops.stands ∙ ap (left_by f) h.stands;
     }
 
     -- without a write fault nothing more is put
     lines_put : (answer : Answer) → ((p : Peaks) → answer ≡ Ok p → ⊥) → IsWritten answer
         → PutsLines g log log_mid h.events answer
-    lines_put (Ok p) no written = absurd (no p refl)
-    lines_put (Err e) no written = record {
+    lines_put (Ok p) failed written = absurd (failed p refl)
+    lines_put (Err e) failed written = record {
       text = λ w. h.logged.text;
       none_kept = tt;
       prefix = λ w. absurd (written w);
@@ -191,16 +191,16 @@ module _ {X L : Type 0} (f : Meaning X) (g : Ghosts L) (laws : Keeping g) (d : D
         → Drives f g d new log log_mid (Err fault)
     drives_fault (fault.BadLine n) new stops =
         faulted (fault.BadLine n) (Some (judging.BadLine n)) new (ended new (Some (judging.BadLine n)) stops) (λ e. absurd (cc))
-        (ap (λ x. x.pipeline) stops.new)
+        (ap (λ x. x.pipeline) stops.stands)
     drives_fault (fault.NotEnabled n) new stops =
         faulted (fault.NotEnabled n) (Some (judging.NotEnabled n)) new (ended new (Some (judging.NotEnabled n)) stops)
-        (λ e. absurd (cc)) (ap (λ x. x.pipeline) stops.new)
+        (λ e. absurd (cc)) (ap (λ x. x.pipeline) stops.stands)
     drives_fault (fault.Short n) new stops =
         faulted (fault.Short n) (Some (judging.Short n)) new (ended new (Some (judging.Short n)) stops) (λ e. absurd (cc))
-        (ap (λ x. x.pipeline) stops.new)
+        (ap (λ x. x.pipeline) stops.stands)
     drives_fault (fault.Long n) new stops =
         faulted (fault.Long n) (Some (judging.Long n)) new (ended new (Some (judging.Long n)) stops) (λ e. absurd (cc))
-        (ap (λ x. x.pipeline) stops.new)
+        (ap (λ x. x.pipeline) stops.stands)
     drives_fault fault.WriteFault new stops = absurd stops
 
     -- the line of the last event failed
@@ -235,9 +235,9 @@ module _ {X L : Type 0} (f : Meaning X) (g : Ghosts L) (laws : Keeping g) (d : D
         → Drives f g d new log log_new (Ok peaks)
     drives_ok new log_new stops stays none_kept kept = record {
       events = h.events;
-      answers = (ended new None stops, h.peaks);
-      machine = ap (λ x. x.pipeline.machine) stops.new ∙ machine_so_far;
-      run = run_so_far ∙ ap (λ x. Some x.pipeline.state) (sym stops.new);
+      answers = (ended new None stops, h.counted);
+      machine = ap (λ x. x.pipeline.machine) stops.stands ∙ machine_so_far;
+      run = run_so_far ∙ ap (λ x. Some x.pipeline.state) (sym stops.stands);
       lines = record {
         text = λ w. appends_stays (g.text log) (g.text log_mid) (g.text log_new) (lines_text h.events) h.logged.text stays;
         none_kept = none_kept;
@@ -259,15 +259,13 @@ module _ {X L : Type 0} (f : Meaning X) (g : Ghosts L) (laws : Keeping g) (d : D
       events = h.events;
       answers = record {
         done = h.done;
-        pipeline = ap (λ x. x.pipeline) stops.new ∙ ap (λ x. x.pipeline) h.stands;
+        pipeline = ap (λ x. x.pipeline) stops.stands ∙ ap (λ x. x.pipeline) h.stands;
         schedule =
-            inr (
-              ap (λ x. x.schedule) stops.new ∙ ap (left_by f) h.stands,
-              subst (λ x. (picked f x ≡ pick.End) × IsFinished x.pipeline.state) h.stands stops.ends,
-            );
+            let ends = subst (λ x. (picked f x ≡ pick.End) × IsFinished x.pipeline.state) h.stands stops.ends in
+            inr (ap (λ x. x.schedule) stops.stands ∙ ap (left_by f) h.stands, ends.0, ends.1);
       };
-      machine = ap (λ x. x.pipeline.machine) stops.new ∙ machine_so_far;
-      run = run_so_far ∙ ap (λ x. Some x.pipeline.state) (sym stops.new);
+      machine = ap (λ x. x.pipeline.machine) stops.stands ∙ machine_so_far;
+      run = run_so_far ∙ ap (λ x. Some x.pipeline.state) (sym stops.stands);
       lines = record {
         text = λ w. absurd (w refl);
         none_kept = tt;

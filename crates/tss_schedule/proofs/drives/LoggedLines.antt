@@ -1,5 +1,5 @@
 -- A log after some lines and one more, and after it was closed.
-use Rattle.std.proofs.Common.{◌≡◌, ℕ, ◌≤◌, List, [], ◌∷◌, ◌++◌, map, Option, Some, None, refl, sym, ap, ◌∙◌, subst, append_assoc, append-nil, arith}
+use Rattle.std.proofs.Common.{◌≡◌, ℕ, ◌≤◌, List, [], ◌∷◌, ◌++◌, map, flat_map, Option, Some, None, refl, sym, ap, ◌∙◌, subst, append_assoc, append-nil, arith}
 use Rattle.std.proofs.lemmas.Grind.{flat_map-append}
 use Rattle.std.proofs.lemmas.List.{map-append}
 use Rattle.tss_base.specs.declared.event.Event.{Event}
@@ -47,7 +47,7 @@ stays_then o p None first then = tt
 stays_then o None (Some c) first then = absurd (none_some then)
 stays_then o (Some b) (Some c) first then = first ∙ then
 
-appends_stays : (o p r : Option (List ℕ)) (xs : List ℕ) → AppendsWhereTold o p xs → Stays p r → AppendsWhereTold o r xs
+pub appends_stays : (o p r : Option (List ℕ)) (xs : List ℕ) → AppendsWhereTold o p xs → Stays p r → AppendsWhereTold o r xs
 appends_stays o p None xs first then = tt
 appends_stays o None (Some c) xs first then = absurd (none_some then)
 appends_stays o (Some b) (Some c) xs first then = subst (λ b. AppendsWhereTold o (Some b) xs) (some_same then) first
@@ -83,7 +83,7 @@ holds_part o (Some a) (Some b) xs ys first part =
       part.2,
     )
 
-holds_part_of : (o p held : Option (List ℕ)) (xs : List ℕ) → AppendsWhereTold o p xs → HoldsPart p held
+pub holds_part_of : (o p held : Option (List ℕ)) (xs : List ℕ) → AppendsWhereTold o p xs → HoldsPart p held
     → HoldsPart (followed_by xs o) held
 holds_part_of o p None xs first part = tt
 holds_part_of o None (Some b) xs first part = absurd (none_some part.1)

@@ -1,7 +1,6 @@
 -- A schedule comes to one judgement alone, and what it has done before is the beginning of that.
 use Rattle.std.proofs.Common.{◌≡◌, ℕ, ◌+◌, true, false, cond, List, [], ◌∷◌, ◌++◌, length, Option, Some, None, refl, sym, ap, ◌∙◌, subst}
 use Rattle.tss_base.specs.declared.event.Event.{Event}
-use Rattle.tss_outside.specs.Outside.{IsPrefix}
 use Rattle.tss_protocol.specs.UnitMachine.{is_enabled}
 use Rattle.tss_protocol.specs.Result.{is_finished}
 use Rattle.tss_protocol.specs.Schedule.{LogFault, BadLine, NotEnabled, Short, Long, Judgement}
@@ -79,7 +78,7 @@ module _ {X : Type 0} (f : Meaning X) where
   -- what was done is the beginning of all that the schedule does
   pub done_before : (d : Driven X) (es fs : List Event) (n : ℕ) (end : Option LogFault) → DoesAll f d es → DoesAll f d fs
       → EndsBy (after_picks f d fs).pipeline n (picked f (after_picks f d fs)) end
-      → IsPrefix es fs
+      → (rest : List Event) × (fs ≡ es ++ rest)
   unfolding DoesAll after_picks
   done_before d [] fs n end done all ends = (fs, refl)
   done_before d (e ∷ es) [] n end done all ends = absurd (not_both d e n end done.0 ends)
