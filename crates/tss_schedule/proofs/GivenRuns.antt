@@ -33,6 +33,9 @@ add_last n k = omega arith
 add_next : (a n : ℕ) → suc a + n ≡ a + suc n
 add_next a n = omega arith
 
+add_none : (n : ℕ) → 0 + n ≡ n
+add_none n = omega arith
+
 add_suc : (k n : ℕ) → k + suc n ≡ suc (k + n)
 add_suc k n = omega arith
 
@@ -111,20 +114,25 @@ reads : (ls : List (List ℕ)) (m : Machine) (S : State) (k n : ℕ) (es : List 
     → Reads (reading m S k ls) n es fault
     → judgement es (option_map (line_fault k) fault) ≡ judged_from m S (k + n) ls
 unfolding DoesAll after_picks judged_from
-reads [] m S k n [] fault h = ends_short m S k n fault h.1
+reads [] m S k n [] fault h =
+    ends_short m S k n fault (subst (λ i. EndsBy (reading m S k []).pipeline i pick.End fault) (add_none n) h.1)
 reads [] m S k n (e ∷ es) fault h = let is = h.0.0.picked in absurd (cc)
 reads (l ∷ ls) m S k n [] fault h = by (event_of_text l) refl
   where
+    p : PipelineState
+    p = (reading m S k ls).pipeline
+
+    rest : State → Judgement
+    rest T = judged_from m T (suc (k + n)) ls
+
+    last : (o : Option Event) → event_of_text l ≡ o → EndsBy p n (pick_of o) fault
+    last o e = subst (λ o. EndsBy p n (pick_of o) fault) e
+        (subst (λ i. EndsBy p i (pick_of (event_of_text l)) fault) (add_none n) h.1)
+
     by : (o : Option Event) → event_of_text l ≡ o
-        → judgement [] (option_map (line_fault k) fault)
-        ≡ judged_line m S (k + n) (λ T. judged_from m T (suc (k + n)) ls) (event_of_text l)
-    by None e =
-        ends_bad (reading m S k ls).pipeline k n fault (subst (λ o. EndsBy (reading m S k ls).pipeline n (pick_of o) fault) e h.1)
-        ∙ sym (ap (judged_line m S (k + n) (λ T. judged_from m T (suc (k + n)) ls)) e)
-    by (Some d) e =
-        ends_undone m S k n d (λ T. judged_from m T (suc (k + n)) ls) fault
-        (subst (λ o. EndsBy (reading m S k ls).pipeline n (pick_of o) fault) e h.1)
-        ∙ sym (ap (judged_line m S (k + n) (λ T. judged_from m T (suc (k + n)) ls)) e)
+        → judgement [] (option_map (line_fault k) fault) ≡ judged_line m S (k + n) rest (event_of_text l)
+    by None e = ends_bad p k n fault (last None e) ∙ sym (ap (judged_line m S (k + n) rest) e)
+    by (Some d) e = ends_undone m S k n d rest fault (last (Some d) e) ∙ sym (ap (judged_line m S (k + n) rest) e)
 reads (l ∷ ls) m S k n (e ∷ es) fault h =
     let may = h.0.0.may in
     let T = after_event m S e in
