@@ -118,6 +118,7 @@ impl Pipeline {
     pub fn reached(&self)
         ensures reached { IsReached self.now.machine self.now.state }
     {
+        let _ = &self.units;
     }
 
     /// Ends the machine, in any state.
