@@ -2,7 +2,7 @@
 use Rattle.std.specs.Prelude.{◌≡◌, ℕ, ◌+◌, ◌^◌, ◌<◌, List, Option, Some, None, Result, Ok, Err, IfOk}
 use Rattle.tss_base.specs.declared.event.Event.{Event}
 use Rattle.tss_base.specs.declared.machine.Machine.{Machine}
-use Rattle.tss_base.specs.Image.{ImageState}
+use Rattle.tss_base.specs.Image.{ImageState, IsAccepted}
 use Rattle.tss_outside.specs.Outside.{Held, PutsPrefix}
 use Rattle.tss_protocol.specs.Counts.{peaks_of}
 use Rattle.tss_protocol.specs.State.{initial_state}
@@ -30,9 +30,10 @@ abbrev pub answer_of : Result FinishedRunState ScheduleFault → Answer
 answer_of (Ok r) = Ok r.peaks
 answer_of (Err e) = Err e
 
--- the image was driven on the machine from its first event; a run that is over has the drive's peaks
+-- an accepted image was driven on the machine from its first event; a run that is over has the drive's peaks
 pub record Finishes {X L : Type 0} (f : Meaning X) (g : Ghosts L) (m : Machine) (i : ImageState) (first : X)
     (log log_after : L) (result : Result FinishedRunState ScheduleFault) : Type 0 where
+  pub accepted : IsAccepted i
   pub last : Driven X
   pub drives : Drives f g (at_first m i first) last log log_after (answer_of result)
   pub ok : IfOk result (λ r. r ≡ record { machine = m; image = i; peaks = r.peaks })

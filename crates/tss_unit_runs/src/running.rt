@@ -29,6 +29,7 @@ fn finish<S: Schedule, L: Log>(
     ensures { Finishes S.Schedule.picks L.Log pipeline.machine image schedule.old log.old log.new result }
 {
     let _entry = image.entry();
+    pipeline.reached();
     match drive(&mut pipeline, schedule, log) {
         Ok(peaks) => Ok(FinishedRun {
             image,
