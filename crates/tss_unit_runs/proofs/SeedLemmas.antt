@@ -1,0 +1,49 @@
+-- A drive by a seed from an image's first event: the events of the seed, or a part of them where a write failed.
+use Rattle.std.proofs.Common.{◌≡◌, ℕ, ◌+◌, List, ◌++◌, length, None, Ok, Err, refl, ap}
+use Rattle.tss_base.specs.declared.event.Event.{Event}
+use Rattle.tss_base.specs.declared.machine.Machine.{Machine}
+use Rattle.tss_base.specs.declared.counts.Peaks.{Peaks}
+use Rattle.tss_base.specs.Image.{ImageState, IsAccepted}
+use Rattle.tss_base.specs.Machine.{IsAdmissible}
+use Rattle.tss_protocol.specs.Counts.{peaks_of}
+use Rattle.tss_protocol.specs.State.{initial_state}
+use Rattle.tss_protocol.specs.Schedule.{Judgement, seeded, seeded_events}
+use Rattle.rand_pcg.specs.Lcg.{Lcg}
+use Rattle.tss_log.specs.declared.log.Log.{Ghosts}
+use Rattle.tss_schedule.specs.declared.driving.ScheduleFault.TheVariants as fault
+use Rattle.tss_schedule.specs.Picks.{Driven, at_first, Comes}
+use Rattle.tss_schedule.specs.Seeds.{seeded_picks}
+use Rattle.tss_schedule.specs.Driving.{Answer, IsWritten, Drives}
+use Rattle.tss_schedule.proofs.SeededRuns.{run_of_seed}
+use Rattle.tss_schedule.proofs.drives.OneCourse.{comes_once, done_before}
+use Rattle.tss_schedule.proofs.drives.DriveLaws.{exactly}
+
+module _ {L : Type 0} (g : Ghosts L) (m : Machine) (i : ImageState) (n : ℕ) (last : Driven Lcg) (log log_new : L)
+    (accepted : IsAccepted i) (admissible : IsAdmissible m) where
+  -- what the seed comes to
+  abbrev seed_judgement : Judgement
+  seed_judgement = record { events = seeded_events m i n; fault = None }
+
+  seed_comes : Comes seeded_picks (at_first m i (seeded n)) seed_judgement
+  seed_comes = (run_of_seed m i n seed_judgement accepted admissible).1 refl
+
+  -- the answer, unless a write failed
+  pub seed_answer : (answer : Answer) → Drives seeded_picks g (at_first m i (seeded n)) last log log_new answer
+      → IsWritten answer → answer ≡ Ok (peaks_of m (initial_state i) (seeded_events m i n))
+  seed_answer answer h written =
+      exactly seeded_picks g (at_first m i (seeded n)) last log log_new answer h seed_judgement seed_comes written
+
+  -- the events
+  pub seed_events : (peaks : Peaks) (h : Drives seeded_picks g (at_first m i (seeded n)) last log log_new (Ok peaks))
+      → h.events ≡ seeded_events m i n
+  seed_events peaks h =
+      ap (λ (j : Judgement). j.events)
+      (comes_once seeded_picks (at_first m i (seeded n)) (record { events = h.events; fault = None }) seed_judgement
+      h.answers.0.comes seed_comes)
+
+  -- a part of them
+  pub seed_part : (h : Drives seeded_picks g (at_first m i (seeded n)) last log log_new (Err fault.WriteFault))
+      → (rest : List Event) × (seeded_events m i n ≡ h.events ++ rest)
+  seed_part h =
+      done_before seeded_picks (at_first m i (seeded n)) h.events (seeded_events m i n) (length (seeded_events m i n) + 1) None
+      h.answers.done seed_comes.done seed_comes.ends
