@@ -65,6 +65,12 @@ module _ (m : Machine) (i : ImageState) (S : State) (r : Reached m i S) where
   pub is_over : IsFinished S → (e : Event) → is_enabled m S e ≡ false
   is_over done = finished_of_runs m i r.reachable.0 S r.accepted r.admissible r.reachable.1 done
 
+  -- some may where it isn't
+  pub some_enabled : is_finished S ≡ false → 0 < length (enabled_events m S)
+  some_enabled undone =
+      let on = goes_on undone in
+      some_length on.0 (enabled_events m S) (enabled_listed m S on.0 on.1)
+
   -- so the number of events that may happen tells which it is
   counted_over : length (enabled_events m S) ≡ 0 → IsFinished S
   counted_over none = by (is_finished S) refl
@@ -72,8 +78,7 @@ module _ (m : Machine) (i : ImageState) (S : State) (r : Reached m i S) where
       by : (b : Bool) → is_finished S ≡ b → b ≡ true
       by true e = refl
       by false e =
-          let on = goes_on e in
-          let some = some_length on.0 (enabled_events m S) (enabled_listed m S on.0 on.1) in
+          let some = some_enabled e in
           absurd (omega (arith, none, some))
 
   over_counted : IsFinished S → length (enabled_events m S) ≡ 0

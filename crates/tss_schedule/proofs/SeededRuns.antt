@@ -1,12 +1,13 @@
 -- The schedule of a seed over a whole run: it has no fault, and does the events of the seed.
-use Rattle.std.proofs.Common.{◌≡◌, ℕ, zero, suc, ◌+◌, ◌≤◌, Bool, true, false, cond, List, [], ◌∷◌, length, Option, Some, None, refl, sym, ap, subst, ◌∙◌, arith}
+use Rattle.std.proofs.Common.{◌≡◌, ℕ, zero, suc, ◌+◌, ◌%◌, ◌≤◌, Bool, true, false, cond, List, [], ◌∷◌, length, Option, Some, None, refl, sym, ap, subst, ◌∙◌, arith}
+use Rattle.std.specs.Prelude.{slice_get}
 use Rattle.rand_pcg.specs.Lcg.{Lcg}
 use Rattle.rand_pcg.specs.Pcg.{pcg32}
 use Rattle.tss_base.specs.declared.machine.Machine.{Machine}
 use Rattle.tss_base.specs.declared.event.Event.{Event}
 use Rattle.tss_base.specs.Image.{ImageState}
 use Rattle.tss_protocol.specs.State.{State, initial_state}
-use Rattle.tss_protocol.specs.UnitMachine.{is_enabled, after_event}
+use Rattle.tss_protocol.specs.UnitMachine.{is_enabled, after_event, enabled_events}
 use Rattle.tss_protocol.specs.Run.{after_events}
 use Rattle.tss_protocol.specs.Counts.{event_bound}
 use Rattle.tss_protocol.specs.Result.{is_finished}
@@ -14,7 +15,7 @@ use Rattle.tss_protocol.specs.Schedule.{LogFault, BadLine, NotEnabled, Short, Lo
 use Rattle.tss_progress.proofs.bound.Runs.{events_of_runs}
 use Rattle.tss_conditions.specs.Reached.{Reached}
 use Rattle.tss_conditions.proofs.Known.{reached_first, reached_after}
-use Rattle.tss_pipeline.specs.Seen.{PipelineState}
+use Rattle.tss_pipeline.specs.Seen.{PipelineState, IsReached}
 use Rattle.tss_schedule.specs.declared.schedule.Pick.{Pick}
 use Rattle.tss_schedule.specs.declared.schedule.Pick.TheVariants as pick
 use Rattle.tss_schedule.specs.Picks.{Driven, picked, left_by, Does, DoesAll, after_pick, after_picks, Fits, EndsBy, Comes}
@@ -52,6 +53,17 @@ fits m i S g r = by (is_finished S) refl
         let is : picked seeded_picks (drawing m S g) ≡ pick.Do some.0 =
         ap (λ x. x.0) (at_draw m S g e) ∙ ap drawn some.1 in
         subst (Fits (drawing m S g).pipeline) (sym is) (record { unfinished = e; enabled = some.2 })
+
+-- the same of an event that was drawn there, by its place
+pub drawn_fits : (p : PipelineState) → IsReached p.machine p.state → is_finished p.state ≡ false
+    → (w n : ℕ) → n ≡ length (enabled_events p.machine p.state)
+    → (o : Option Event) → o ≡ slice_get (enabled_events p.machine p.state) (w % n) → Fits p (drawn o)
+drawn_fits p r undone w n count o is =
+    let on = goes_on p.machine r.image p.state r.reached undone in
+    let some = some_chosen p.machine p.state w on.0 on.1 in
+    let same : o ≡ Some some.0 =
+    is ∙ ap (λ n. slice_get (enabled_events p.machine p.state) (w % n)) count ∙ some.1 in
+    subst (λ o. Fits p (drawn o)) (sym same) (record { unfinished = undone; enabled = some.2 })
 
 -- a pick that fits has no fault
 no_fault : (p : PipelineState) (n : ℕ) (c : Pick) (fault : Option LogFault) → Fits p c → EndsBy p n c fault → fault ≡ None
