@@ -1,5 +1,5 @@
 -- A drive that came to the end leaves a pipeline in which the run is over.
-use Rattle.std.proofs.Common.{◌≡◌, [], Some, Ok, refl, sym, ap, ◌∙◌, subst}
+use Rattle.std.proofs.Common.{◌≡◌, [], Some, Ok, Err, refl, sym, ap, ◌∙◌, subst}
 use Rattle.tss_base.specs.declared.counts.Peaks.{Peaks}
 use Rattle.tss_base.specs.Image.{ImageState, IsAccepted}
 use Rattle.tss_base.specs.Machine.{IsAdmissible}
@@ -11,9 +11,11 @@ use Rattle.tss_program_order.specs.Refinement.{HasReferenceResult}
 use Rattle.tss_conditions.proofs.Filling.{grounded}
 use Rattle.tss_log.specs.declared.log.Log.{Ghosts}
 use Rattle.tss_pipeline.specs.Seen.{PipelineState, IsReached}
-use Rattle.tss_schedule.specs.Picks.{Meaning, Driven}
+use Rattle.tss_schedule.specs.declared.driving.ScheduleFault.{ScheduleFault}
+use Rattle.tss_schedule.specs.Picks.{Meaning, Driven, at_first}
 use Rattle.tss_schedule.specs.Driving.{Answer, Drives, EndsInOrder}
 use Rattle.tss_unit_runs.specs.Finished.{IsOver}
+use Rattle.tss_unit_runs.specs.Runs.{Finishes}
 
 module _ {X L : Type 0} (f : Meaning X) (g : Ghosts L) (d new : Driven X) (log log_new : L) where
   module _ (i : ImageState) (accepted : IsAccepted i) (first : d.pipeline.state ≡ initial_state i) (answer : Answer)
@@ -41,3 +43,28 @@ module _ {X L : Type 0} (f : Meaning X) (g : Ghosts L) (d new : Driven X) (log l
         subst (λ m. HasReferenceResult m i new.pipeline.state) (sym h.machine) (in_order i accepted ([], ap Some (sym first)));
     ranges = ranges_of_image i accepted first (Ok peaks) h admissible;
   }
+
+module _ {X L : Type 0} (f : Meaning X) (g : Ghosts L) (d new : Driven X) (log log_new : L) (i : ImageState)
+    (accepted : IsAccepted i) (first : d.pipeline.state ≡ initial_state i) where
+  -- the same drive, from the image's first state
+  from_first : (answer : Answer) → Drives f g d new log log_new answer
+      → Drives f g (at_first d.pipeline.machine i d.schedule) new log log_new answer
+  from_first answer h =
+      subst (λ S. Drives f g (record { pipeline = record { machine = d.pipeline.machine; state = S }; schedule = d.schedule }) new
+      log log_new answer) first h
+
+  -- it came to the end
+  pub finishes_ok : (peaks : Peaks) → Drives f g d new log log_new (Ok peaks)
+      → Finishes f g d.pipeline.machine i d.schedule log log_new
+      (Ok (record { machine = new.pipeline.machine; image = i; peaks = peaks }))
+  finishes_ok peaks h = record {
+    accepted = accepted;
+    last = new;
+    drives = from_first (Ok peaks) h;
+    ok = λ k. record { machine = h.machine k; image = i; peaks = peaks };
+  }
+
+  -- or there was a fault
+  pub finishes_err : (fault : ScheduleFault) → Drives f g d new log log_new (Err fault)
+      → Finishes f g d.pipeline.machine i d.schedule log log_new (Err fault)
+  finishes_err fault h = record { accepted = accepted; last = new; drives = from_first (Err fault) h; ok = tt }

@@ -1,5 +1,5 @@
 -- A drive by a seed from an image's first event: the events of the seed, or a part of them where a write failed.
-use Rattle.std.proofs.Common.{◌≡◌, ℕ, ◌+◌, List, ◌++◌, length, None, Ok, Err, refl, ap}
+use Rattle.std.proofs.Common.{◌≡◌, ℕ, ◌+◌, List, ◌++◌, length, None, Ok, Err, refl, sym, ap, ◌∙◌, subst, arith}
 use Rattle.tss_base.specs.declared.event.Event.{Event}
 use Rattle.tss_base.specs.declared.machine.Machine.{Machine}
 use Rattle.tss_base.specs.declared.counts.Peaks.{Peaks}
@@ -10,6 +10,8 @@ use Rattle.tss_protocol.specs.State.{initial_state}
 use Rattle.tss_protocol.specs.Schedule.{Judgement, seeded, seeded_events}
 use Rattle.rand_pcg.specs.Lcg.{Lcg}
 use Rattle.tss_log.specs.declared.log.Log.{Ghosts}
+use Rattle.tss_outside.specs.Outside.{Rose}
+use Rattle.tss_schedule.specs.declared.driving.ScheduleFault.{ScheduleFault}
 use Rattle.tss_schedule.specs.declared.driving.ScheduleFault.TheVariants as fault
 use Rattle.tss_schedule.specs.Picks.{Driven, at_first, Comes}
 use Rattle.tss_schedule.specs.Seeds.{seeded_picks}
@@ -47,3 +49,34 @@ module _ {L : Type 0} (g : Ghosts L) (m : Machine) (i : ImageState) (n : ℕ) (l
   seed_part h =
       done_before seeded_picks (at_first m i (seeded n)) h.events (seeded_events m i n) (length (seeded_events m i n) + 1) None
       h.answers.done seed_comes.done seed_comes.ends
+
+  -- by the machine and the generator that are at hand
+  pub at_seed : (k : Machine) (s : Lcg) (answer : Answer) → k ≡ m → s ≡ seeded n
+      → Drives seeded_picks g (at_first k i s) last log log_new answer
+      → Drives seeded_picks g (at_first m i (seeded n)) last log log_new answer
+  at_seed k s answer same drawn h =
+      subst (λ s. Drives seeded_picks g (at_first m i s) last log log_new answer) drawn
+      (subst (λ k. Drives seeded_picks g (at_first k i s) last log log_new answer) same h)
+
+  -- a seed has no fault but that a write fails
+  pub seed_fault : (fault : ScheduleFault) → Drives seeded_picks g (at_first m i (seeded n)) last log log_new (Err fault)
+      → IsWritten (Err fault) → ⊥
+  seed_fault fault h written = err_ok (seed_answer (Err fault) h written)
+    where
+      err_ok : {p : Peaks} → Err fault ≡ Ok p → ⊥
+      err_ok e = cc
+
+  -- without one it has its peaks
+  pub seed_peaks : (peaks : Peaks) → Drives seeded_picks g (at_first m i (seeded n)) last log log_new (Ok peaks)
+      → peaks ≡ peaks_of m (initial_state i) (seeded_events m i n)
+  seed_peaks peaks h = same (seed_answer (Ok peaks) h ok_err)
+    where
+      same : {p q : Peaks} → ◌≡◌ {A = Answer} (Ok p) (Ok q) → p ≡ q
+      same e = cc
+
+      ok_err : ◌≡◌ {A = Answer} (Ok peaks) (Err fault.WriteFault) → ⊥
+      ok_err e = cc
+
+-- no fault of a log that never fails
+pub never_rose : Rose 0 0 → ⊥
+never_rose h = omega (arith, h)

@@ -1,0 +1,15 @@
+use Rattle.std.proofs.Common.{Err, ap}
+use Rattle.tss_pipeline.specs.Seen.{PipelineState}
+use Rattle.tss_log.specs.contracts.log.NoLogLog.TheImpl as no_log
+use Rattle.tss_unit_runs.proofs.SeedLemmas.{at_seed, seed_fault, never_rose}
+use Rattle.tss_unit_runs.proofs.running.run_seeded.Goals as goal
+
+pub unreachable-requires : goal.unreachable-requires
+unreachable-requires c =
+    let h = c.in-Err.ensures in
+    let same = ap (λ (p : PipelineState). p.machine) c.in_ok-pipeline.ensures in
+    seed_fault no_log.ghosts c.args.machine c.args.image c.args.seed h.last (record {}) c.finish.new.log h.accepted c.requires
+    c.in-Err.field-0
+    (at_seed no_log.ghosts c.args.machine c.args.image c.args.seed h.last (record {}) c.finish.new.log h.accepted c.requires
+    c.in_ok-pipeline.pipeline.machine c.new.result (Err c.in-Err.field-0) same c.new.ensures h.drives)
+    (λ e. never_rose (h.drives.kept.cause e))
