@@ -1,11 +1,12 @@
 -- A drive by a given log from an image's first event: its judgement, by lines.
-use Rattle.std.proofs.Common.{◌≡◌, ℕ, ◌+◌, ◌^◌, ◌≤◌, ◌<◌, Bool, true, false, cond, List, [], ◌∷◌, length, Option, Some, None, Ok, Err, refl, sym, ap, ◌∙◌, arith}
+use Rattle.std.proofs.Common.{◌≡◌, ℕ, ◌+◌, ◌^◌, ◌≤◌, ◌<◌, Bool, true, false, cond, List, [], ◌∷◌, length, Option, Some, None, Result, Ok, Err, refl, sym, ap, subst, ◌∙◌, arith}
 use Rattle.std.specs.Prelude.{option_map, bytes_eq}
 use Rattle.tss_base.specs.declared.event.Event.{Event}
 use Rattle.tss_base.specs.declared.machine.Machine.{Machine}
 use Rattle.tss_base.specs.declared.counts.Peaks.{Peaks}
 use Rattle.tss_base.specs.Image.{ImageState, IsAccepted}
 use Rattle.tss_base.specs.Machine.{IsAdmissible}
+use Rattle.tss_protocol.specs.Counts.{peaks_of}
 use Rattle.tss_protocol.specs.State.{initial_state}
 use Rattle.tss_protocol.specs.Schedule as judging
 use Rattle.tss_protocol.specs.Schedule.{LogFault, Judgement, judged}
@@ -21,7 +22,12 @@ use Rattle.tss_schedule.specs.Givens.{given_picks, line_fault, by_lines}
 use Rattle.tss_schedule.specs.Driving.{Answer, IsWritten, Drives}
 use Rattle.tss_schedule.proofs.GivenRuns.{run_of_log}
 use Rattle.tss_schedule.proofs.drives.BoundedEvents.{within_bound, bound_fits}
-use Rattle.tss_unit_runs.specs.Runs.{later_fault, IsCounted}
+use Rattle.tss_outside.specs.Outside.{Rose}
+use Rattle.tss_unit_runs.specs.declared.faults.GivenFault.{GivenFault}
+use Rattle.tss_unit_runs.specs.declared.faults.GivenFault.TheVariants as given_fault
+use Rattle.tss_unit_runs.specs.declared.faults.LineFault.{LineFault}
+use Rattle.tss_unit_runs.specs.Runs.{later_fault, fault_of, IsCounted}
+use Rattle.tss_unit_runs.proofs.SeedLemmas.{never_rose}
 
 -- at most the header comes before the first pick
 pub offset_small : (ls : List (List ℕ)) → (event_lines ls).offset ≤ 1
@@ -47,6 +53,11 @@ module _ {L : Type 0} (g : Ghosts L) (m : Machine) (i : ImageState) (bytes : Lis
   pub log_whole : (peaks : Peaks) (h : Drives given_picks g start last log log_new (Ok peaks))
       → record { events = h.events; fault = None } ≡ judged m i bytes
   log_whole peaks h = run_of_log m i bytes (record { events = h.events; fault = None }) h.answers.0.comes
+
+  pub log_peaks : (peaks : Peaks) → Drives given_picks g start last log log_new (Ok peaks)
+      → peaks ≡ peaks_of m (initial_state i) (judged m i bytes).events
+  log_peaks peaks h =
+      h.answers.1 ∙ ap (λ (j : Judgement). peaks_of m (initial_state i) j.events) (log_whole peaks h)
 
   -- a fault, by its line
   log_fault : (es : List Event) (end : LogFault) → Comes given_picks start (record { events = es; fault = Some end })
@@ -80,3 +91,28 @@ module _ {L : Type 0} (g : Ghosts L) (m : Machine) (i : ImageState) (bytes : Lis
   log_counted (fault.Short n) h written = counted h.events (judging.Short n) n h.answers.comes h.answers.comes.ends.0
   log_counted (fault.Long n) h written = counted h.events (judging.Long n) n h.answers.comes h.answers.comes.ends.0
   log_counted fault.WriteFault h written = absurd (written refl)
+
+  -- by the machine and the lines that are at hand
+  pub at_log : (d : Driven LinesLeft) (answer : Answer) → d ≡ start → Drives given_picks g d last log log_new answer
+      → Drives given_picks g start last log log_new answer
+  at_log d answer is h = subst (λ d. Drives given_picks g d last log log_new answer) is h
+
+  -- the log's faults by lines, one by one
+  pub line_judged : (fault : ScheduleFault) (k : ℕ) (r f : LineFault)
+      → Drives given_picks g start last log log_new (Err fault) → IsWritten (Err fault) → k ≡ given.offset
+      → Some (fault_of r) ≡ later_fault k fault → r ≡ f
+      → (judged m i bytes).fault ≡ Some (fault_of f)
+  line_judged fault k r f h written is told same =
+      sym (ap (λ (j : Judgement). j.fault) (log_judged fault h written))
+      ∙ ap (λ k. later_fault k fault) (sym is)
+      ∙ sym told
+      ∙ ap (λ r. Some (fault_of r)) same
+
+-- the line of an answer
+pub line_same : {T : Type 0} (r f : LineFault)
+    → ◌≡◌ {A = Result T GivenFault} (Err (given_fault.Line r)) (Err (given_fault.Line f)) → r ≡ f
+line_same r f e = cc
+
+-- no log that never fails has that fault
+pub written_by_none : (x : ScheduleFault) → (◌≡◌ {A = Answer} (Err x) (Err fault.WriteFault) → Rose 0 0) → IsWritten (Err x)
+written_by_none x cause e = never_rose (cause e)

@@ -5,10 +5,12 @@ use Rattle.std.proofs.lemmas.Slice.Eq.{bytes_eq-Decides}
 use Rattle.std.proofs.lemmas.List.{map-append}
 use Rattle.std.proofs.lemmas.Grind.{flat_map-append}
 use Rattle.tss_base.specs.declared.event.Event.{Event}
-use Rattle.tss_outside.specs.Outside.{Held, IsPrefix, SameOthers, AppendsTo, AppendsWhereTold, PutsPrefix}
+use Rattle.tss_outside.specs.declared.files.Files.{Ghosts}
+use Rattle.tss_outside.specs.Outside.{Held, Rose, IsPrefix, SameOthers, AppendsTo, AppendsWhereTold, PutsPrefix}
 use Rattle.tss_protocol.specs.Text.{event_text, ended_line, log_header, log_text}
 use Rattle.tss_log.specs.Logs.{followed_by, Stays, Grows, HoldsPart}
-use Rattle.tss_log.specs.FileLogs.{held_under, held_beside}
+use Rattle.tss_log.specs.declared.file_log.FileLog.{FileLog}
+use Rattle.tss_log.specs.FileLogs.{held_under, held_beside, held_by, text_by, other_by, faults_by, KeepsFiles}
 use Rattle.tss_schedule.specs.Driving.{lines_text}
 use Rattle.tss_unit_runs.specs.Runs.{PutsPart}
 
@@ -125,3 +127,48 @@ file_part old new name es fs rest grows part more others = record {
   part = part_put (held_under name old) (held_under name new) es fs rest grows part more;
   others = others;
 }
+
+-- ---- by a log
+
+module _ {F : Type 0} (g : Ghosts F) (old new : FileLog F) (header : old.kept ≡ ended_line log_header)
+    (keeps : KeepsFiles g old new) where
+  -- what it tells under its name, before and after
+  text_before : text_by g old ≡ followed_by (ended_line log_header) (held_under old.name.now (g.held old.files.now))
+  text_before = ap (λ kept. followed_by kept (held_by g old)) header
+
+  held_after : held_by g new ≡ held_under old.name.now (g.held new.files.now)
+  held_after = ap (λ name. held_under name (g.held new.files.now)) keeps.name
+
+  others_after : Stays (other_by g old) (other_by g new)
+      → Stays (held_beside old.name.now (g.held old.files.now)) (held_beside old.name.now (g.held new.files.now))
+  others_after others =
+      subst (λ name. Stays (other_by g old) (held_beside name (g.held new.files.now))) keeps.name others
+
+  -- the file has the whole log
+  pub logged_whole : (es fs : List Event) → AppendsWhereTold (text_by g old) (text_by g new) (lines_text es)
+      → held_by g new ≡ text_by g new → Stays (other_by g old) (other_by g new) → es ≡ fs
+      → AppendsTo (g.held old.files.now) (g.held new.files.now) old.name.now (log_text fs)
+  logged_whole es fs put none_kept others same =
+      subst (λ es. AppendsTo (g.held old.files.now) (g.held new.files.now) old.name.now (log_text es)) same
+      (file_whole (g.held old.files.now) (g.held new.files.now) old.name.now es
+      (subst (λ t. AppendsWhereTold t (held_under old.name.now (g.held new.files.now)) (lines_text es)) text_before
+      (subst (λ t. AppendsWhereTold (text_by g old) t (lines_text es)) (sym none_kept ∙ held_after) put))
+      (others_after others))
+
+  -- or a part of it
+  pub logged_part : (es fs : List Event) → Grows (held_by g old) (held_by g new)
+      → HoldsPart (followed_by (lines_text es) (text_by g old)) (held_by g new) → Stays (other_by g old) (other_by g new)
+      → (rest : List Event) × (fs ≡ es ++ rest)
+      → PutsPart (g.held old.files.now) (g.held new.files.now) old.name.now (log_text fs)
+  logged_part es fs grows part others before =
+      file_part (g.held old.files.now) (g.held new.files.now) old.name.now es fs before.0
+      (subst (Grows (held_by g old)) held_after grows)
+      (subst (λ t. HoldsPart (followed_by (lines_text es) t) (held_under old.name.now (g.held new.files.now))) text_before
+      (subst (HoldsPart (followed_by (lines_text es) (text_by g old))) held_after part))
+      before.1 (others_after others)
+
+  -- the count of its appends rose
+  pub logged_rose : Rose (faults_by g old) (faults_by g new)
+      → Rose (g.append_faults old.files.now old.name.now) (g.append_faults new.files.now old.name.now)
+  logged_rose rose =
+      subst (λ name. Rose (faults_by g old) (g.append_faults new.files.now name)) keeps.name rose

@@ -80,3 +80,23 @@ module _ {L : Type 0} (g : Ghosts L) (m : Machine) (i : ImageState) (n : ℕ) (l
 -- no fault of a log that never fails
 pub never_rose : Rose 0 0 → ⊥
 never_rose h = omega (arith, h)
+
+module _ {L : Type 0} (g : Ghosts L) (m : Machine) (i : ImageState) (n : ℕ) (last : Driven Lcg) (log log_new : L)
+    (accepted : IsAccepted i) (admissible : IsAdmissible m) where
+  -- a fault is that a write failed
+  seed_write_fault : (x : ScheduleFault) → Drives seeded_picks g (at_first m i (seeded n)) last log log_new (Err x)
+      → x ≡ fault.WriteFault
+  seed_write_fault (fault.BadLine k) h =
+      absurd (seed_fault g m i n last log log_new accepted admissible (fault.BadLine k) h (λ e. absurd (cc)))
+  seed_write_fault (fault.NotEnabled k) h =
+      absurd (seed_fault g m i n last log log_new accepted admissible (fault.NotEnabled k) h (λ e. absurd (cc)))
+  seed_write_fault (fault.Short k) h =
+      absurd (seed_fault g m i n last log log_new accepted admissible (fault.Short k) h (λ e. absurd (cc)))
+  seed_write_fault (fault.Long k) h =
+      absurd (seed_fault g m i n last log log_new accepted admissible (fault.Long k) h (λ e. absurd (cc)))
+  seed_write_fault fault.WriteFault h = refl
+
+  pub seed_failed : (x : ScheduleFault) → Drives seeded_picks g (at_first m i (seeded n)) last log log_new (Err x)
+      → Drives seeded_picks g (at_first m i (seeded n)) last log log_new (Err fault.WriteFault)
+  seed_failed x h =
+      subst (λ x. Drives seeded_picks g (at_first m i (seeded n)) last log log_new (Err x)) (seed_write_fault x h) h

@@ -1,12 +1,13 @@
 // Runs of an image: by a seed, and by a log that is given.
-ghost use Rattle.std.specs.Prelude.{◌≡◌, ◌≤◌, ℕ, List, Some, None, IfOk, IsErrOf, OnOk};
+ghost use Rattle.std.specs.Prelude.{◌≡◌, ◌≤◌, ℕ, List, Some, None, IfOk, IfErr, IsErrOf, OnOk, OnErr};
 ghost use Rattle.tss_base.specs.Machine.{IsAdmissible};
 ghost use Rattle.tss_model.specs.Memory.{loaded};
 ghost use Rattle.tss_outside.specs.Outside.{Rose, AppendsTo};
 ghost use Rattle.tss_protocol.specs.Run.{IsRun};
 ghost use Rattle.tss_protocol.specs.Schedule.{seeded_events, judged};
 ghost use Rattle.tss_protocol.specs.State.{initial_state};
-ghost use Rattle.tss_protocol.specs.Text.{log_text};
+ghost use Rattle.tss_protocol.specs.Text.{ended_line, log_header, log_text};
+ghost use Rattle.tss_log.specs.FileLogs.{KeepsFiles};
 ghost use Rattle.tss_unit_runs.specs.Runs.{run_of, fault_of, PutsPart, Finishes, later_fault, IsCounted, IsNotShort, IsWholeOrShort};
 
 use crate::faults::{GivenFault, LineFault, LoggedFault};
@@ -55,8 +56,34 @@ pub fn run_seeded(
 {
     let pipeline = Pipeline::open(alloc, &image, &machine)?;
     match finish(pipeline, image, &mut Seeded::new(seed), &mut NoLog {}) {
-        Ok(run) => Ok(run),
+        Ok(over) => Ok(over),
         Err(_) => unreachable!(),
+    }
+}
+
+/// Drives a pipeline by a seed from the first event of an image's run, with a log that keeps the header.
+fn finish_logged<'a, F: Files>(
+    pipeline: Pipeline,
+    image: Image,
+    seed: u64,
+    log: &mut FileLog<'a, F>,
+) -> Result<FinishedRun, LoggedFault>
+    requires first { pipeline.state ≡ initial_state image }
+    requires admissible { IsAdmissible pipeline.machine }
+    requires header { log.old.kept ≡ ended_line log_header }
+    ensures ok { IfOk result (λ r. r ≡ run_of pipeline.machine image (seeded_events pipeline.machine image seed)) }
+    ensures log { OnOk result (AppendsTo (F.held log.old.files.now) (F.held log.new.files.now) log.old.name.now
+        (log_text (seeded_events pipeline.machine image seed))) }
+    ensures err { IfErr result (λ e. e ≡ LoggedFault.WriteFault) }
+    ensures write_fault { OnErr result (PutsPart (F.held log.old.files.now) (F.held log.new.files.now) log.old.name.now
+        (log_text (seeded_events pipeline.machine image seed))) }
+    ensures cause { OnErr result (Rose (F.append_faults log.old.files.now log.old.name.now)
+        (F.append_faults log.new.files.now log.old.name.now)) }
+    ensures keeps { KeepsFiles F.Files log.old log.new }
+{
+    match finish(pipeline, image, &mut Seeded::new(seed), log) {
+        Ok(over) => Ok(over),
+        Err(_) => Err(LoggedFault::WriteFault),
     }
 }
 
@@ -86,11 +113,7 @@ pub fn run_logged<F: Files>(
         return Err(LoggedFault::NoMemory);
     };
     let mut log = FileLog::new(files, name);
-    match finish(pipeline, image, &mut Seeded::new(seed), &mut log) {
-        Ok(run) => Ok(run),
-        Err(ScheduleFault::WriteFault) => Err(LoggedFault::WriteFault),
-        Err(_) => unreachable!(),
-    }
+    finish_logged(pipeline, image, seed, &mut log)
 }
 
 /// A fault of a schedule's pick as one of a line, where so many lines come before the first pick.
@@ -126,7 +149,7 @@ pub fn run_given(
     let mut lines = Given::new(bytes);
     let offset = lines.offset();
     match finish(pipeline, image, &mut lines, &mut NoLog {}) {
-        Ok(run) => Ok(run),
+        Ok(over) => Ok(over),
         Err(fault) => Err(GivenFault::Line(line_fault(fault, offset))),
     }
 }
@@ -146,13 +169,15 @@ pub fn state_given(
     ensures line { (f : LineFault) → IsErrOf result (GivenFault.Line f)
         → ((judged machine.now image.now bytes.now).fault ≡ Some (fault_of f)) × IsNotShort f }
 {
+    let _entry = image.entry();
     let Ok(mut pipeline) = Pipeline::open(alloc, image, machine) else {
         return Err(GivenFault::NoMemory);
     };
     let mut lines = Given::new(bytes);
     let offset = lines.offset();
     match drive(&mut pipeline, &mut lines, &mut NoLog {}) {
-        Ok(_) | Err(ScheduleFault::Short(_)) => Ok(pipeline),
+        Ok(_) => Ok(pipeline),
+        Err(ScheduleFault::Short(_)) => Ok(pipeline),
         Err(fault) => {
             pipeline.close();
             Err(GivenFault::Line(line_fault(fault, offset)))
