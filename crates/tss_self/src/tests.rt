@@ -1,5 +1,7 @@
 // What no clause says: that memory is found, and what the reports are. Their tasks and digests are those of a plain
 // evaluation of the workload by another program.
+ghost use Rattle.std.specs.Prelude.{◌≤◌};
+
 use crate::{Form, SelfRun};
 use std::alloc::Global;
 use std::process::Abort;
@@ -8,7 +10,10 @@ use tss_base::Ending;
 use tss_outside::MemSink;
 
 /// The report of a workload that runs to its exit.
-fn report(rt: &impl Abort, alloc: Global, n: u32, form: Form) -> Result<MemSink, Fail> {
+fn report(rt: &impl Abort, alloc: Global, n: u32, form: Form) -> Result<MemSink, Fail>
+    requires low { 1 ≤ n }
+    requires high { n ≤ 40 }
+{
     let mut out = MemSink::new(alloc, 1024)?;
     let run = SelfRun::new(alloc, n, form)?;
     let ending = run.ending();
@@ -20,7 +25,10 @@ fn report(rt: &impl Abort, alloc: Global, n: u32, form: Form) -> Result<MemSink,
 }
 
 /// Checks how the report of a workload begins.
-fn expect(rt: &impl Abort, alloc: Global, n: u32, form: Form, text: &[u8]) -> Result<(), Fail> {
+fn expect(rt: &impl Abort, alloc: Global, n: u32, form: Form, text: &[u8]) -> Result<(), Fail>
+    requires low { 1 ≤ n }
+    requires high { n ≤ 40 }
+{
     let out = report(rt, alloc, n, form)?;
     assert!(rt; out.bytes().starts_with(text));
     Ok(())
