@@ -13,5 +13,7 @@ mod rows;
 mod tests;
 mod writer;
 
-pub use report::{put_summary, write_report};
+pub use digits::{hex_word, write_hex};
+pub use report::{put_ending, put_summary, write_report};
+pub use rows::put_changed;
 pub use writer::PieceWriter;

@@ -62,14 +62,14 @@ abbrev pub idle_line : ℕ → List ℕ
 idle_line w = line (codes "worker") (decimal w ∷ codes "idle" ∷ [])
 
 -- how a worker's task stands: it has trapped, its pc is where a task ends, or it runs
-abbrev pub running_word : Registers → Bool → List ℕ
-running_word r true = codes "trapped"
-running_word r false = if r.pc == END_PC then codes "ended" else codes "runs"
+abbrev pub running_word : ℕ → Bool → List ℕ
+running_word pc true = codes "trapped"
+running_word pc false = if pc == END_PC then codes "ended" else codes "runs"
 
 -- a busy worker: its task, the instructions completed, the pc, and how the task stands
 abbrev pub worker_line : ℕ → ℕ → Registers → Bool → List ℕ
 worker_line w task r trapped =
-    line (codes "worker") (decimal w ∷ decimal task ∷ decimal r.done ∷ hex_word r.pc ∷ running_word r trapped ∷ [])
+    line (codes "worker") (decimal w ∷ decimal task ∷ decimal r.done ∷ hex_word r.pc ∷ running_word r.pc trapped ∷ [])
 
 -- its registers
 abbrev pub worker_registers_line : ℕ → Registers → List ℕ
@@ -117,8 +117,8 @@ version_line v x =
     ∷ (follow_words x.successor ++ optional decimal x.asked ∷ optional decimal x.refused ∷ []))))
 
 -- what a bank copies home: the version, and the bytes moved so far
-abbrev pub copy_line : ℕ → CopyState → List ℕ
-copy_line bank c = line (codes "copy") (decimal bank ∷ name_text c.version ∷ decimal c.moved ∷ [])
+abbrev pub copy_line : ℕ → OpName → ℕ → List ℕ
+copy_line bank v moved = line (codes "copy") (decimal bank ∷ name_text v ∷ decimal moved ∷ [])
 
 -- ---- messages
 

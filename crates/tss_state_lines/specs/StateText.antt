@@ -145,7 +145,7 @@ buffers_text S b = flat_map (buffer_text S b) (keys (bank_names b S.buffers))
 
 -- a bank that copies
 abbrev pub copy_text : Numbered CopyState → ℕ → List ℕ
-copy_text copies b = text_if (copy_line b) (get copies b)
+copy_text copies b = text_if (λ c. copy_line b c.version c.moved) (get copies b)
 
 -- ---- the whole
 

@@ -1,7 +1,4 @@
 // The parts of the state text.
-ghost use Rattle.std.specs.Prelude.{◌≡◌};
-ghost use Rattle.tss_state_lines.specs.StateText.{all_parts};
-
 /// A part of the state text: the lines of a kind, or of kinds that stand together.
 #[derive(Clone, Copy, Debug, PartialEq, Eq)]
 pub enum Part {
@@ -26,11 +23,8 @@ pub enum Part {
     Enabled,
 }
 
-/// How many parts there are.
-const PARTS: usize = 19;
-
 /// The parts in the order of the text.
-const ALL_PARTS: [Part; PARTS] = [
+pub const ALL_PARTS: [Part; 19] = [
     Part::Main,
     Part::Registers,
     Part::Ending,
@@ -51,12 +45,3 @@ const ALL_PARTS: [Part; PARTS] = [
     Part::Rows,
     Part::Enabled,
 ];
-
-impl Part {
-    /// The parts in the order of the text.
-    pub fn all() -> &'static [Part]
-        ensures { result.now ≡ all_parts }
-    {
-        &ALL_PARTS
-    }
-}
