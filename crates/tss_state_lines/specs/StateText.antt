@@ -78,6 +78,10 @@ bank_entries sizes b es = collected (λ base e. kept_if e (bank_of sizes e.objec
 abbrev pub bank_names : ℕ → Named ℕ → Named ℕ
 bank_names b held = collected (λ n bank. kept_if bank (bank == b)) held
 
+-- the versions of the objects of a bank, under their names
+abbrev pub bank_versions : Sizes → ℕ → Named Version → Named Version
+bank_versions sizes b vs = collected (λ v x. kept_if x (bank_of sizes x.object == b)) vs
+
 -- the entries of a bank, by base
 abbrev pub entries_text : Sizes → Numbered Entry → ℕ → List ℕ
 entries_text sizes es b = flat_map (λ e. entry_line b e.1) (entries (bank_entries sizes b es))
@@ -113,12 +117,13 @@ abbrev pub first_of : {X : Type 0} → Option X → Option X → Option X
 first_of None o = o
 first_of (Some x) o = Some x
 
--- the object of a name that holds a place, where its value lies in the buffer: the name is that of an open message, of a
--- version, or of a gone message
-abbrev pub object_of : State → OpName → OpName → Option Range
-object_of S n v =
+-- the object of a name that holds a place of a bank, where its value lies in the buffer: the name is that of an open
+-- message, of one of the bank's versions, or of a gone message
+abbrev pub object_of : Sizes → State → ℕ → OpName → OpName → Option Range
+object_of sizes S b n v =
     first_of (option_and_then (opening_object n) (get S.mail.opens v))
-    (first_of (option_and_then (version_object n) (get S.versions v)) (option_and_then (gone_object n) (get S.mail.gones v)))
+    (first_of (option_and_then (version_object n) (get (bank_versions sizes b S.versions) v))
+    (option_and_then (gone_object n) (get S.mail.gones v)))
 
 -- the first that is there for some names
 abbrev pub first_for : {X : Type 0} → (OpName → Option X) → List OpName → Option X
@@ -126,9 +131,10 @@ first_for f [] = None
 first_for f (v ∷ vs) = first_of (f v) (first_for f vs)
 
 -- the object whose value lies in a buffer of a bank: that of the bank's copy, or of a name that holds a place there
-abbrev pub buffer_object : State → ℕ → OpName → Option Range
-buffer_object S b n =
-    first_of (option_and_then (copy_object n) (get S.copies b)) (first_for (object_of S n) (keys (bank_names b S.places)))
+abbrev pub buffer_object : Sizes → State → ℕ → OpName → Option Range
+buffer_object sizes S b n =
+    first_of (option_and_then (copy_object n) (get S.copies b))
+    (first_for (object_of sizes S b n) (keys (bank_names b S.places)))
 
 -- as many bytes as the object has
 abbrev pub object_bytes : Option Range → List ℕ → List ℕ
@@ -136,12 +142,12 @@ object_bytes None bytes = bytes
 object_bytes (Some object) bytes = take object.len bytes
 
 -- a buffer of a bank
-abbrev pub buffer_text : State → ℕ → OpName → List ℕ
-buffer_text S b n = buffer_line b n (option_map (object_bytes (buffer_object S b n)) (get S.contents n))
+abbrev pub buffer_text : Sizes → State → ℕ → OpName → List ℕ
+buffer_text sizes S b n = buffer_line b n (option_map (object_bytes (buffer_object sizes S b n)) (get S.contents n))
 
 -- the buffers of a bank, by name
-abbrev pub buffers_text : State → ℕ → List ℕ
-buffers_text S b = flat_map (buffer_text S b) (keys (bank_names b S.buffers))
+abbrev pub buffers_text : Sizes → State → ℕ → List ℕ
+buffers_text sizes S b = flat_map (buffer_text sizes S b) (keys (bank_names b S.buffers))
 
 -- a bank that copies
 abbrev pub copy_text : Numbered CopyState → ℕ → List ℕ
@@ -169,7 +175,7 @@ part_text before m S part.Queue = flat_map queue_line S.queue
 part_text before m S part.Workers = flat_map (λ w. worker_text w (get S.workers w)) (all_workers m)
 part_text before m S part.Entries = flat_map (entries_text m.sizes S.entries) (all_banks m)
 part_text before m S part.Places = flat_map (places_text S.places) (all_banks m)
-part_text before m S part.Buffers = flat_map (buffers_text S) (all_banks m)
+part_text before m S part.Buffers = flat_map (buffers_text m.sizes S) (all_banks m)
 part_text before m S part.Versions = flat_map (λ e. version_line e.0 e.1) (entries S.versions)
 part_text before m S part.Messages = flat_map (λ name. text_if message_line (message_at S.mail name)) (message_names S.mail)
 part_text before m S part.Copies = flat_map (copy_text S.copies) (all_banks m)

@@ -5,7 +5,7 @@ ghost use Rattle.tss_report.specs.Pieces.{Emits};
 ghost use Rattle.tss_state_lines.specs.Lines.{buffer_line, copy_line, entry_line, place_line, version_line};
 ghost use Rattle.tss_state_lines.specs.Shown.{version_of};
 
-use crate::hex::put_hex_line;
+use crate::bytes::put_hex_line;
 use crate::line::put_line;
 use crate::marks::{
     final_word, followed_word, how_word, optional_name, optional_number, optional_storage,

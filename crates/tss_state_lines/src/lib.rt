@@ -4,7 +4,8 @@
 #![tactic(auto)]
 
 mod bank_lines;
-mod hex;
+mod bytes;
+
 mod line;
 mod main_lines;
 mod marks;

@@ -4,7 +4,7 @@ ghost use Rattle.tss_report.specs.Pieces.{Emits};
 ghost use Rattle.tss_state_lines.specs.Words.{line, register_words, spaced};
 ghost use Rattle.tss_state_lines.specs.Lines.{enabled_line, epoch_line, main_line, main_registers_line, piece_line, trap_line};
 
-use crate::hex::put_hex_line;
+use crate::bytes::put_hex_line;
 use crate::line::{put_line, put_words};
 use crate::marks::ended_word;
 use crate::word::Word;

@@ -12,7 +12,7 @@ use tss_report::hex_word;
 const WORD_BYTES: usize = 32;
 
 /// A word of a line, of at most 32 bytes. A contract sees its bytes.
-#[derive(Clone, Copy, Debug)]
+#[derive(Drop)]
 pub(crate) struct Word {
     bytes: [u8; WORD_BYTES],
     len: usize,

@@ -4,7 +4,7 @@ ghost use Rattle.tss_report.specs.Pieces.{Emits};
 ghost use Rattle.tss_state_lines.specs.Lines.{idle_line, running_word, worker_line, worker_registers_line};
 ghost use Rattle.tss_state_lines.specs.StateText.{scratch_row};
 
-use crate::hex::put_hex_line;
+use crate::bytes::put_hex_line;
 use crate::line::put_line;
 use crate::main_lines::put_registers;
 use crate::word::Word;
