@@ -1,5 +1,5 @@
 // The lines of main and of what is there once: the held trap, and how many events may happen.
-ghost use Rattle.std.specs.Prelude.{◌≡◌, ◌+◌, ◌≤◌, ◌∷◌};
+ghost use Rattle.std.specs.Prelude.{◌≡◌, ◌∷◌, codes};
 ghost use Rattle.tss_report.specs.Pieces.{Emits};
 ghost use Rattle.tss_state_lines.specs.Words.{line, register_words, spaced};
 ghost use Rattle.tss_state_lines.specs.Lines.{enabled_line, epoch_line, main_line, main_registers_line, piece_line, trap_line};

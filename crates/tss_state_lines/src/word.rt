@@ -40,15 +40,14 @@ impl Word {
         }
     }
 
-    /// With these bytes behind its own.
-    fn then(mut self, bytes: &[u8]) -> Word
-        requires { length self + length bytes.now ≤ 32 }
-        ensures { result ≡ self ++ bytes.now }
+    /// Puts bytes behind its own.
+    fn push(&mut self, bytes: &[u8])
+        requires { length self.old + length bytes.now ≤ 32 }
+        ensures { self.new ≡ self.old ++ bytes.now }
     {
         let end = self.len + bytes.len();
         self.bytes[self.len..end].copy_from_slice(bytes);
         self.len = end;
-        self
     }
 
     /// These bytes.
@@ -56,7 +55,9 @@ impl Word {
         requires { length bytes.now ≤ 32 }
         ensures { result ≡ bytes.now }
     {
-        Word::empty().then(bytes)
+        let mut word = Word::empty();
+        word.push(bytes);
+        word
     }
 
     /// A number in decimal digits.
@@ -81,9 +82,10 @@ impl Word {
     {
         let mut task = Buffer::new();
         let mut place = Buffer::new();
-        Word::of(task.format(o.task).as_bytes())
-            .then(b".")
-            .then(place.format(o.place).as_bytes())
+        let mut word = Word::of(task.format(o.task).as_bytes());
+        word.push(b".");
+        word.push(place.format(o.place).as_bytes());
+        word
     }
 
     /// A word with its space, and a name.
@@ -91,7 +93,9 @@ impl Word {
         requires { length kind.now ≤ 8 }
         ensures { result ≡ kind.now ++ name_text o }
     {
-        Word::of(kind).then(Word::name(o).bytes())
+        let mut word = Word::of(kind);
+        word.push(Word::name(o).bytes());
+        word
     }
 
     /// Its bytes.
