@@ -1,5 +1,6 @@
 // The lines of workers.
-ghost use Rattle.std.specs.Prelude.{◌≡◌, ◌≤◌, length};
+ghost use Rattle.std.specs.Prelude.{◌≡◌, ◌==◌};
+ghost use Rattle.std.specs.List.{list_all};
 ghost use Rattle.tss_report.specs.Pieces.{Emits};
 ghost use Rattle.tss_state_lines.specs.Lines.{idle_line, running_word, worker_line, worker_registers_line};
 ghost use Rattle.tss_state_lines.specs.StateText.{scratch_row};
@@ -71,6 +72,13 @@ pub fn put_worker_registers<K: Sink>(
     put_registers(to, Word::number(u64::from(w)), regs)
 }
 
+/// Whether each byte is 0.
+fn are_zeros(bytes: &[u8]) -> bool
+    ensures { result ≡ list_all (λ b. b == 0) bytes.now }
+{
+    bytes.iter().all(|byte| *byte == 0)
+}
+
 /// Puts the line of a row of a worker's scratch, where a byte of it isn't 0.
 pub fn put_scratch_row<K: Sink>(
     to: &mut PieceWriter<'_, K>,
@@ -80,7 +88,7 @@ pub fn put_scratch_row<K: Sink>(
 ) -> Result<(), Failed>
     ensures { Emits K.Sink to.old to.new result (scratch_row w at bytes.now) }
 {
-    if bytes.iter().all(|byte| *byte == 0) {
+    if are_zeros(bytes) {
         return Ok(());
     }
     put_hex_line(

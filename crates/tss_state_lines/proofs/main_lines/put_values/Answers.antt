@@ -9,7 +9,7 @@ use Rattle.tss_state_lines.proofs.WordLemmas.{registers_spaced}
 use Rattle.tss_state_lines.proofs.main_lines.put_values.Goals as goal
 
 -- a register's word after its space
-register_word : Registers → ℕ → List ℕ
+abbrev register_word : Registers → ℕ → List ℕ
 register_word r n = codes " " ++ hex_word (register_at r n)
 
 pub loop-n-init : goal.loop-n-init

@@ -14,4 +14,4 @@ returns g c =
       ∷ c.hex.ensures i
       ∷ len i
       ∷ c.mode_word.ensures i
-      ∷ (c.source_words.ensures i ++ c.link_word.ensures i ∷ c.farewell_word.ensures i ∷ []))) c.put_line.ensures
+      ∷ (c.source_words-version.ensures i ++ c.link_word.ensures i ∷ c.farewell_word.ensures i ∷ []))) c.put_line.ensures
