@@ -5,10 +5,10 @@ use Rattle.std.specs.FinMap.{FinMap, get, empty, get-empty}
 use Rattle.std.specs.declared.cmp.Ordering.{Ordering}
 use Rattle.std.proofs.lemmas.Option.{none-some}
 use Rattle.tss_base.specs.declared.machine.Machine.{Machine}
-use Rattle.tss_maps.specs.Ordered.{key_at}
+use Rattle.tss_maps.specs.Ordered.{key_at, least_above}
 use Rattle.tss_maps.proofs.Keys.{IsKeyOrder, nat_order, name_order, decide_key}
 use Rattle.tss_maps.proofs.Changes.{decide_get, same_by_get}
-use Rattle.tss_maps.proofs.OrderedLemmas.{key_there}
+use Rattle.tss_maps.proofs.OrderedLemmas.{key_there, least_above_some}
 use Rattle.tss_banks.specs.Joined.{bank, joined, AreApart}
 use Rattle.tss_banks.specs.Collected.{collected}
 use Rattle.tss_banks.specs.Tables.{AreBankTables, no_tables, tables_at, entries_of, places_of, buffers_of, joined_tables}
@@ -132,3 +132,13 @@ module _ {K : Type 0} {R : K → K → Ordering} (order : IsKeyOrder R) (X : Typ
 
   pub no_key : key_at (empty {X = X} {R = R}) i ≡ None
   no_key = key_by (key_at (empty {X = X} {R = R}) i) refl
+
+module _ {K : Type 0} {R : K → K → Ordering} (order : IsKeyOrder R) (X : Type 0) (k : K) where
+  least_by : (o : Option K) → least_above R (empty {X = X} {R = R}) k ≡ o → o ≡ None
+  least_by None e = refl
+  least_by (Some q) e =
+      let t = (least_above_some order (empty {X = X} {R = R}) k q e).there in
+      absurd (none-some t.0 (sym (get-empty R q) ∙ t.1))
+
+  pub no_least : least_above R (empty {X = X} {R = R}) k ≡ None
+  no_least = least_by (least_above R (empty {X = X} {R = R}) k) refl

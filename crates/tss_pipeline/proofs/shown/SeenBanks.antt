@@ -2,16 +2,16 @@
 use Rattle.std.proofs.Common.{◌≡◌, ◌≢◌, ℕ, zero, suc, ◌+◌, List, [], ◌∷◌, Option, Some, None, option_map, is_some, refl, sym, ap, ◌∙◌, arith}
 use Rattle.std.specs.Prelude.{slice_get, option_and_then}
 use Rattle.std.specs.Ordering.{nat_cmp}
-use Rattle.std.specs.FinMap.{get, empty, get-empty}
+use Rattle.std.specs.FinMap.{get, empty, len, get-empty, len-empty}
 use Rattle.std.proofs.lemmas.Option.{none-some, same_Some, slice_get_within}
 use Rattle.tss_base.specs.declared.operand.OpName.{OpName}
 use Rattle.tss_base.specs.declared.range.Range.{Range}
 use Rattle.tss_base.specs.declared.machine.Sizes.{Sizes}
 use Rattle.tss_base.specs.Names.{Named, name_cmp}
-use Rattle.tss_maps.specs.Ordered.{key_at}
+use Rattle.tss_maps.specs.Ordered.{key_at, least_above}
 use Rattle.tss_maps.proofs.Keys.{nat_order, name_order}
 use Rattle.tss_maps.proofs.OrderedLemmas.{key_there}
-use Rattle.tss_maps.proofs.MappedLemmas.{get-mapped}
+use Rattle.tss_maps.proofs.MappedLemmas.{get-mapped, len-mapped}
 use Rattle.tss_banks.proofs.CollectedLemmas.{beside_with}
 use Rattle.tss_protocol.specs.State.{Entry, Version, CopyState}
 use Rattle.tss_renaming.specs.Bank.{RenamingState, buffer_under}
@@ -29,8 +29,8 @@ use Rattle.tss_pipeline.specs.BankParts.{job_told, copy_told, value_at, contents
 use Rattle.tss_pipeline.specs.Fit.{IsFit, IsEngaged}
 use Rattle.tss_pipeline.proofs.places.BankChanges.{get-copies_from}
 use Rattle.tss_pipeline.proofs.worker_rows.BufferSeats.{contents_there}
-use Rattle.tss_pipeline.proofs.shown.ReaderLemmas.{key_at-mapped}
-use Rattle.tss_pipeline.proofs.shown.BankPartLemmas.{entries_there, places_there, buffers_there, versions_there, no_entries, no_places, no_buffers, no_versions, no_key}
+use Rattle.tss_pipeline.proofs.shown.ReaderLemmas.{key_at-mapped, least_above-mapped}
+use Rattle.tss_pipeline.proofs.shown.BankPartLemmas.{entries_there, places_there, buffers_there, versions_there, no_entries, no_places, no_buffers, no_versions, no_key, no_least}
 
 -- ---- names and versions
 
@@ -111,6 +111,13 @@ copied_by x None (Some j) h = absurd h
 copied_by x (Some c) None h = absurd h
 copied_by x (Some c) (Some j) h = ap (λ (r : Range). Some (j.version, r)) h.object
 
+pub copied_from : (x : RenamingState) (c : Option Copying) (j : Option Job) → IsEngaged x c j
+    → option_map (λ (j : Job). j.buffer) j ≡ option_map (λ (c : CopyState). c.buffer) (job_copy c j)
+copied_from x None None h = refl
+copied_from x None (Some j) h = absurd h
+copied_from x (Some c) None h = absurd h
+copied_from x (Some c) (Some j) h = refl
+
 -- the buffer of a copy is held
 pub buffer_of_job : (x : RenamingState) (c : Option Copying) (j : Option Job) (i : Job) → j ≡ Some i → IsEngaged x c j
     → get x.buffers i.buffer ≡ None → ⊥
@@ -157,6 +164,23 @@ module _ (u : Units) (fit : IsFit u) (p : PipelineState) (is : seen_of u ≡ p) 
         sym (entries_there u.machine u.banks.items fit.placed.tables fit.placed.versions n b here)
         ∙ ap (λ (p : PipelineState). entries_at p.machine.sizes n p.state.entries) is
 
+    pub seen_entry_count : len b.renaming.entries ≡ len (entries_at p.machine.sizes n p.state.entries)
+    seen_entry_count = ap len seen_entries
+
+    pub seen_place_count : len b.renaming.places ≡ len (names_at n p.state.places)
+    seen_place_count =
+        sym (len-mapped (λ p. b.renaming.bank) b.renaming.places)
+        ∙ ap len
+        (sym (places_there u.machine u.banks.items fit.placed.tables fit.placed.versions n b here)
+        ∙ ap (λ (p : PipelineState). names_at n p.state.places) is)
+
+    pub seen_buffer_count : len b.renaming.buffers ≡ len (names_at n p.state.buffers)
+    seen_buffer_count =
+        sym (len-mapped (λ p. b.renaming.bank) b.renaming.buffers)
+        ∙ ap len
+        (sym (buffers_there u.machine u.banks.items fit.placed.tables fit.placed.versions n b here)
+        ∙ ap (λ (p : PipelineState). names_at n p.state.buffers) is)
+
     pub seen_places : (i : ℕ) → key_at b.renaming.places i ≡ key_at (names_at n p.state.places) i
     seen_places i =
         sym (key_at-mapped (λ p. b.renaming.bank) b.renaming.places i)
@@ -175,6 +199,15 @@ module _ (u : Units) (fit : IsFit u) (p : PipelineState) (is : seen_of u ≡ p) 
     seen_versions =
         sym (versions_there u.machine u.banks.items fit.placed.tables fit.placed.versions n b here)
         ∙ ap (λ (p : PipelineState). versions_at p.machine.sizes n p.state.versions) is
+
+    pub seen_version_count : len b.versions.versions ≡ len (versions_at p.machine.sizes n p.state.versions)
+    seen_version_count = sym (len-mapped version_of b.versions.versions) ∙ ap len seen_versions
+
+    pub seen_version_after : (v : OpName) → least_above name_cmp b.versions.versions v
+        ≡ least_above name_cmp (versions_at p.machine.sizes n p.state.versions) v
+    seen_version_after v =
+        sym (least_above-mapped version_of b.versions.versions v)
+        ∙ ap (λ m. least_above name_cmp m v) seen_versions
 
     held_under : (name : OpName) (o : Option ℕ) → get b.renaming.buffers name ≡ o
         → get (names_at n (state_of u).buffers) name ≡ option_map (λ p. b.renaming.bank) o
@@ -228,6 +261,12 @@ module _ (u : Units) (fit : IsFit u) (p : PipelineState) (is : seen_of u ≡ p) 
         copied_by b.renaming b.engine b.job (fit.placed.own n b here).engine
         ∙ ap (option_map copy_told) seen_copy
 
+    pub seen_copied_from : option_map (λ (j : Job). j.buffer) b.job
+        ≡ option_map (λ (c : CopyState). c.buffer) (get p.state.copies n)
+    seen_copied_from =
+        copied_from b.renaming b.engine b.job (fit.placed.own n b here).engine
+        ∙ ap (option_map (λ (c : CopyState). c.buffer)) seen_copy
+
   -- of one that isn't
   module _ (read : None ≡ slice_get bs n) where
     nowhere : slice_get u.banks.items n ≡ None
@@ -242,6 +281,28 @@ module _ (u : Units) (fit : IsFit u) (p : PipelineState) (is : seen_of u ≡ p) 
     no_versions_seen =
         ap (λ (p : PipelineState). versions_at p.machine.sizes n p.state.versions) (sym is)
         ∙ no_versions u.machine u.banks.items fit.placed.tables fit.placed.versions n nowhere
+
+    no_places_seen : names_at n p.state.places ≡ empty
+    no_places_seen =
+        ap (λ (p : PipelineState). names_at n p.state.places) (sym is)
+        ∙ no_places u.machine u.banks.items fit.placed.tables fit.placed.versions n nowhere
+
+    no_buffers_seen : names_at n p.state.buffers ≡ empty
+    no_buffers_seen =
+        ap (λ (p : PipelineState). names_at n p.state.buffers) (sym is)
+        ∙ no_buffers u.machine u.banks.items fit.placed.tables fit.placed.versions n nowhere
+
+    pub seen_zero_entries : 0 ≡ len (entries_at p.machine.sizes n p.state.entries)
+    seen_zero_entries = sym (ap len no_entries_seen ∙ len-empty nat_cmp Entry)
+
+    pub seen_zero_places : 0 ≡ len (names_at n p.state.places)
+    seen_zero_places = sym (ap len no_places_seen ∙ len-empty name_cmp ℕ)
+
+    pub seen_zero_buffers : 0 ≡ len (names_at n p.state.buffers)
+    seen_zero_buffers = sym (ap len no_buffers_seen ∙ len-empty name_cmp ℕ)
+
+    pub seen_zero_versions : 0 ≡ len (versions_at p.machine.sizes n p.state.versions)
+    seen_zero_versions = sym (ap len no_versions_seen ∙ len-empty name_cmp Version)
 
     pub seen_no_entry : (base : ℕ) → None ≡ get (entries_at p.machine.sizes n p.state.entries) base
     seen_no_entry base = sym (ap (λ m. get m base) no_entries_seen ∙ get-empty nat_cmp base)
@@ -281,3 +342,7 @@ module _ (u : Units) (fit : IsFit u) (p : PipelineState) (is : seen_of u ≡ p) 
 
     pub seen_no_copy : None ≡ get p.state.copies n
     seen_no_copy = sym (copy_seen ∙ no_copy 0 u.banks.items n nowhere)
+
+    pub seen_no_version_after : (v : OpName)
+        → None ≡ least_above name_cmp (versions_at p.machine.sizes n p.state.versions) v
+    seen_no_version_after v = sym (ap (λ m. least_above name_cmp m v) no_versions_seen ∙ no_least name_order Version v)
