@@ -51,7 +51,7 @@ scratch_row_at w scratch k = scratch_row w (scratch_range.base + row_len * k) (t
 
 -- the rows of a worker's scratch in order
 abbrev pub scratch_text : ℕ → List ℕ → List ℕ
-scratch_text w scratch = flat_map (scratch_row_at w scratch) (range_with_len 0 (scratch_range.len / row_len))
+scratch_text w scratch = flat_map (scratch_row_at w scratch) (range_with_len 0 (length scratch / row_len))
 
 -- a busy worker: how it stands, its registers, and its scratch
 abbrev pub busy_text : ℕ → Busy → List ℕ

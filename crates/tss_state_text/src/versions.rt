@@ -21,7 +21,10 @@ fn next_in(p: &Pipeline, bank: u32, last: Option<OpName>) -> Option<VersionView>
 {
     match last {
         None => p.version_at(bank, 0),
-        Some(last) => p.version(bank, p.version_after(bank, last)?),
+        Some(last) => match p.version_after(bank, last) {
+            Some(v) => p.version(bank, v),
+            None => None,
+        },
     }
 }
 
@@ -40,6 +43,7 @@ fn earlier(a: Option<VersionView>, b: Option<VersionView>) -> Option<VersionView
 fn next_version(p: &Pipeline, last: Option<OpName>) -> Option<VersionView>
     ensures { option_map shown result ≡ next_entry p.now.state.versions last }
 {
+    p.reached();
     let mut first = None;
     for bank in 0..p.machine().sizes.banks {
         first = earlier(first, next_in(p, bank, last));
