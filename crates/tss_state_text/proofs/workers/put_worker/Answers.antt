@@ -19,11 +19,10 @@ returns-in_err-put_busy g c =
     let b = t.0 in
     let regs = part_there (λ (b : Busy). b.registers) o b c.regs.result.now t.1 c.regs.ensures in
     let trapped = c.is_some.ensures ∙ ap (λ (p : ℕ × Option Trap). is_some p.1) (sym t.2) in
-    let first = λ i. worker_line w (sym t.2 i).0 (sym regs i) (trapped i) in
     same_text (sym (ap (worker_text w) t.1))
     (first_failed (worker_line w b.task.number b.registers (is_some b.trap))
     (worker_registers_line w b.registers ++ scratch_text w b.scratch)
-    (same_text first c.in_err-put_busy.ensures) c.from_residual.ensures.0)
+    (same_text (λ i. worker_line w (sym t.2 i).0 (sym regs i) (trapped i)) c.in_err-put_busy.ensures) c.from_residual.ensures.0)
 
 pub returns-in_err-put_worker_registers : goal.returns-in_err-put_worker_registers
 returns-in_err-put_worker_registers g c =
@@ -33,13 +32,12 @@ returns-in_err-put_worker_registers g c =
     let b = t.0 in
     let regs = part_there (λ (b : Busy). b.registers) o b c.regs.result.now t.1 c.regs.ensures in
     let trapped = c.is_some.ensures ∙ ap (λ (p : ℕ × Option Trap). is_some p.1) (sym t.2) in
-    let first = λ i. worker_line w (sym t.2 i).0 (sym regs i) (trapped i) in
     let again = part_there (λ (b : Busy). b.registers) o b c.regs-2.result.now t.1 c.regs-2.ensures in
     let second = ap (worker_registers_line w) (sym again) in
     same_text (sym (ap (worker_text w) t.1))
     (then_put (worker_line w b.task.number b.registers (is_some b.trap))
     (worker_registers_line w b.registers ++ scratch_text w b.scratch)
-    (same_text first c.in_ok-put_busy.ensures)
+    (same_text (λ i. worker_line w (sym t.2 i).0 (sym regs i) (trapped i)) c.in_ok-put_busy.ensures)
     (first_failed (worker_registers_line w b.registers) (scratch_text w b.scratch)
     (same_text second c.in_err-put_worker_registers.ensures) c.from_residual-in_err-put_worker_registers.ensures.0))
 
@@ -51,14 +49,13 @@ returns g c =
     let b = t.0 in
     let regs = part_there (λ (b : Busy). b.registers) o b c.regs.result.now t.1 c.regs.ensures in
     let trapped = c.is_some.ensures ∙ ap (λ (p : ℕ × Option Trap). is_some p.1) (sym t.2) in
-    let first = λ i. worker_line w (sym t.2 i).0 (sym regs i) (trapped i) in
     let again = part_there (λ (b : Busy). b.registers) o b c.regs-2.result.now t.1 c.regs-2.ensures in
     let second = ap (worker_registers_line w) (sym again) in
     let scratch = part_there (λ (b : Busy). b.scratch) o b c.scratch.result.now t.1 c.scratch.ensures.exact in
     same_text (sym (ap (worker_text w) t.1))
     (then_put (worker_line w b.task.number b.registers (is_some b.trap))
     (worker_registers_line w b.registers ++ scratch_text w b.scratch)
-    (same_text first c.in_ok-put_busy.ensures)
+    (same_text (λ i. worker_line w (sym t.2 i).0 (sym regs i) (trapped i)) c.in_ok-put_busy.ensures)
     (then_put (worker_registers_line w b.registers) (scratch_text w b.scratch)
     (same_text second c.in_ok-put_worker_registers.ensures)
     (same_text (ap (scratch_text w) (sym scratch)) c.put_scratch.ensures)))
