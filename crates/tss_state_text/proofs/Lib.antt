@@ -1,0 +1,10 @@
+mod ItemLemmas
+mod BankLemmas
+mod TaskLemmas
+mod NextEntries
+mod EarlierVersions
+mod VersionLines
+mod ShownTexts
+mod FirstObjects
+mod BankVersions
+mod WorkerLemmas
