@@ -1,10 +1,10 @@
 -- Outcomes that are due, over files at three moments one after another.
-use Rattle.std.proofs.Common.{◌≡◌, inl, inr, ℕ, ◌≤◌, List, [], ◌++◌, Option, Some, None, IfSome, unwrap_or, Result, Ok, Err, refl, sym, ap, ◌∙◌, subst, arith}
+use Rattle.std.proofs.Common.{◌≡◌, inl, inr, ℕ, ◌≤◌, List, [], ◌++◌, Option, Some, None, unwrap_or, Result, Ok, Err, refl, sym, ap, ◌∙◌, subst, arith}
 use Rattle.std.proofs.lemmas.List.{append-nil}
 use Rattle.tss_outside.specs.Outside.{Held, risen, IsPrefix, AppendsTo, HoldsPrefix, PutsPrefixTo}
 use Rattle.tss_run.specs.declared.outcome.Refusal.{Refusal}
 use Rattle.tss_run.specs.declared.outcome.Refusal.TheVariants as refusal
-use Rattle.tss_run.specs.Outcomes.{FilesSeen, FailedToRead, FailedToAppend, OnlyReads, FailedToAdd, AppendsAll, AppendsPart, AppendsPartTo, IsDone, IsOutcomeOf}
+use Rattle.tss_run.specs.Outcomes.{FilesSeen, FailedToRead, FailedToAppend, OnlyReads, FailedToAdd, AppendsAll, AppendsPart, AppendsPartTo, IsOutcomeOf}
 use Rattle.tss_run.specs.Reading.{Reading, ComesTo}
 use Rattle.tss_run.specs.Work.{Deed, Outcome}
 use Rattle.tss_run.proofs.ReadingLemmas.{weaker}
