@@ -32,7 +32,7 @@ image() {
     printf "$2" | dd of="$1" bs=1 seek=116 conv=notrunc 2>/dev/null
 }
 
-usage='usage: inorder IMAGE MACHINE'
+usage='usage: inorder IMAGE MACHINE | migrate FILE NEW'
 exit7=$here/exit7.elf
 
 answers "exit" 0 "end exit 7" inorder "$exit7" "$machine"
@@ -52,7 +52,8 @@ answers "a text as an image" 3 "image 2" inorder "$machine" "$machine"
 answers "an empty image" 3 "image 1" inorder empty "$machine"
 answers "an image as a machine" 4 "machine 1" inorder "$exit7" "$exit7"
 answers "an empty machine" 4 "machine 2 main_budget" inorder "$exit7" empty
-echo "5: no form of the program reads a schedule yet"
+printf 'tss-log 2\nmain\n' >new-log
+answers "a log of the present format" 5 "schedule bad-line 1" migrate new-log newer-log
 
 answers "no words" 6 "$usage"
 answers "an unknown word" 6 "$usage" in-order "$exit7" "$machine"

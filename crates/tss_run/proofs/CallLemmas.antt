@@ -1,73 +1,151 @@
 -- From an outcome that is due, and its text written or cut short, to what is claimed of a call.
-use Rattle.std.proofs.Common.{◌≡◌, ◌⊎◌, inl, inr, ℕ, Option, Some, None, IfSome, All, List, Ok, Err, sym, ap, ◌∙◌, subst, arith}
+use Rattle.std.proofs.Common.{◌≡◌, ◌≢◌, ◌⊎◌, inl, inr, ℕ, ◌<◌, ◌≤◌, [], Option, Some, None, IfSome, unwrap_or, All, Result, Ok, Err, refl, sym, ap, ◌∙◌, subst, arith}
+use Rattle.std.proofs.lemmas.List.{append-nil}
 use Rattle.tss_base.specs.declared.ending.Ending.{Ending}
 use Rattle.tss_base.specs.declared.ending.Ending.TheVariants as ending
-use Rattle.tss_outside.specs.Outside.{Held, PutsPrefix}
+use Rattle.tss_outside.specs.Outside.{Held, AppendsTo}
+use Rattle.tss_run.specs.declared.outcome.Refusal.{Refusal}
 use Rattle.tss_run.specs.declared.outcome.Refusal.TheVariants as refusal
+use Rattle.tss_run.specs.declared.outcome.Report.{Report}
 use Rattle.tss_run.specs.declared.outcome.Report.TheVariants as report
 use Rattle.tss_run.specs.Words.{Command, command_of}
-use Rattle.tss_run.specs.Work.{Outcome, work_of, outcome_on, names_read, IsDueTo}
-use Rattle.tss_run.specs.Answer.{ending_status, status_of, text_of}
-use Rattle.tss_run.specs.Call.{Call, FailedToRead, FailedToWrite, IsOutcome, Tells, IsAnswered, IsCutShort, HasNoFault, IsComplete}
-use Rattle.tss_run.proofs.WorkLemmas.{follows}
+use Rattle.tss_run.specs.Reading.{Reading, found_on, names_read, ComesTo}
+use Rattle.tss_run.specs.Work.{Addition, Deed, Outcome, work_of, outcome_of, appended_by}
+use Rattle.tss_run.specs.Answer.{ending_status, report_status, refusal_status, status_of}
+use Rattle.tss_run.specs.Outcomes.{FilesSeen, FailedToRead, FailedToAdd, KeepsFiles, AppendsAll, AppendsPart, AppendsPartTo, IsDueTo}
+use Rattle.tss_run.specs.Call.{Call, Tells, found_by, expected_by, IsComplete, AppendsExpected, AppendsPartly, ChangesNoFile, IsAnswered, TellsAll}
+use Rattle.tss_run.proofs.ReadingLemmas.{follows, is_found}
 
--- no outcome has the status of a failed write
-no_ending : (e : Ending) → ending_status e ≡ 8 → ⊥
-no_ending (ending.Exit s) e = omega (arith, e)
-no_ending (ending.MainTrap t) e = omega (arith, e)
-no_ending (ending.TaskTrap n t) e = omega (arith, e)
-no_ending (ending.Refused n pc) e = omega (arith, e)
+some_same : {X : Type 0} {x y : X} → Some x ≡ Some y → x ≡ y
+some_same e = cc
 
-no_outcome : (o : Outcome) → status_of o ≡ 8 → ⊥
-no_outcome (Ok (report.InOrder run)) e = no_ending run.reference.ending e
-no_outcome (Err refusal.Usage) e = omega (arith, e)
-no_outcome (Err (refusal.ReadFault which)) e = omega (arith, e)
-no_outcome (Err (refusal.TooLong which)) e = omega (arith, e)
-no_outcome (Err (refusal.Machine bad)) e = omega (arith, e)
-no_outcome (Err (refusal.Image n)) e = omega (arith, e)
-no_outcome (Err refusal.NoMemory) e = omega (arith, e)
+-- where something is told
+if_told : {X : Type 0} (x : Option X) (P : X → Type 0) → ((h : X) → x ≡ Some h → P h) → IfSome x P
+if_told None P f = tt
+if_told (Some h) P f = f h refl
 
--- an outcome that is due to a command, over what is held and with no fault, is that of what is held, or memory ran out
-due_is : (held : Held) (failed : List ℕ → Type 0) (command : Command) (o a : Outcome) → outcome_on held (work_of command) ≡ Some o →
-    All (λ n. failed n → ⊥) (names_read held (work_of command)) → IsDueTo (Some command) (Some held) failed a → (a ≡ o) ⊎ (a ≡ Err refusal.NoMemory)
-due_is held failed command o a is none due = elim due [
-  | inl ran_out ↦ inr ran_out
-  | inr comes ↦ inl (follows held failed (work_of command) o is none a comes)
-]
+-- ---- statuses
 
-module _ (c : Call) (a : Outcome) where
-  pub told-answered : IsOutcome c a → Tells c a → IsAnswered c
-  told-answered due tells = λ _. (a, due, tells)
+ending_below : (e : Ending) → ending_status e < 3
+ending_below (ending.Exit s) = omega arith
+ending_below (ending.MainTrap t) = omega arith
+ending_below (ending.TaskTrap n t) = omega arith
+ending_below (ending.Refused n pc) = omega arith
 
-  pub told-cut_short : Tells c a → IsCutShort c
-  told-cut_short tells = λ e. absurd (no_outcome a (sym tells.0 ∙ e))
+-- a report's status is below those of refusals
+report_below : (r : Report) → report_status r < 3
+report_below (report.InOrder run) = ending_below run.reference.ending
+report_below (report.Migrated lines) = omega arith
 
-  complete_over : (told : Option Held) → IsDueTo (command_of c.words) told (FailedToRead c) a → Tells c a →
-      IfSome told (λ held. (command : Command) (o : Outcome) → command_of c.words ≡ Some command
-      → outcome_on held (work_of command) ≡ Some o → HasNoFault c held command → Tells c o ⊎ (c.status ≡ 9))
-  complete_over None due tells = tt
-  complete_over (Some held) due tells =
-      λ command o named is none. elim (due_is held (FailedToRead c) command o a is none.read
-      (subst (λ k. IsDueTo k (Some held) (FailedToRead c) a) named due)) [
-        | inl e ↦ inl (subst (Tells c) e tells)
-        | inr e ↦ inr (tells.0 ∙ ap status_of e)
+refusal_above : (e : Refusal) → 3 ≤ refusal_status e
+refusal_above refusal.Usage = omega arith
+refusal_above (refusal.ReadFault which) = omega arith
+refusal_above (refusal.TooLong which) = omega arith
+refusal_above (refusal.Machine bad) = omega arith
+refusal_above (refusal.Image n) = omega arith
+refusal_above (refusal.BadLine n) = omega arith
+refusal_above refusal.WriteLog = omega arith
+refusal_above refusal.NoMemory = omega arith
+
+not_below : (s t : ℕ) → s ≡ t → 3 ≤ t → s < 3 → ⊥
+not_below s t e h k = omega (arith, e)
+
+not_above : (s t : ℕ) → s ≡ t → t < 3 → 3 ≤ s → ⊥
+not_above s t e h k = omega (arith, e)
+
+eight_above : (s : ℕ) → s ≡ 8 → s < 3 → ⊥
+eight_above s e h = omega (arith, e)
+
+-- ---- what is appended
+
+-- all of it is a part of it
+whole_part : (b a : FilesSeen) (x : Option Addition) → AppendsAll b a x → AppendsPart b a x
+whole_part b a None all = all
+whole_part b a (Some x) all = part a.held all
+  where
+    part : (after : Option Held) → AppendsTo b.held after x.name x.bytes → AppendsPartTo b.held after x.name x.bytes
+    part None h = tt
+    part (Some held) h = (h.0, h.1, (x.bytes, ([], sym (append-nil x.bytes)), ap (λ o. unwrap_or o []) h.2), h.3)
+
+-- and so is nothing
+none_part : (b a : FilesSeen) (x : Option Addition) → KeepsFiles b a → AppendsPart b a x
+none_part b a None kept = kept
+none_part b a (Some x) kept = if_told a.held _ (λ h is. (h, sym kept ∙ is, ([], (x.bytes, refl), sym (append-nil (unwrap_or (h x.name) []))), λ n apart. refl))
+
+-- what a deed appends is what is expected over what is held
+module _ (b a : FilesSeen) (held : Held) (is : b.held ≡ Some held) where
+  found_deed : (w : Reading Deed) (d : Deed) → ComesTo b.held (FailedToRead b a) w (Ok d) → found_on held w ≡ Some (Ok d)
+  found_deed w d comes = is_found held (FailedToRead b a) w d (subst (λ told. ComesTo told (FailedToRead b a) w (Ok d)) is comes)
+
+  expected : (k : Command) (d : Deed) → ComesTo b.held (FailedToRead b a) (work_of k) (Ok d) → d.appended ≡ expected_by (found_by held (Some k))
+  expected k d comes = ap expected_by (sym (found_deed (work_of k) d comes))
+
+  -- with the status of a report
+  all_appended : (k : Option Command) (o : Outcome) → IsDueTo k b a o → status_of o < 3 → AppendsAll b a (expected_by (found_by held k))
+  all_appended None o due low = due.1
+  all_appended (Some k) o (inl none) low = absurd (not_below _ _ (ap status_of none.1) (refusal_above none.0) low)
+  all_appended (Some k) o (inr (d, comes, inl done)) low = subst (AppendsAll b a) (expected k d comes) done.1
+  all_appended (Some k) o (inr (d, comes, inr fault)) low = absurd (not_below _ _ (ap status_of fault.0) (refusal_above refusal.WriteLog) low)
+
+  -- with any status
+  part_appended : (k : Option Command) (o : Outcome) → IsDueTo k b a o → AppendsPart b a (expected_by (found_by held k))
+  part_appended None o due = due.1
+  part_appended (Some k) o (inl none) = none_part b a _ none.3
+  part_appended (Some k) o (inr (d, comes, inl done)) = subst (AppendsPart b a) (expected k d comes) (whole_part b a d.appended done.1)
+  part_appended (Some k) o (inr (d, comes, inr fault)) = subst (AppendsPart b a) (expected k d comes) fault.2
+
+-- with the status of a refusal, but for that of a failed write
+none_appended : (b a : FilesSeen) (k : Option Command) (o : Outcome) → IsDueTo k b a o → 3 ≤ status_of o → status_of o ≢ 8 → KeepsFiles b a
+none_appended b a None o due high other = due.1
+none_appended b a (Some k) o (inl none) high other = none.3
+none_appended b a (Some k) o (inr (d, comes, inl done)) high other = absurd (not_above _ _ (ap status_of done.0) (report_below d.report) high)
+none_appended b a (Some k) o (inr (d, comes, inr fault)) high other = absurd (other (ap status_of fault.0))
+
+-- ---- completeness
+
+-- with no fault the outcome is that of what is found in what is held, or memory ran out
+module _ (b a : FilesSeen) (held : Held) (is : b.held ≡ Some held) (k : Command) (found : Result Deed Refusal) (there : found_on held (work_of k) ≡ Some found)
+    (reads : All (λ n. FailedToRead b a n → ⊥) (names_read held (work_of k))) (append : FailedToAdd b a (appended_by found) → ⊥) where
+  complete_refused : (o : Outcome) (e : Refusal) → o ≡ Err e → ComesTo (Some held) (FailedToRead b a) (work_of k) (Err e) → (o ≡ outcome_of found) ⊎ (o ≡ Err refusal.NoMemory)
+  complete_refused o e same (inl ran_out) = inr (same ∙ ap outcome_of ran_out)
+  complete_refused o e same (inr finds) = inl (same ∙ ap outcome_of (follows held (FailedToRead b a) (work_of k) found there reads (Err e) finds))
+
+  complete_outcome : (o : Outcome) → IsDueTo (Some k) b a o → (o ≡ outcome_of found) ⊎ (o ≡ Err refusal.NoMemory)
+  complete_outcome o (inl (e, same, comes, kept)) =
+      complete_refused o e same (subst (λ told. ComesTo told (FailedToRead b a) (work_of k) (Err e)) is comes)
+  complete_outcome o (inr (d, comes, done)) =
+      let found_is = some_same (sym (found_deed b a held is (work_of k) d comes) ∙ there) in
+      elim done [
+        | inl whole ↦ inl (whole.0 ∙ ap outcome_of found_is)
+        | inr fault ↦ absurd (append (subst (λ f. FailedToAdd b a (appended_by f)) found_is fault.1))
       ]
 
-  pub told-complete : IsOutcome c a → Tells c a → IsComplete c
-  told-complete due tells = complete_over c.before.held due tells
+-- ---- a call
 
-  pub failed-cut_short : IsOutcome c a → FailedToWrite c → PutsPrefix c.before.written c.after.written (text_of a) → IsCutShort c
-  failed-cut_short due fault part = λ _. (fault, (a, due, part))
+module _ (c : Call) (o : Outcome) (due : IsDueTo (command_of c.words) c.before.files c.after.files o) (tells : Tells c.before.sink c.after.sink c.status o) where
+  pub is_answered : IsAnswered c
+  is_answered = (o, due, tells)
 
-module _ (c : Call) where
-  pub failed-answered : c.status ≡ 8 → IsAnswered c
-  failed-answered e = λ other. absurd (other e)
+  pub is_complete : IsComplete c
+  is_complete = if_told c.before.files.held _ (λ held is k found named there none. elim tells [
+    | inl whole ↦ elim (complete_outcome c.before.files c.after.files held is k found there none.read none.append o (subst (λ k. IsDueTo k c.before.files c.after.files o) named due)) [
+      | inl same ↦ inl (subst (TellsAll c.before.sink c.after.sink c.status) same whole)
+      | inr ran_out ↦ inr (whole.0 ∙ ap status_of ran_out)
+    ]
+    | inr part ↦ absurd (none.write part.1)
+  ])
 
-  failed_over : (told : Option Held) → FailedToWrite c →
-      IfSome told (λ held. (command : Command) (o : Outcome) → command_of c.words ≡ Some command
-      → outcome_on held (work_of command) ≡ Some o → HasNoFault c held command → Tells c o ⊎ (c.status ≡ 9))
-  failed_over None fault = tt
-  failed_over (Some held) fault = λ command o named is none. absurd (none.write fault)
+  pub appends_expected : AppendsExpected c
+  appends_expected = if_told c.before.files.held _ (λ held is low. elim tells [
+    | inl whole ↦ all_appended c.before.files c.after.files held is (command_of c.words) o due (subst (λ s. s < 3) whole.0 low)
+    | inr part ↦ absurd (eight_above c.status part.0 low)
+  ])
 
-  pub failed-complete : FailedToWrite c → IsComplete c
-  failed-complete fault = failed_over c.before.held fault
+  pub appends_partly : AppendsPartly c
+  appends_partly = if_told c.before.files.held _ (λ held is low. part_appended c.before.files c.after.files held is (command_of c.words) o due)
+
+  pub changes_no_file : ChangesNoFile c
+  changes_no_file = λ high other. elim tells [
+    | inl whole ↦ none_appended c.before.files c.after.files (command_of c.words) o due (subst (λ s. 3 ≤ s) whole.0 high) (λ e. other (whole.0 ∙ e))
+    | inr part ↦ absurd (other part.0)
+  ]

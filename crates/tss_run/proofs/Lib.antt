@@ -1,2 +1,4 @@
-mod WorkLemmas
+mod ReadingLemmas
+mod AnswerLemmas
+mod OutcomeLemmas
 mod CallLemmas

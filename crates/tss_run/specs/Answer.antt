@@ -14,7 +14,7 @@ use Rattle.tss_run.specs.declared.outcome.Refusal.TheVariants as refusal
 use Rattle.tss_run.specs.declared.outcome.Run.{Run}
 use Rattle.tss_run.specs.declared.outcome.Report.{Report}
 use Rattle.tss_run.specs.declared.outcome.Report.TheVariants as report
-use Rattle.tss_run.specs.declared.statuses.TheConstants.{EXITED, TRAPPED, REFUSED, BAD_IMAGE, BAD_MACHINE, BAD_WORDS, READ_FAILED, NO_MEMORY}
+use Rattle.tss_run.specs.declared.statuses.TheConstants.{EXITED, TRAPPED, REFUSED, BAD_IMAGE, BAD_MACHINE, BAD_SCHEDULE, BAD_WORDS, READ_FAILED, WRITE_FAILED, NO_MEMORY}
 use Rattle.tss_run.specs.Work.{Outcome}
 
 -- ---- statuses
@@ -29,10 +29,13 @@ ending_status (ending.Refused n pc) = REFUSED
 -- the status of a report, and of a refusal
 abbrev pub report_status : Report → ℕ
 report_status (report.InOrder run) = ending_status run.reference.ending
+report_status (report.Migrated lines) = EXITED
 
 abbrev pub refusal_status : Refusal → ℕ
 refusal_status (refusal.Image n) = BAD_IMAGE
 refusal_status (refusal.Machine bad) = BAD_MACHINE
+refusal_status (refusal.BadLine n) = BAD_SCHEDULE
+refusal_status refusal.WriteLog = WRITE_FAILED
 refusal_status refusal.Usage = BAD_WORDS
 refusal_status (refusal.ReadFault which) = READ_FAILED
 refusal_status (refusal.TooLong which) = READ_FAILED
@@ -49,6 +52,7 @@ status_of (Err e) = refusal_status e
 abbrev pub input_name : Input → List ℕ
 input_name input.Machine = codes "machine"
 input_name input.Image = codes "image"
+input_name input.Schedule = codes "schedule"
 
 -- the line of a machine that is refused, by its check and the key that fails it
 abbrev pub machine_line : ℕ → Option (List ℕ) → List ℕ
@@ -57,20 +61,27 @@ machine_line n (Some key) = joined (codes "machine " ∷ decimal n ∷ codes " "
 
 -- the text of a refusal
 abbrev pub refusal_text : Refusal → List ℕ
-refusal_text refusal.Usage = codes "usage: inorder IMAGE MACHINE\n"
+refusal_text refusal.Usage = codes "usage: inorder IMAGE MACHINE | migrate FILE NEW\n"
 refusal_text (refusal.ReadFault which) = joined (codes "read " ∷ input_name which ∷ codes "\n" ∷ [])
 refusal_text (refusal.TooLong which) = joined (codes "long " ∷ input_name which ∷ codes "\n" ∷ [])
 refusal_text (refusal.Machine bad) = machine_line bad.number bad.key
 refusal_text (refusal.Image n) = joined (codes "image " ∷ decimal n ∷ codes "\n" ∷ [])
+refusal_text (refusal.BadLine n) = joined (codes "schedule bad-line " ∷ decimal n ∷ codes "\n" ∷ [])
+refusal_text refusal.WriteLog = codes "write log\n"
 refusal_text refusal.NoMemory = codes "no memory\n"
 
 -- the text of a run in program order: its report without peaks
 abbrev pub run_text : Run → List ℕ
 run_text run = report_text run.reference (loaded run.image) None (sizes_of run.machine)
 
+-- the text of a migration, with how many lines the old log has
+abbrev pub migrated_text : ℕ → List ℕ
+migrated_text lines = joined (codes "migrated " ∷ decimal lines ∷ codes "\n" ∷ [])
+
 -- the text of a report
 abbrev pub text_of_report : Report → List ℕ
 text_of_report (report.InOrder run) = run_text run
+text_of_report (report.Migrated lines) = migrated_text lines
 
 -- the text of an outcome
 abbrev pub text_of : Outcome → List ℕ

@@ -1,33 +1,34 @@
 -- What is claimed of a call of the program: its words, what the files and the sink tell before and after it, and its
 -- status.
-use Rattle.std.specs.Prelude.{◌≡◌, ◌≢◌, ◌⊎◌, ℕ, List, Option, Some, IfSome, All}
+use Rattle.std.specs.Prelude.{◌≡◌, ◌≢◌, ◌⊎◌, ◌<◌, ◌≤◌, ℕ, List, Option, Some, None, Result, IfSome, All}
 use Rattle.std.proofs.Common.{String, Global}
 use Rattle.tss_outside.specs.declared.files.Files.{Ghosts as FilesMeaning}
 use Rattle.tss_outside.specs.declared.sink.Sink.{Ghosts as SinkMeaning}
 use Rattle.tss_outside.specs.Outside.{Held, Rose, AppendsWhereTold, PutsPrefix}
-use Rattle.tss_run.specs.Words.{Command, words_of, command_of}
-use Rattle.tss_run.specs.Work.{Outcome, work_of, outcome_on, names_read, IsDue}
-use Rattle.tss_run.specs.declared.statuses.TheConstants.{WRITE_FAILED, NO_MEMORY}
+use Rattle.tss_run.specs.declared.outcome.Refusal.{Refusal}
+use Rattle.tss_run.specs.declared.statuses.TheConstants.{BAD_IMAGE, WRITE_FAILED, NO_MEMORY}
 use Rattle.tss_run.specs.Answer.{status_of, text_of}
+use Rattle.tss_run.specs.Outcomes.{FilesSeen, files_seen, FailedToRead, FailedToAdd, KeepsFiles, AppendsAll, AppendsPart, IsDueTo}
+use Rattle.tss_run.specs.Reading.{found_on, names_read}
+use Rattle.tss_run.specs.Words.{Command, words_of, command_of}
+use Rattle.tss_run.specs.Work.{Addition, Deed, Outcome, work_of, outcome_of, appended_by}
 
--- what the files and the sink tell at a moment: what is held and what was written, where that is told, and how often
--- reading and appending have failed under each name, and writing
-pub record Outside : Type 0 where
-  pub held : Option Held
-  pub read_faults : List ℕ → ℕ
-  pub append_faults : List ℕ → ℕ
+-- what a sink tells at a moment: what was written, where that is told, and how often writing has failed
+pub record SinkSeen : Type 0 where
   pub written : Option (List ℕ)
-  pub write_faults : ℕ
+  pub faults : ℕ
 
--- by what files and sink mean
+-- by what it means
+abbrev pub sink_seen : {K : Type 0} → SinkMeaning K → K → SinkSeen
+sink_seen k out = record { written = k.written out; faults = k.faults out }
+
+-- the files and the sink at a moment
+pub record Outside : Type 0 where
+  pub files : FilesSeen
+  pub sink : SinkSeen
+
 abbrev pub outside_of : {F K : Type 0} → FilesMeaning F → SinkMeaning K → F → K → Outside
-outside_of f k files out = record {
-  held = f.held files;
-  read_faults = f.read_faults files;
-  append_faults = f.append_faults files;
-  written = k.written out;
-  write_faults = k.faults out;
-}
+outside_of f k files out = record { files = files_seen f files; sink = sink_seen k out }
 
 -- a call: its words, the outside before and after it, and its status
 pub record Call : Type 0 where
@@ -44,50 +45,85 @@ called f k words files out files_after out_after status = record {
   status = status;
 }
 
--- reading the file of a name failed in the call
-abbrev pub FailedToRead : Call → List ℕ → Type 0
-FailedToRead c name = Rose (c.before.read_faults name) (c.after.read_faults name)
+-- ---- the answer
 
--- a write failed in the call
-abbrev pub FailedToWrite : Call → Type 0
-FailedToWrite c = Rose c.before.write_faults c.after.write_faults
+-- a write failed between two moments
+abbrev pub FailedToWrite : SinkSeen → SinkSeen → Type 0
+FailedToWrite before after = Rose before.faults after.faults
 
--- the outcome is one that the words have over these files, with faults that they had in the call
-abbrev pub IsOutcome : Call → Outcome → Type 0
-IsOutcome c o = IsDue c.words c.before.held (FailedToRead c) o
+-- an outcome was told: its status, and its whole text
+abbrev pub TellsAll : SinkSeen → SinkSeen → ℕ → Outcome → Type 0
+TellsAll before after status o = (status ≡ status_of o) × AppendsWhereTold before.written after.written (text_of o)
 
--- the call answers an outcome: its status, and its whole text
-abbrev pub Tells : Call → Outcome → Type 0
-Tells c o = (c.status ≡ status_of o) × AppendsWhereTold c.before.written c.after.written (text_of o)
+-- a write failed: the status says so, and a part of the text was written, from its beginning
+abbrev pub TellsPart : SinkSeen → SinkSeen → ℕ → Outcome → Type 0
+TellsPart before after status o =
+    (status ≡ WRITE_FAILED) × FailedToWrite before after × PutsPrefix before.written after.written (text_of o)
 
--- unless a write failed, it answers an outcome of its words
+-- it was told, whole or cut short
+abbrev pub Tells : SinkSeen → SinkSeen → ℕ → Outcome → Type 0
+Tells before after status o = TellsAll before after status o ⊎ TellsPart before after status o
+
+-- the call tells an outcome that is due to its words over these files, with the faults that they had in the call
 abbrev pub IsAnswered : Call → Type 0
-IsAnswered c = c.status ≢ WRITE_FAILED → (o : Outcome) × IsOutcome c o × Tells c o
+IsAnswered c =
+    (o : Outcome)
+    × IsDueTo (command_of c.words) c.before.files c.after.files o
+    × Tells c.before.sink c.after.sink c.status o
 
--- where it answers that a write failed one did, and a prefix of the text of an outcome was written
-abbrev pub IsCutShort : Call → Type 0
-IsCutShort c =
-    c.status ≡ WRITE_FAILED
-    → FailedToWrite c × ((o : Outcome) × IsOutcome c o × PutsPrefix c.before.written c.after.written (text_of o))
+-- ---- where files tell what they hold
 
--- no read that a command's work makes over what is held has failed, and no write
-pub record HasNoFault (c : Call) (held : Held) (command : Command) : Type 0 where
-  pub read : All (λ name. FailedToRead c name → ⊥) (names_read held (work_of command))
-  pub write : FailedToWrite c → ⊥
+-- what the work of the words finds in what is held: none where they are no command, or it comes to a file that isn't held
+abbrev pub found_by : Held → Option Command → Option (Result Deed Refusal)
+found_by held None = None
+found_by held (Some command) = found_on held (work_of command)
+
+-- what is then to be appended
+abbrev pub expected_by : Option (Result Deed Refusal) → Option Addition
+expected_by None = None
+expected_by (Some found) = appended_by found
+
+abbrev pub expected_log : Call → Held → Option Addition
+expected_log c held = expected_by (found_by held (command_of c.words))
+
+-- no read that a command's work makes over what is held has failed, no write, and no append that it makes
+pub record HasNoFault (c : Call) (held : Held) (command : Command) (found : Result Deed Refusal) : Type 0 where
+  pub read : All (λ name. FailedToRead c.before.files c.after.files name → ⊥) (names_read held (work_of command))
+  pub append : FailedToAdd c.before.files c.after.files (appended_by found) → ⊥
+  pub write : FailedToWrite c.before.sink c.after.sink → ⊥
 
 -- where the files tell what they hold and there is no fault, it answers the outcome of that, or memory ran out
 abbrev pub IsComplete : Call → Type 0
 IsComplete c =
-    IfSome c.before.held (λ held. (command : Command) (o : Outcome) → command_of c.words ≡ Some command
-    → outcome_on held (work_of command) ≡ Some o → HasNoFault c held command → Tells c o ⊎ (c.status ≡ NO_MEMORY))
+    IfSome c.before.files.held (λ held. (command : Command) (found : Result Deed Refusal)
+    → command_of c.words ≡ Some command
+    → found_on held (work_of command) ≡ Some found
+    → HasNoFault c held command found
+    → TellsAll c.before.sink c.after.sink c.status (outcome_of found) ⊎ (c.status ≡ NO_MEMORY))
 
--- no file is changed
-abbrev pub KeepsFiles : Call → Type 0
-KeepsFiles c = c.after.held ≡ c.before.held
+-- ---- the files
 
--- all of it
+-- with a status of a report, all is appended that what is held asks for, and nothing else is changed
+abbrev pub AppendsExpected : Call → Type 0
+AppendsExpected c =
+    IfSome c.before.files.held (λ held. c.status < BAD_IMAGE
+    → AppendsAll c.before.files c.after.files (expected_log c held))
+
+-- with that of a failed write a part of it is
+abbrev pub AppendsPartly : Call → Type 0
+AppendsPartly c =
+    IfSome c.before.files.held (λ held. c.status ≡ WRITE_FAILED
+    → AppendsPart c.before.files c.after.files (expected_log c held))
+
+-- with any other status no file is changed
+abbrev pub ChangesNoFile : Call → Type 0
+ChangesNoFile c = BAD_IMAGE ≤ c.status → c.status ≢ WRITE_FAILED → KeepsFiles c.before.files c.after.files
+
+-- ---- all of it
+
 pub record IsProgramCall (c : Call) : Type 0 where
   pub answered : IsAnswered c
-  pub cut_short : IsCutShort c
   pub complete : IsComplete c
-  pub files : KeepsFiles c
+  pub appended : AppendsExpected c
+  pub appended_part : AppendsPartly c
+  pub kept : ChangesNoFile c

@@ -1,5 +1,7 @@
 pub mod Words
 pub mod MachineCheck
+pub mod Reading
 pub mod Work
 pub mod Answer
+pub mod Outcomes
 pub mod Call

@@ -9,21 +9,30 @@ use Rattle.tss_run.specs.declared.command.Command.TheVariants as form
 abbrev pub words_of : List (String Global) → List (List ℕ)
 words_of words = map string_bytes words
 
--- the files that `inorder` names
+-- the files that name a program: an image, and a machine's description
 pub record Names : Type 0 where
   pub image : List ℕ
   pub machine : List ℕ
 
+-- the files that name a migration: a log, and the one to which its new form is appended
+pub record LogNames : Type 0 where
+  pub log : List ℕ
+  pub new_log : List ℕ
+
 -- a command, with the names that it has
 pub data Command : Type 0 where
   InOrder : Names → Command
+  Migrate : LogNames → Command
 
 -- that of a command of the code
 abbrev pub command_meant : declared.Command → Command
 command_meant (form.InOrder image machine) = InOrder (record { image = image.now; machine = machine.now })
+command_meant (form.Migrate log new_log) = Migrate (record { log = log.now; new_log = new_log.now })
 
--- the command that words are: `inorder IMAGE MACHINE`, and none else
+-- the command that words are, and none of other words: `inorder IMAGE MACHINE` or `migrate FILE NEW`
 abbrev pub command_of : List (List ℕ) → Option Command
-command_of (name ∷ image ∷ machine ∷ []) =
-    if bytes_eq name (codes "inorder") then Some (InOrder (record { image = image; machine = machine })) else None
+command_of (form ∷ first ∷ second ∷ []) =
+    if bytes_eq form (codes "inorder") then Some (InOrder (record { image = first; machine = second }))
+    else if bytes_eq form (codes "migrate") then Some (Migrate (record { log = first; new_log = second }))
+    else None
 command_of words = None

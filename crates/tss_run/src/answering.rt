@@ -1,12 +1,13 @@
 // From words to an outcome, and from an outcome to an answer.
-ghost use Rattle.std.specs.Prelude.{◌≡◌, ℕ, List, Some, option_map, All, IsTrue, IfOk, take};
-ghost use Rattle.tss_outside.specs.Outside.{Rose};
-ghost use Rattle.tss_run.specs.Words.{words_of, InOrder};
-ghost use Rattle.tss_run.specs.Work.{HasItsRanges, work_of, ComesTo, IsDue};
-ghost use Rattle.tss_run.specs.Call.{called, IsAnswered, IsCutShort, IsComplete, KeepsFiles};
+ghost use Rattle.std.specs.Prelude.{Some, All, IsTrue, IfOk, take};
+ghost use Rattle.tss_run.specs.Call.{called, sink_seen, Tells, IsAnswered, IsComplete, AppendsExpected, AppendsPartly, ChangesNoFile};
+ghost use Rattle.tss_run.specs.Outcomes.{files_seen, IsDueTo};
+ghost use Rattle.tss_run.specs.Words.{words_of, command_of, InOrder};
+ghost use Rattle.tss_run.specs.Work.{HasItsRanges};
 
 use crate::command::{Command, parse};
-use crate::inputs::{image_in, machine_in};
+use crate::inputs::program_in;
+use crate::migration::migrate;
 use crate::outcome::{Refusal, Report, Run};
 use crate::statuses::WRITE_FAILED;
 use crate::texts::{status, write_outcome};
@@ -21,36 +22,45 @@ fn in_order<F: Files>(
     machine: &str,
     files: &mut F,
 ) -> Result<Report, Refusal>
-    ensures comes_to { ComesTo (F.held files.old) (λ n. Rose (F.read_faults files.old n) (F.read_faults files.new n))
-        (work_of (InOrder (record { image = image.now; machine = machine.now }))) result }
+    ensures due { IsDueTo (Some (InOrder (record { image = image.now; machine = machine.now })))
+        (files_seen F.Files files.old) (files_seen F.Files files.new) result }
     ensures ranges { IfOk result HasItsRanges }
-    ensures held { F.held files.new ≡ F.held files.old }
 {
-    let machine = machine_in(alloc, files, machine)?;
-    let image = image_in(alloc, files, image)?;
-    let reference = run_in_order(alloc, &image, &machine.limits)?;
+    let program = program_in(alloc, files, image, machine)?;
+    let reference = run_in_order(alloc, &program.image, &program.machine.limits)?;
     Ok(Report::InOrder(Run {
-        machine,
-        image,
+        machine: program.machine,
+        image: program.image,
         reference,
     }))
 }
 
-/// What the words come to. No file is changed.
+/// What the words come to.
 fn outcome<F: Files>(alloc: Global, words: &[String], files: &mut F) -> Result<Report, Refusal>
-    ensures due { IsDue (words_of words.now) (F.held files.old)
-        (λ n. Rose (F.read_faults files.old n) (F.read_faults files.new n)) result }
+    ensures due { IsDueTo (command_of (words_of words.now)) (files_seen F.Files files.old) (files_seen F.Files files.new)
+        result }
     ensures ranges { IfOk result HasItsRanges }
-    ensures held { F.held files.new ≡ F.held files.old }
 {
     match parse(words) {
         None => Err(Refusal::Usage),
         Some(Command::InOrder { image, machine }) => in_order(alloc, image, machine, files),
+        Some(Command::Migrate { log, new_log }) => migrate(alloc, log, new_log, files),
     }
 }
 
-/// All that the program does: it runs the image that the words name under the limits of the machine that they name, in
-/// program order, prints the report, and answers its own status.
+/// Writes the text of an outcome. It answers the outcome's status, or that of a write that failed.
+fn tell<K: Sink>(out: &mut K, outcome: &Result<Report, Refusal>) -> u8
+    requires { IfOk outcome.now HasItsRanges }
+    ensures { Tells (sink_seen K.Sink out.old) (sink_seen K.Sink out.new) result outcome.now }
+{
+    match write_outcome(out, outcome) {
+        Ok(()) => status(outcome),
+        Err(Failed) => WRITE_FAILED,
+    }
+}
+
+/// All that the program does: it does what the words ask for, prints the report or why there is none, and answers its
+/// own status.
 pub fn tss_main<F: Files, K: Sink>(
     alloc: Global,
     words: &[String],
@@ -59,13 +69,13 @@ pub fn tss_main<F: Files, K: Sink>(
 ) -> u8
     requires { All (λ w. IsTrue (F.knows files.old w)) (take 8 (words_of words.now)) }
     ensures answered { IsAnswered (called F.Files K.Sink words.now files.old out.old files.new out.new result) }
-    ensures cut_short { IsCutShort (called F.Files K.Sink words.now files.old out.old files.new out.new result) }
     ensures complete { IsComplete (called F.Files K.Sink words.now files.old out.old files.new out.new result) }
-    ensures files { KeepsFiles (called F.Files K.Sink words.now files.old out.old files.new out.new result) }
+
+    // What is appended, and that nothing else is changed.
+    ensures appended { AppendsExpected (called F.Files K.Sink words.now files.old out.old files.new out.new result) }
+    ensures appended_part { AppendsPartly (called F.Files K.Sink words.now files.old out.old files.new out.new result) }
+    ensures kept { ChangesNoFile (called F.Files K.Sink words.now files.old out.old files.new out.new result) }
 {
     let outcome = outcome(alloc, words, files);
-    match write_outcome(out, &outcome) {
-        Ok(()) => status(&outcome),
-        Err(Failed) => WRITE_FAILED,
-    }
+    tell(out, &outcome)
 }

@@ -1,12 +1,14 @@
 // The files that a command reads, and what their bytes are.
-ghost use Rattle.std.specs.Prelude.{◌≡◌, ◌≤◌, ℕ, List, IfOk};
+ghost use Rattle.std.specs.Prelude.{IfOk};
 ghost use Rattle.tss_base.specs.Machine.{IsAdmissible};
 ghost use Rattle.tss_outside.specs.Outside.{Rose};
-ghost use Rattle.tss_run.specs.Work.{described_machine as described_machine_of, accepted_image as accepted_image_of, machine_from, image_from, Gives, Reads, IsRead};
+ghost use Rattle.tss_run.specs.Outcomes.{files_seen, FailedToRead, OnlyReads};
+ghost use Rattle.tss_run.specs.Reading.{ComesTo, Gives, IsRead, bytes_found};
+ghost use Rattle.tss_run.specs.Work.{described_machine as described_machine_of, accepted_image as accepted_image_of, machine_reading, image_reading, program_reading, schedule_reading};
 
-use crate::outcome::{BadMachine, Input, Refusal};
+use crate::outcome::{BadMachine, Input, Program, Refusal};
 use std::alloc::Global;
-use tss_base::bounds::{IMAGE_FILE_BYTES, MACHINE_FILE_BYTES};
+use tss_base::bounds::{IMAGE_FILE_BYTES, MACHINE_FILE_BYTES, SCHEDULE_FILE_BYTES};
 use tss_base::{Image, Machine};
 use tss_elf::{ImageFault, read_image};
 use tss_machine::read_machine;
@@ -22,8 +24,7 @@ fn read<F: Files>(
 ) -> Result<Vec<u8>, Refusal>
     ensures read { IsRead (F.held files.old) (Rose (F.read_faults files.old name.now) (F.read_faults files.new name.now))
         input name.now limit result }
-    ensures never_falls { (n : List ℕ) → F.read_faults files.old n ≤ F.read_faults files.new n }
-    ensures held { F.held files.new ≡ F.held files.old }
+    ensures only_reads { OnlyReads (files_seen F.Files files.old) (files_seen F.Files files.new) }
 {
     match files.read(alloc, name, limit) {
         Ok(bytes) => Ok(bytes),
@@ -59,24 +60,48 @@ fn accepted_image(alloc: Global, bytes: &[u8]) -> Result<Image, Refusal>
 }
 
 /// The machine that a file describes.
-pub fn machine_in<F: Files>(alloc: Global, files: &mut F, name: &str) -> Result<Machine, Refusal>
-    ensures exact { Reads machine_from Input.Machine (F.held files.old)
-        (Rose (F.read_faults files.old name.now) (F.read_faults files.new name.now)) name.now result }
+fn machine_in<F: Files>(alloc: Global, files: &mut F, name: &str) -> Result<Machine, Refusal>
+    ensures exact { ComesTo (F.held files.old) (FailedToRead (files_seen F.Files files.old) (files_seen F.Files files.new))
+        (machine_reading name.now) result }
     ensures ok { IfOk result IsAdmissible }
-    ensures never_falls { (n : List ℕ) → F.read_faults files.old n ≤ F.read_faults files.new n }
-    ensures held { F.held files.new ≡ F.held files.old }
+    ensures only_reads { OnlyReads (files_seen F.Files files.old) (files_seen F.Files files.new) }
 {
     let bytes = read(alloc, files, Input::Machine, name, MACHINE_FILE_BYTES)?;
     described_machine(alloc, bytes.as_slice())
 }
 
 /// The image that a file holds.
-pub fn image_in<F: Files>(alloc: Global, files: &mut F, name: &str) -> Result<Image, Refusal>
-    ensures exact { Reads image_from Input.Image (F.held files.old)
-        (Rose (F.read_faults files.old name.now) (F.read_faults files.new name.now)) name.now result }
-    ensures never_falls { (n : List ℕ) → F.read_faults files.old n ≤ F.read_faults files.new n }
-    ensures held { F.held files.new ≡ F.held files.old }
+fn image_in<F: Files>(alloc: Global, files: &mut F, name: &str) -> Result<Image, Refusal>
+    ensures exact { ComesTo (F.held files.old) (FailedToRead (files_seen F.Files files.old) (files_seen F.Files files.new))
+        (image_reading name.now) result }
+    ensures only_reads { OnlyReads (files_seen F.Files files.old) (files_seen F.Files files.new) }
 {
     let bytes = read(alloc, files, Input::Image, name, IMAGE_FILE_BYTES)?;
     accepted_image(alloc, bytes.as_slice())
+}
+
+/// The machine that a file describes, and the image that another holds. The machine is read and judged first.
+pub fn program_in<F: Files>(
+    alloc: Global,
+    files: &mut F,
+    image: &str,
+    machine: &str,
+) -> Result<Program, Refusal>
+    ensures exact { ComesTo (F.held files.old) (FailedToRead (files_seen F.Files files.old) (files_seen F.Files files.new))
+        (program_reading (record { image = image.now; machine = machine.now })) result }
+    ensures ok { IfOk result (λ p. IsAdmissible p.machine) }
+    ensures only_reads { OnlyReads (files_seen F.Files files.old) (files_seen F.Files files.new) }
+{
+    let machine = machine_in(alloc, files, machine)?;
+    let image = image_in(alloc, files, image)?;
+    Ok(Program { machine, image })
+}
+
+/// All bytes of a schedule's file.
+pub fn schedule_in<F: Files>(alloc: Global, files: &mut F, name: &str) -> Result<Vec<u8>, Refusal>
+    ensures exact { ComesTo (F.held files.old) (FailedToRead (files_seen F.Files files.old) (files_seen F.Files files.new))
+        (schedule_reading name.now) (bytes_found result) }
+    ensures only_reads { OnlyReads (files_seen F.Files files.old) (files_seen F.Files files.new) }
+{
+    read(alloc, files, Input::Schedule, name, SCHEDULE_FILE_BYTES)
 }

@@ -14,6 +14,7 @@ use tss_machine::MachineFault;
 pub enum Input {
     Machine,
     Image,
+    Schedule,
 }
 
 /// The first check that a machine description fails, with its key. It is never that memory ran out.
@@ -74,6 +75,10 @@ pub enum Refusal {
     Machine(BadMachine),
     /// The image fails the check of this number.
     Image(u32),
+    /// The line of this number, from 1, is no event's text, and it is the first such line.
+    BadLine(u64),
+    /// Appending to a file failed.
+    WriteLog,
     /// Memory ran out.
     NoMemory,
 }
@@ -84,6 +89,13 @@ impl From<NoMemory> for Refusal {
     fn from(_e: NoMemory) -> Refusal {
         Refusal::NoMemory
     }
+}
+
+/// A program: a machine, and the image that it runs.
+#[derive(Drop)]
+pub struct Program {
+    pub machine: Machine,
+    pub image: Image,
 }
 
 /// A program that was run: the machine, the image, and what the execution in program order came to.
@@ -99,4 +111,6 @@ pub struct Run {
 pub enum Report {
     /// The execution in program order.
     InOrder(Run),
+    /// A log that was put into the present format: how many lines it had.
+    Migrated(u64),
 }

@@ -1,5 +1,6 @@
 // What the program answers, through its top call.
 mod images;
+mod migration;
 mod outside;
 mod process;
 mod programs;

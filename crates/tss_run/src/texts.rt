@@ -1,13 +1,14 @@
 // The text and the status of an outcome.
 ghost use Rattle.std.specs.Prelude.{◌≡◌, IfOk, option_map};
 ghost use Rattle.tss_report.specs.Pieces.{Emits, Writes};
-ghost use Rattle.tss_run.specs.Answer.{ending_status, report_status, refusal_status, status_of, input_name, machine_line, refusal_text, run_text, text_of_report, text_of};
+ghost use Rattle.tss_run.specs.Answer.{ending_status, report_status, refusal_status, status_of, input_name, machine_line, refusal_text, migrated_text, run_text, text_of_report, text_of};
 ghost use Rattle.tss_model.specs.Memory.{loaded};
 ghost use Rattle.tss_run.specs.Work.{HasItsRanges};
 
 use crate::outcome::{Input, Refusal, Report, Run};
 use crate::statuses::{
-    BAD_IMAGE, BAD_MACHINE, BAD_WORDS, EXITED, NO_MEMORY, READ_FAILED, REFUSED, TRAPPED,
+    BAD_IMAGE, BAD_MACHINE, BAD_SCHEDULE, BAD_WORDS, EXITED, NO_MEMORY, READ_FAILED, REFUSED,
+    TRAPPED, WRITE_FAILED,
 };
 use itoa::Buffer;
 use tss_base::Ending;
@@ -21,6 +22,7 @@ fn input_name(input: Input) -> &'static [u8]
     match input {
         Input::Machine => b"machine",
         Input::Image => b"image",
+        Input::Schedule => b"schedule",
     }
 }
 
@@ -46,7 +48,7 @@ fn put_refusal<K: Sink>(to: &mut PieceWriter<'_, K>, refusal: &Refusal) -> Resul
     ensures same_sink { to.new.out.ghost_name ≡ to.old.out.ghost_name }
 {
     match refusal {
-        Refusal::Usage => to.put(b"usage: inorder IMAGE MACHINE\n"),
+        Refusal::Usage => to.put(b"usage: inorder IMAGE MACHINE | migrate FILE NEW\n"),
         Refusal::ReadFault(input) => to.put_all(&[b"read ", input_name(*input), b"\n"]),
         Refusal::TooLong(input) => to.put_all(&[b"long ", input_name(*input), b"\n"]),
         Refusal::Machine(bad) => put_machine(to, bad.number(), bad.key()),
@@ -54,6 +56,11 @@ fn put_refusal<K: Sink>(to: &mut PieceWriter<'_, K>, refusal: &Refusal) -> Resul
             let mut digits = Buffer::new();
             to.put_all(&[b"image ", digits.format(*n).as_bytes(), b"\n"])
         }
+        Refusal::BadLine(n) => {
+            let mut digits = Buffer::new();
+            to.put_all(&[b"schedule bad-line ", digits.format(*n).as_bytes(), b"\n"])
+        }
+        Refusal::WriteLog => to.put(b"write log\n"),
         Refusal::NoMemory => to.put(b"no memory\n"),
     }
 }
@@ -84,6 +91,23 @@ fn write_run<K: Sink>(out: &mut K, run: &Run) -> Result<(), Failed>
     )
 }
 
+/// Puts how many lines a log has that was put into the present format.
+fn put_migrated<K: Sink>(to: &mut PieceWriter<'_, K>, lines: u64) -> Result<(), Failed>
+    ensures { Emits K.Sink to.old to.new result (migrated_text lines) }
+{
+    let mut digits = Buffer::new();
+    to.put_all(&[b"migrated ", digits.format(lines).as_bytes(), b"\n"])
+}
+
+/// Writes how many lines a log has that was put into the present format.
+fn write_migrated<K: Sink>(out: &mut K, lines: u64) -> Result<(), Failed>
+    ensures { Writes K.Sink out.old out.new result (migrated_text lines) }
+{
+    let mut to = PieceWriter::new(out);
+    put_migrated(&mut to, lines)?;
+    to.flush()
+}
+
 /// Writes the text of a report.
 fn write_text_of_report<K: Sink>(out: &mut K, report: &Report) -> Result<(), Failed>
     requires { HasItsRanges report.now }
@@ -91,6 +115,7 @@ fn write_text_of_report<K: Sink>(out: &mut K, report: &Report) -> Result<(), Fai
 {
     match report {
         Report::InOrder(run) => write_run(out, run),
+        Report::Migrated(lines) => write_migrated(out, *lines),
     }
 }
 
@@ -122,6 +147,7 @@ fn report_status(report: &Report) -> u8
 {
     match report {
         Report::InOrder(run) => ending_status(run.reference.ending()),
+        Report::Migrated(_) => EXITED,
     }
 }
 
@@ -132,8 +158,10 @@ fn refusal_status(refusal: &Refusal) -> u8
     match refusal {
         Refusal::Image(_) => BAD_IMAGE,
         Refusal::Machine(_) => BAD_MACHINE,
+        Refusal::BadLine(_) => BAD_SCHEDULE,
         Refusal::Usage => BAD_WORDS,
         Refusal::ReadFault(_) | Refusal::TooLong(_) => READ_FAILED,
+        Refusal::WriteLog => WRITE_FAILED,
         Refusal::NoMemory => NO_MEMORY,
     }
 }

@@ -23,7 +23,7 @@ fn page(alloc: Global) -> Result<Vec<u8>, AsmFault> {
 }
 
 /// Whether the files know each word, as the top call asks.
-fn knows_words(files: &MemFiles, words: &[String]) -> bool
+pub(super) fn knows_words(files: &MemFiles, words: &[String]) -> bool
     ensures { IsTrue result → All (λ w. IsTrue (is_known files.now w)) (take 8 (words_of words.now)) }
 {
     for word in words {

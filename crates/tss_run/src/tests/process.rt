@@ -57,7 +57,7 @@ fn the_process_ends_with_the_answer(rt: HostRuntime) -> Result<(), Fail> {
             Some(fewer.as_slice()),
             64,
             6,
-            b"usage: inorder IMAGE MACHINE\n",
+            b"usage: inorder IMAGE MACHINE | migrate FILE NEW\n",
         ),
         (None, 64, 9, b""),
     ] {

@@ -15,13 +15,15 @@ fn other_words_show_the_usage(rt: HostRuntime) -> Result<(), Fail> {
         &["inorder", "image"],
         &["inorder", "image", "machine", "more"],
         &["Inorder", "image", "machine"],
+        &["migrate", "log"],
+        &["migrate", "log", "new", "more"],
     ] {
         let words = words(alloc, texts)?;
         let mut files = HonestFiles::new(alloc);
         let mut out = MemSink::new(alloc, 256)?;
         let answered = tss_main(alloc, words.as_slice(), &mut files, &mut out);
         assert_eq!(rt; answered, 6);
-        assert!(rt; out.bytes() == b"usage: inorder IMAGE MACHINE\n".as_slice());
+        assert!(rt; out.bytes() == b"usage: inorder IMAGE MACHINE | migrate FILE NEW\n".as_slice());
     }
     Ok(())
 }

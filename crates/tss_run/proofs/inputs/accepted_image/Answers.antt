@@ -1,7 +1,7 @@
 -- The image, or the number of the check, is that of the bytes.
 use Rattle.std.proofs.Common.{Err, inr, subst}
 use Rattle.tss_elf.specs.Elf.{Gives, image_of}
-use Rattle.tss_run.proofs.WorkLemmas.{accepted-ok, accepted-err}
+use Rattle.tss_run.proofs.AnswerLemmas.{accepted-ok, accepted-err}
 use Rattle.tss_run.proofs.inputs.accepted_image.Goals as goal
 
 pub returns-in-Ok : goal.returns-in-Ok

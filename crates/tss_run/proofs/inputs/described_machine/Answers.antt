@@ -1,6 +1,6 @@
 -- The machine, or the check that fails, is the description's.
 use Rattle.std.proofs.Common.{inr, sym, ◌∙◌}
-use Rattle.tss_run.proofs.WorkLemmas.{described-ok, described-err, fault_given}
+use Rattle.tss_run.proofs.AnswerLemmas.{described-ok, described-err, fault_given}
 use Rattle.tss_run.proofs.inputs.described_machine.Goals as goal
 
 pub returns-in-Ok-clause-exact : goal.returns-in-Ok-clause-exact
