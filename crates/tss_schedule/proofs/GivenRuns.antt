@@ -1,19 +1,17 @@
 -- The schedule of a log over a whole run: what it does is what the log's judgement says.
-use Rattle.std.proofs.Common.{◌≡◌, ℕ, zero, suc, ◌+◌, Bool, true, false, cond, List, [], ◌∷◌, length, Option, Some, None, refl, sym, ap, subst, ◌∙◌, arith}
+use Rattle.std.proofs.Common.{◌≡◌, ℕ, suc, ◌+◌, Bool, true, false, cond, List, [], ◌∷◌, length, Option, Some, None, refl, sym, ap, subst, ◌∙◌, arith}
 use Rattle.std.specs.Prelude.{bytes_eq, option_map}
 use Rattle.tss_base.specs.declared.machine.Machine.{Machine}
 use Rattle.tss_base.specs.declared.event.Event.{Event}
-use Rattle.tss_base.specs.Image.{ImageState}
 use Rattle.tss_protocol.specs.State.{State, initial_state}
 use Rattle.tss_protocol.specs.UnitMachine.{is_enabled, after_event}
 use Rattle.tss_protocol.specs.Result.{is_finished}
 use Rattle.tss_protocol.specs.Text.{event_of_text, lines_of, log_header}
 use Rattle.tss_protocol.specs.Schedule.{LogFault, BadLine, NotEnabled, Short, Long, Judgement, faulted, judged_after, judged_line, judged_end, judged_from, judged_lines}
 use Rattle.tss_log.specs.LogLines.{LinesLeft, event_lines}
-use Rattle.tss_pipeline.specs.Seen.{PipelineState, stepped}
-use Rattle.tss_schedule.specs.declared.schedule.Pick.{Pick}
+use Rattle.tss_pipeline.specs.Seen.{PipelineState}
 use Rattle.tss_schedule.specs.declared.schedule.Pick.TheVariants as pick
-use Rattle.tss_schedule.specs.Picks.{Driven, picked, Does, DoesAll, after_picks, EndsBy}
+use Rattle.tss_schedule.specs.Picks.{Driven, picked, DoesAll, after_picks, EndsBy}
 use Rattle.tss_schedule.specs.Givens.{pick_of, given_picks, line_fault, GivenLaw}
 
 same_do : {e d : Event} → pick.Do e ≡ pick.Do d → e ≡ d

@@ -18,7 +18,7 @@ use Rattle.tss_conditions.proofs.Known.{reached_first, reached_after}
 use Rattle.tss_pipeline.specs.Seen.{PipelineState, IsReached}
 use Rattle.tss_schedule.specs.declared.schedule.Pick.{Pick}
 use Rattle.tss_schedule.specs.declared.schedule.Pick.TheVariants as pick
-use Rattle.tss_schedule.specs.Picks.{Driven, picked, left_by, Does, DoesAll, after_pick, after_picks, Fits, EndsBy, Comes}
+use Rattle.tss_schedule.specs.Picks.{Driven, picked, DoesAll, after_pick, after_picks, Fits, EndsBy, Comes}
 use Rattle.tss_schedule.specs.Seeds.{drawn, seeded_picks, drawing, SeededFitsLaw, SeededFaultLaw, SeededLaw}
 use Rattle.tss_schedule.proofs.Drawing.{some_chosen, goes_on}
 

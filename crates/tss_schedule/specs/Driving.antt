@@ -1,5 +1,5 @@
 -- What driving a unit machine by a schedule comes to: the events that are done, the answer, and what a log then has.
-use Rattle.std.specs.Prelude.{◌≡◌, ◌≢◌, ◌⊎◌, ℕ, ◌+◌, ◌≤◌, List, map, length, Option, Some, None, Result, Ok, Err, OnOk}
+use Rattle.std.specs.Prelude.{◌≡◌, ◌≢◌, ◌⊎◌, ℕ, ◌≤◌, List, map, Option, Some, None, Result, Ok, Err, OnOk}
 use Rattle.tss_base.specs.declared.event.Event.{Event}
 use Rattle.tss_base.specs.declared.counts.Peaks.{Peaks}
 use Rattle.tss_base.specs.Image.{ImageState, IsAccepted}

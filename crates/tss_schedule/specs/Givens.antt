@@ -6,7 +6,6 @@ use Rattle.tss_base.specs.Image.{ImageState}
 use Rattle.tss_protocol.specs.Schedule.{LogFault, BadLine, NotEnabled, Short, Long, Judgement, judged}
 use Rattle.tss_protocol.specs.Text.{event_of_text, lines_of}
 use Rattle.tss_log.specs.LogLines.{LinesLeft, event_lines}
-use Rattle.tss_pipeline.specs.Seen.{PipelineState}
 use Rattle.tss_schedule.specs.declared.schedule.Pick.{Pick}
 use Rattle.tss_schedule.specs.declared.schedule.Pick.TheVariants as pick
 use Rattle.tss_schedule.specs.Picks.{Meaning, at_first, Comes}

@@ -10,7 +10,6 @@ use Rattle.tss_protocol.specs.State.{State}
 use Rattle.tss_protocol.specs.Result.{is_finished}
 use Rattle.tss_protocol.specs.Schedule.{chosen_event, seeded, seeded_events, Judgement}
 use Rattle.tss_conditions.specs.Reached.{Reached}
-use Rattle.tss_pipeline.specs.Seen.{PipelineState}
 use Rattle.tss_schedule.specs.declared.schedule.Pick.{Pick}
 use Rattle.tss_schedule.specs.declared.schedule.Pick.TheVariants as pick
 use Rattle.tss_schedule.specs.Picks.{Meaning, Driven, at_first, picked, Fits, Comes}

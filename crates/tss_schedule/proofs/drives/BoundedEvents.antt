@@ -6,7 +6,6 @@ use Rattle.tss_base.specs.declared.event.Event.{Event}
 use Rattle.tss_base.specs.declared.machine.Machine.{Machine}
 use Rattle.tss_base.specs.declared.machine.Key.TheVariants as key
 use Rattle.tss_base.specs.Event.{fits}
-use Rattle.tss_base.specs.Image.{ImageState}
 use Rattle.tss_base.specs.Machine.{IsAdmissible}
 use Rattle.tss_protocol.specs.State.{initial_state}
 use Rattle.tss_protocol.specs.UnitMachine.{is_enabled}
@@ -15,7 +14,7 @@ use Rattle.tss_protocol.specs.Counts.{event_bound, pieces_of_object}
 use Rattle.tss_progress.proofs.bound.Runs.{events_of_runs}
 use Rattle.tss_conditions.specs.Reached.{Reached}
 use Rattle.tss_conditions.proofs.Fitting.{event_fits}
-use Rattle.tss_pipeline.specs.Seen.{PipelineState, IsReached}
+use Rattle.tss_pipeline.specs.Seen.{IsReached}
 use Rattle.tss_schedule.specs.Picks.{Meaning, Driven, Does, DoesAll, after_picks}
 use Rattle.tss_schedule.proofs.drives.PickedEvents.{picked_run, same_machine, after_events-append}
 

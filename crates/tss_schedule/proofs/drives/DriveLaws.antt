@@ -2,19 +2,16 @@
 use Rattle.std.proofs.Common.{◌≡◌, List, ◌++◌, Option, Some, None, Ok, Err, refl, sym, ap, ◌∙◌, subst}
 use Rattle.tss_base.specs.declared.event.Event.{Event}
 use Rattle.tss_base.specs.declared.counts.Peaks.{Peaks}
-use Rattle.tss_base.specs.Image.{ImageState, IsAccepted}
-use Rattle.tss_base.specs.Machine.{IsAdmissible}
 use Rattle.tss_protocol.specs.State.{initial_state}
 use Rattle.tss_protocol.specs.Result.{IsFinished}
 use Rattle.tss_protocol.specs.Schedule as judging
 use Rattle.tss_protocol.specs.Schedule.{LogFault, Judgement}
 use Rattle.tss_log.specs.declared.log.Log.{Ghosts}
-use Rattle.tss_pipeline.specs.Seen.{PipelineState, IsReached}
+use Rattle.tss_pipeline.specs.Seen.{IsReached}
 use Rattle.tss_values.proofs.ValuesEvents.{result_of_runs}
-use Rattle.tss_schedule.specs.declared.driving.ScheduleFault.{ScheduleFault}
 use Rattle.tss_schedule.specs.declared.driving.ScheduleFault.TheVariants as fault
-use Rattle.tss_schedule.specs.Picks.{Meaning, Driven, after_picks, Comes}
-use Rattle.tss_schedule.specs.Driving.{Answer, IsWritten, Ends, Drives, answer_by, AnswersExactly, EndsInOrder}
+use Rattle.tss_schedule.specs.Picks.{Meaning, Driven, Comes}
+use Rattle.tss_schedule.specs.Driving.{Answer, Drives, answer_by, AnswersExactly, EndsInOrder}
 use Rattle.tss_schedule.proofs.drives.PickedEvents.{after_events-append}
 use Rattle.tss_schedule.proofs.drives.OneCourse.{comes_once}
 

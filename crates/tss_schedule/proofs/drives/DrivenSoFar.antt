@@ -13,8 +13,8 @@ use Rattle.tss_log.specs.Logs.{event_line, followed_by, Stays, Grows, HoldsPart}
 use Rattle.tss_schedule.specs.declared.driving.ScheduleFault.{ScheduleFault}
 use Rattle.tss_schedule.specs.declared.driving.ScheduleFault.TheVariants as fault
 use Rattle.tss_schedule.specs.declared.schedule.Pick.TheVariants as pick
-use Rattle.tss_schedule.specs.Picks.{Meaning, Driven, picked, left_by, Does, DoesAll, after_pick, after_picks, EndsBy, Comes}
-use Rattle.tss_schedule.specs.Driving.{Answer, IsWritten, driven, Stops, TurnsOn, Ends, IsCutOff, Answers, lines_text, PutsLines, KeepsLog, Drives}
+use Rattle.tss_schedule.specs.Picks.{Meaning, Driven, picked, left_by, Does, DoesAll, after_pick, after_picks, EndsBy}
+use Rattle.tss_schedule.specs.Driving.{Answer, IsWritten, Stops, TurnsOn, Ends, Answers, lines_text, PutsLines, KeepsLog, Drives}
 use Rattle.tss_schedule.proofs.drives.PickedEvents.{DoesAll-push, after_picks-push, same_machine, picked_run}
 use Rattle.tss_schedule.proofs.drives.PeakEvents.{peaks-push, peaks-none}
 use Rattle.tss_schedule.proofs.drives.LoggedLines.{appends_none, stays_itself, stays_then, appends_stays, grows_itself, grows_then, holds_part_of, appends_line, holds_line, rises_since, falls_never}

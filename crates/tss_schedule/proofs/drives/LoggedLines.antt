@@ -3,7 +3,7 @@ use Rattle.std.proofs.Common.{◌≡◌, ℕ, ◌≤◌, List, [], ◌∷◌, �
 use Rattle.std.proofs.lemmas.Grind.{flat_map-append}
 use Rattle.std.proofs.lemmas.List.{map-append}
 use Rattle.tss_base.specs.declared.event.Event.{Event}
-use Rattle.tss_outside.specs.Outside.{risen, Rose, AppendsWhereTold, IsPrefix}
+use Rattle.tss_outside.specs.Outside.{Rose, AppendsWhereTold}
 use Rattle.tss_protocol.specs.Text.{event_text, ended_line}
 use Rattle.tss_log.specs.Logs.{event_line, followed_by, Stays, Grows, HoldsPart}
 use Rattle.tss_schedule.specs.Driving.{lines_text}

@@ -1,8 +1,7 @@
 -- The peaks of some events and one more.
-use Rattle.std.proofs.Common.{◌≡◌, ℕ, ◌+◌, max, List, [], ◌∷◌, ◌++◌, length, refl, sym, ap, ◌∙◌, arith}
+use Rattle.std.proofs.Common.{◌≡◌, ℕ, ◌+◌, max, List, [], ◌∷◌, ◌++◌, length, refl, ap, ◌∙◌, arith}
 use Rattle.std.proofs.lemmas.List.{length-append}
 use Rattle.tss_base.specs.declared.counts.Counts.{Counts}
-use Rattle.tss_base.specs.declared.counts.Peaks.{Peaks}
 use Rattle.tss_base.specs.declared.event.Event.{Event}
 use Rattle.tss_protocol.specs.Counts.{counts_of, greater_counts, peak_counts, peaks_of}
 use Rattle.tss_schedule.specs.Picks.{Meaning, Driven, after_pick, after_picks}

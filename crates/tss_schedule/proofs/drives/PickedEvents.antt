@@ -1,5 +1,5 @@
 -- One more event that was picked and done, and the run that picked events are.
-use Rattle.std.proofs.Common.{◌≡◌, Bool, true, false, Option, cond, List, [], ◌∷◌, ◌++◌, Some, None, refl, sym, ap, ◌∙◌}
+use Rattle.std.proofs.Common.{◌≡◌, Bool, true, false, Option, cond, List, [], ◌∷◌, ◌++◌, Some, None, refl, ap, ◌∙◌}
 use Rattle.tss_base.specs.declared.event.Event.{Event}
 use Rattle.tss_base.specs.declared.machine.Machine.{Machine}
 use Rattle.tss_protocol.specs.State.{State}

@@ -142,7 +142,7 @@ fn each_append_fails_in_turn(rt: HostRuntime) -> Result<(), Fail> {
         assert!(&rt; number == 1 || part.len() > before);
         before = part.len();
     }
-    assert!(&rt; whole.len() - before <= 4096);
+    assert!(&rt; whole.len().saturating_sub(before) <= 4096);
     let mut later = roomy_files(alloc)?;
     later.fail_append(4)?;
     assert!(&rt; logged(alloc, &machine, &mut later)?.is_ok());

@@ -1,16 +1,15 @@
 -- One more event after another, until a pick does none.
-use Rattle.std.proofs.Common.{◌≡◌, ℕ, true, false, ◌+◌, ◌-◌, ◌<◌, ◌≤◌, Option, Some, None, Result, Ok, Err, refl, sym, ap, ◌∙◌, subst, Fits, w64, arith}
+use Rattle.std.proofs.Common.{◌≡◌, ℕ, true, false, ◌+◌, ◌-◌, ◌<◌, ◌≤◌, Option, Some, None, Result, Ok, Err, refl, sym, ap, ◌∙◌, subst, arith}
 use Rattle.std.specs.Result.{IsErr, IsErrAnd}
 use Rattle.tss_base.specs.declared.counts.Peaks.{Peaks}
-use Rattle.tss_base.specs.declared.counts.Counts.{Counts}
 use Rattle.tss_base.specs.declared.event.Event.{Event}
-use Rattle.tss_protocol.specs.Counts.{counts_of, greater_counts, event_bound}
+use Rattle.tss_protocol.specs.Counts.{greater_counts, event_bound}
 use Rattle.tss_schedule.specs.declared.driving.ScheduleFault.{ScheduleFault}
 use Rattle.tss_schedule.specs.declared.driving.ScheduleFault.TheVariants as fault
 use Rattle.tss_schedule.specs.Picks.{Does}
 use Rattle.tss_schedule.specs.Driving.{driven, TurnsOn, Drives}
 use Rattle.tss_schedule.proofs.drives.BoundedEvents.{within_bound, number_fits, next_fits}
-use Rattle.tss_schedule.proofs.drives.DrivenSoFar.{Keeping, HasDriven, more_peaks, driven_none, driven_more, drives_fault, drives_line_fault, drives_ok, drives_close_fault}
+use Rattle.tss_schedule.proofs.drives.DrivenSoFar.{HasDriven, driven_none, driven_more, drives_fault, drives_line_fault, drives_ok, drives_close_fault}
 use Rattle.tss_schedule.proofs.drives.DriveLaws.{exactly, ends_in_order}
 use Rattle.tss_schedule.proofs.driving.drive.Goals as goal
 
