@@ -1,6 +1,5 @@
 -- The parts of a run of the workload are those of its report.
-use Rattle.std.proofs.Common.{◌≡◌, ℕ, ◌≤◌, ◌++◌, Bool, List, refl, sym, ap, ◌∙◌}
-use Rattle.tss_base.specs.declared.bounds.TheConstants.{MAX_OPERANDS}
+use Rattle.std.proofs.Common.{◌≡◌, ℕ, ◌++◌, Bool, List, refl, ap, ◌∙◌}
 use Rattle.tss_base.specs.declared.counts.Peaks.{Peaks}
 use Rattle.tss_base.specs.declared.ending.Ending.{Ending}
 use Rattle.tss_base.specs.declared.ending.Ending.TheVariants.{Exit, MainTrap, TaskTrap, Refused}

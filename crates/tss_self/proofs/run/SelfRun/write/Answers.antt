@@ -1,6 +1,6 @@
 -- What the run tells is what the report has.
 use Rattle.std.proofs.Common.{sym, subst}
-use Rattle.tss_self.specs.SelfAnswer.{SelfWork, IsRunOf, self_report}
+use Rattle.tss_self.specs.SelfAnswer.{SelfWork, self_report}
 use Rattle.tss_report.proofs.PieceLemmas.{same_written}
 use Rattle.tss_report.specs.Peaks.{HasRanges}
 use Rattle.tss_report.specs.Pieces.{Writes}
