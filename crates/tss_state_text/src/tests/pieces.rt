@@ -18,13 +18,7 @@ fn page(alloc: Global) -> Result<Vec<u8>, AsmFault> {
 }
 
 /// Checks whether the state can be written where one write fails, and how many bytes were put.
-fn puts(
-    rt: &impl Abort,
-    alloc: Global,
-    failing: u32,
-    whole: bool,
-    len: usize,
-) -> Result<(), Fail> {
+fn puts(rt: &impl Abort, alloc: Global, failing: u32, whole: bool, len: usize) -> Result<(), Fail> {
     let machine = machine(alloc, &[(Key::OutputBytes, "4096")])?;
     let bytes = page(alloc)?;
     let image = read_image(alloc, &bytes)?;

@@ -10,8 +10,7 @@ use tss_programs::{
 };
 
 /// After 30 events of `renamed_output`: the third task has finished, and the first one hasn't.
-const MIDWAY: &str =
-    "main 00010084 33 3 runs\n\
+const MIDWAY: &str = "main 00010084 33 3 runs\n\
      regs main 00000000 ffff0000 00000000 00000000 00000000 00000000 00000000 00000000 00000000 000100dc 00010114 00000001 00000063 00000000 00000000 00000000 00000002 00000000 00000000 00000000 00000000 00000000 00000000 00000000 00000000 00000000 00000000 00000000 00000000 00000000 00000000\n\
      epoch 00020000 4\n\
      epoch 00020040 4\n\
@@ -36,8 +35,7 @@ const MIDWAY: &str =
      enabled 2\n";
 
 /// After all 58 events.
-const FINISHED: &str =
-    "main 000100dc 55 3 ended\n\
+const FINISHED: &str = "main 000100dc 55 3 ended\n\
      regs main 00000000 ffff0000 00000000 00000000 00000000 00000000 00000000 00000000 00000000 00000000 00000001 00000001 00000063 00000000 00000000 00000000 00000001 00000000 00000000 00000000 00000000 00000000 00000000 00000000 00000000 00000000 00000000 00000000 00000000 00000000 00000000\n\
      end exit 0\n\
      worker 0 idle\n\
@@ -60,8 +58,7 @@ const FULL_LOG: &str =
      take\nidle 1.0\nretire 1.0\ngone 1.0\ndecode 2.0\n";
 
 /// After it six entries of the first task are left, each asked to retire.
-const FULL: &str =
-    "main 00010058 22 2 runs\n\
+const FULL: &str = "main 00010058 22 2 runs\n\
      regs main 00000000 ffff0000 00000000 00000000 00000000 00000000 00000000 00000000 00000000 00010078 000100d0 00000007 00000000 00000000 00000000 00000000 00000002 00000000 00000000 00000000 00000000 00000000 00000000 00000000 00000000 00000000 00000000 00000000 00000000 00000000 00000000\n\
      epoch 00020000 4\n\
      epoch 00020040 4\n\
@@ -131,8 +128,7 @@ const AWAITED_LOG: &str =
      release 1.0\nbye 1.0\nmain\nmain\nidle 1.0\nretire 1.0\ngone 1.0\nmain\nmain\n";
 
 /// After it the second object alone is named, and its task is in the inbox.
-const AWAITED: &str =
-    "main 0001006c 27 2 runs\n\
+const AWAITED: &str = "main 0001006c 27 2 runs\n\
      regs main 00000000 ffff0000 00000000 00000000 00000000 00000000 00000000 00000000 00000000 00020000 00010094 00000001 00000062 00000000 00000000 00000000 00000005 00000000 00000000 00000000 00000000 00000000 00000000 00000000 00000000 00000000 00000000 00000000 00000000 00000000 00000000\n\
      epoch 00020040 4\n\
      inbox 2\n\
@@ -143,12 +139,10 @@ const AWAITED: &str =
      enabled 2\n";
 
 /// A log of `renamed_output` in which an operand of the second task is decoded before that of the first.
-const WINDOW_LOG: &str =
-    "main\nmain\ntake\nmain\nmain\ntake\ndecode 2.1\n";
+const WINDOW_LOG: &str = "main\nmain\ntake\nmain\nmain\ntake\ndecode 2.1\n";
 
 /// After it two tasks are held by the gateway.
-const WINDOW: &str =
-    "main 00010058 22 2 runs\n\
+const WINDOW: &str = "main 00010058 22 2 runs\n\
      regs main 00000000 ffff0000 00000000 00000000 00000000 00000000 00000000 00000000 00000000 000100e4 000100fc 00000002 00000000 00000000 00000000 00000000 00000002 00000000 00000000 00000000 00000000 00000000 00000000 00000000 00000000 00000000 00000000 00000000 00000000 00000000 00000000\n\
      epoch 00020000 4\n\
      epoch 00020040 4\n\
@@ -191,8 +185,7 @@ const EVERYTHING_LOG: &str =
      main\nfinish 1\n";
 
 /// After it each kind of line is there, and each kind of message.
-const EVERYTHING: &str =
-    "main 00010334 205 18 runs\n\
+const EVERYTHING: &str = "main 00010334 205 18 runs\n\
      regs main 00000000 ffff0000 00000000 00000000 00000000 00000000 00000000 00000000 00000000 0001035c 00000000 00000000 00000000 00000000 00000000 00000000 00000002 00000000 00000000 00000000 00000000 00000000 00000000 00000000 00000000 00000000 00000000 00000000 00000000 00000000 00000000\n\
      epoch 00020000 4\n\
      epoch 00020040 4\n\
@@ -334,7 +327,15 @@ fn a_state_in_the_midst_of_a_run(rt: HostRuntime) -> Result<(), Fail> {
 #[test]
 fn the_last_state_of_a_run(rt: HostRuntime) -> Result<(), Fail> {
     let image = renamed_output(rt.alloc())?;
-    expect(&rt, rt.alloc(), &image, &[], RENAMED_OUTPUT_LOG, 58, FINISHED)
+    expect(
+        &rt,
+        rt.alloc(),
+        &image,
+        &[],
+        RENAMED_OUTPUT_LOG,
+        58,
+        FINISHED,
+    )
 }
 
 #[test]
@@ -369,5 +370,13 @@ fn each_kind_of_line_is_told(rt: HostRuntime) -> Result<(), Fail> {
         (Key::Window, "4"),
         (Key::Stations, "2"),
     ];
-    expect(&rt, rt.alloc(), &image, &changes, EVERYTHING_LOG, 154, EVERYTHING)
+    expect(
+        &rt,
+        rt.alloc(),
+        &image,
+        &changes,
+        EVERYTHING_LOG,
+        154,
+        EVERYTHING,
+    )
 }
