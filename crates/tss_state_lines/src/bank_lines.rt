@@ -41,11 +41,7 @@ pub fn put_entry<K: Sink>(
 }
 
 /// Puts the line of a held place of a bank.
-pub fn put_place<K: Sink>(
-    to: &mut PieceWriter<'_, K>,
-    bank: u32,
-    v: OpName,
-) -> Result<(), Failed>
+pub fn put_place<K: Sink>(to: &mut PieceWriter<'_, K>, bank: u32, v: OpName) -> Result<(), Failed>
     ensures { Emits K.Sink to.old to.new result (place_line bank v) }
 {
     put_line(

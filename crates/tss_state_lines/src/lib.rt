@@ -5,7 +5,6 @@
 
 mod bank_lines;
 mod bytes;
-
 mod line;
 mod main_lines;
 mod marks;
@@ -18,9 +17,7 @@ mod word;
 mod worker_lines;
 
 pub use bank_lines::{put_buffer, put_copy, put_entry, put_place, put_version};
-pub use main_lines::{
-    put_enabled, put_main, put_main_registers, put_named, put_piece, put_trap,
-};
+pub use main_lines::{put_enabled, put_main, put_main_registers, put_named, put_piece, put_trap};
 pub use message_lines::put_message;
 pub use part::{ALL_PARTS, Part};
 pub use task_lines::{put_held, put_inbox, put_operand, put_queued, put_task};

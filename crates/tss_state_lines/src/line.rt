@@ -8,10 +8,7 @@ use tss_outside::{Failed, Sink};
 use tss_report::PieceWriter;
 
 /// Puts words, each after a space.
-pub(crate) fn put_words<K: Sink>(
-    to: &mut PieceWriter<'_, K>,
-    words: &[Word],
-) -> Result<(), Failed>
+pub(crate) fn put_words<K: Sink>(to: &mut PieceWriter<'_, K>, words: &[Word]) -> Result<(), Failed>
     ensures { Emits K.Sink to.old to.new result (spaced words.now) }
 {
     for word in words {

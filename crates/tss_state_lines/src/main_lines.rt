@@ -60,10 +60,7 @@ pub(crate) fn put_registers<K: Sink>(
 }
 
 /// Puts the line of main's registers.
-pub fn put_main_registers<K: Sink>(
-    to: &mut PieceWriter<'_, K>,
-    regs: &Regs,
-) -> Result<(), Failed>
+pub fn put_main_registers<K: Sink>(to: &mut PieceWriter<'_, K>, regs: &Regs) -> Result<(), Failed>
     ensures { Emits K.Sink to.old to.new result (main_registers_line regs.now) }
 {
     put_registers(to, Word::of(b"main"), regs)
@@ -92,11 +89,7 @@ pub fn put_piece<K: Sink>(
 }
 
 /// Puts the line of the held trap, with the number of its task.
-pub fn put_trap<K: Sink>(
-    to: &mut PieceWriter<'_, K>,
-    task: u32,
-    trap: Trap,
-) -> Result<(), Failed>
+pub fn put_trap<K: Sink>(to: &mut PieceWriter<'_, K>, task: u32, trap: Trap) -> Result<(), Failed>
     ensures { Emits K.Sink to.old to.new result (trap_line (record { task = task; trap = trap })) }
 {
     put_line(

@@ -61,10 +61,7 @@ fn gone_word(buffer: &Option<HeldBuffer>) -> Word
 
 /// Puts the line of a message: the event that takes it, and its contents.
 #[tactic(auto, unfolding(tss_protocol::specs::Text::event_text))]
-pub fn put_message<K: Sink>(
-    to: &mut PieceWriter<'_, K>,
-    message: &Message,
-) -> Result<(), Failed>
+pub fn put_message<K: Sink>(to: &mut PieceWriter<'_, K>, message: &Message) -> Result<(), Failed>
     ensures { Emits K.Sink to.old to.new result (lines.message_line (message_of message.now)) }
 {
     match message {

@@ -102,18 +102,22 @@ module _ (sizes : Sizes) (vs : Named Version) (last : Option OpName) where
       | inr here ↦ next k x (to_bank sizes vs b k x there (bank_same _ _ here)) q.above
     ]
     with_bank None (Some n) first next =
-        let t = from_bank sizes vs b n.0 n.1 next.0 in
-        (t.0, here_next n.0 n.1 next.1 t.1,
-        λ k x there q. elim (one_more (bank_of sizes x.object) b q.bank) [
-          | inl before ↦ absurd (first k x there (record { above = q.above; bank = before }))
-          | inr here ↦ next.2 k x (to_bank sizes vs b k x there (bank_same _ _ here)) q.above
-        ])
-    with_bank (Some a) None first next =
-        (first.0, below_next a.0 a.1 first.1,
-        λ k x there q. elim (one_more (bank_of sizes x.object) b q.bank) [
-          | inl before ↦ first.2 k x there (record { above = q.above; bank = before })
-          | inr here ↦ absurd (next k x (to_bank sizes vs b k x there (bank_same _ _ here)) q.above)
-        ])
+        let t = from_bank sizes vs b n.0 n.1 next.0 in (
+          t.0,
+          here_next n.0 n.1 next.1 t.1,
+          λ k x there q. elim (one_more (bank_of sizes x.object) b q.bank) [
+            | inl before ↦ absurd (first k x there (record { above = q.above; bank = before }))
+            | inr here ↦ next.2 k x (to_bank sizes vs b k x there (bank_same _ _ here)) q.above
+          ],
+        )
+    with_bank (Some a) None first next = (
+      first.0,
+      below_next a.0 a.1 first.1,
+      λ k x there q. elim (one_more (bank_of sizes x.object) b q.bank) [
+        | inl before ↦ first.2 k x there (record { above = q.above; bank = before })
+        | inr here ↦ absurd (next k x (to_bank sizes vs b k x there (bank_same _ _ here)) q.above)
+      ],
+    )
     with_bank (Some a) (Some n) first next = by (name_cmp n.0 a.0) refl
       where
         t : (get vs n.0 ≡ Some n.1) × ((bank_of sizes n.1.object == b) ≡ true)
@@ -124,28 +128,34 @@ module _ (sizes : Sizes) (vs : Named Version) (last : Option OpName) where
         through k p q up (inr more) = name_order.total.trans k p q up more
 
         first_is : name_cmp a.0 n.0 ≡ Less → IsFirst vs (IsBefore sizes last (b + 1)) (Some a)
-        first_is up =
-            (first.0, below_next a.0 a.1 first.1,
-            λ k x there q. elim (one_more (bank_of sizes x.object) b q.bank) [
-              | inl before ↦ first.2 k x there (record { above = q.above; bank = before })
-              | inr here ↦ inr (through a.0 n.0 k up (next.2 k x (to_bank sizes vs b k x there (bank_same _ _ here)) q.above))
-            ])
+        first_is up = (
+          first.0,
+          below_next a.0 a.1 first.1,
+          λ k x there q. elim (one_more (bank_of sizes x.object) b q.bank) [
+            | inl before ↦ first.2 k x there (record { above = q.above; bank = before })
+            | inr here ↦ inr (through a.0 n.0 k up (next.2 k x (to_bank sizes vs b k x there (bank_same _ _ here)) q.above))
+          ],
+        )
 
         next_is : name_cmp n.0 a.0 ≡ Less → IsFirst vs (IsBefore sizes last (b + 1)) (Some n)
-        next_is up =
-            (t.0, here_next n.0 n.1 next.1 t.1,
-            λ k x there q. elim (one_more (bank_of sizes x.object) b q.bank) [
-              | inl before ↦ inr (through n.0 a.0 k up (first.2 k x there (record { above = q.above; bank = before })))
-              | inr here ↦ next.2 k x (to_bank sizes vs b k x there (bank_same _ _ here)) q.above
-            ])
+        next_is up = (
+          t.0,
+          here_next n.0 n.1 next.1 t.1,
+          λ k x there q. elim (one_more (bank_of sizes x.object) b q.bank) [
+            | inl before ↦ inr (through n.0 a.0 k up (first.2 k x there (record { above = q.above; bank = before })))
+            | inr here ↦ next.2 k x (to_bank sizes vs b k x there (bank_same _ _ here)) q.above
+          ],
+        )
 
         same_is : n.0 ≡ a.0 → IsFirst vs (IsBefore sizes last (b + 1)) (Some a)
-        same_is same =
-            (first.0, below_next a.0 a.1 first.1,
-            λ k x there q. elim (one_more (bank_of sizes x.object) b q.bank) [
-              | inl before ↦ first.2 k x there (record { above = q.above; bank = before })
-              | inr here ↦ of_name k (next.2 k x (to_bank sizes vs b k x there (bank_same _ _ here)) q.above)
-            ])
+        same_is same = (
+          first.0,
+          below_next a.0 a.1 first.1,
+          λ k x there q. elim (one_more (bank_of sizes x.object) b q.bank) [
+            | inl before ↦ first.2 k x there (record { above = q.above; bank = before })
+            | inr here ↦ of_name k (next.2 k x (to_bank sizes vs b k x there (bank_same _ _ here)) q.above)
+          ],
+        )
           where
             of_name : (k : OpName) → (k ≡ n.0) ⊎ (name_cmp n.0 k ≡ Less) → (k ≡ a.0) ⊎ (name_cmp a.0 k ≡ Less)
             of_name k (inl is) = inl (is ∙ same)

@@ -8,3 +8,4 @@ mod ShownTexts
 mod FirstObjects
 mod BankVersions
 mod WorkerLemmas
+mod ReachedStates

@@ -55,11 +55,13 @@ module _ (vs : Named Version) (last : Option OpName) where
       not_both : false ≡ true → ⊥
       not_both h = cc
   next_by (Some n) e =
-      let f = find_there (λ (e : OpName × Version). is_above last e.0) (entries vs) n e in
-      (get_from_place name_order vs f.0 n.0 n.1 f.1, f.2,
-      λ k x there up.
-        let t = place_from_get name_order vs k x there in
-        after_place f.0 t.0 n k x f.1 t.1 (λ l. f.3 t.0 (k, x) l t.1) up)
+      let f = find_there (λ (e : OpName × Version). is_above last e.0) (entries vs) n e in (
+        get_from_place name_order vs f.0 n.0 n.1 f.1,
+        f.2,
+        λ k x there up.
+            let t = place_from_get name_order vs k x there in
+            after_place f.0 t.0 n k x f.1 t.1 (λ l. f.3 t.0 (k, x) l t.1) up,
+      )
 
   -- the next entry is the first above the name
   pub next_is_first : IsFirst vs IsAbove (next_entry vs last)
@@ -127,6 +129,7 @@ module _ (vs : Named Version) where
         where
           tied : (k : OpName) → name_cmp k k ≡ Equal
           tied k = tied_itself name_order.total k
+
           clash : (o : Ordering) → o ≡ Less → o ≡ Equal → ⊥
           clash o less equal = cc
       by Equal e = refl

@@ -41,9 +41,9 @@ pub operands_by_places : (flight : Numbered Flying) (task : ℕ) (x : Flying) �
 operands_by_places flight task x there =
     operands_from task x.operands (λ i. operand_at flight (operand_name task i)) 0
     (λ i.
-      let same : 0 + i ≡ i = omega arith in
-      ap (λ k. operand_at flight (operand_name task k)) same
-      ∙ ap (λ o. option_and_then (λ (x : Flying). slice_get x.operands i) o) there)
+    let same : 0 + i ≡ i = omega arith in
+    ap (λ k. operand_at flight (operand_name task k)) same
+    ∙ ap (λ o. option_and_then (λ (x : Flying). slice_get x.operands i) o) there)
 
 -- those of the task, where it is in flight
 pub operands_placed : (flight : Numbered Flying) (task count : ℕ) →

@@ -24,9 +24,7 @@ fn opening_object(p: &Pipeline, n: OpName, v: OpName) -> Option<Range>
     ensures { result ≡ option_and_then (text.opening_object n) (get p.now.state.mail.opens v) }
 {
     match p.see(&Event::Open(v)) {
-        Some(Message::Open(opening)) => {
-            object_in(n, opening.operand.object, opening.storage)
-        }
+        Some(Message::Open(opening)) => { object_in(n, opening.operand.object, opening.storage) }
         _ => None,
     }
 }

@@ -60,11 +60,7 @@ fn put_ended<K: Sink>(to: &mut PieceWriter<'_, K>, p: &Pipeline) -> Result<(), F
 }
 
 /// Puts the line of the object that was named at a place in order of naming.
-fn put_named_at<K: Sink>(
-    to: &mut PieceWriter<'_, K>,
-    p: &Pipeline,
-    i: u32,
-) -> Result<(), Failed>
+fn put_named_at<K: Sink>(to: &mut PieceWriter<'_, K>, p: &Pipeline, i: u32) -> Result<(), Failed>
     ensures { Emits K.Sink to.old to.new result (text_if epoch_line (slice_get p.now.state.main.epoch i)) }
 {
     match p.epoch_at(i) {
@@ -84,11 +80,7 @@ fn put_arrival<K: Sink>(to: &mut PieceWriter<'_, K>, p: &Pipeline) -> Result<(),
 }
 
 /// Puts the line of a task that the gateway holds, by its place.
-fn put_held_at<K: Sink>(
-    to: &mut PieceWriter<'_, K>,
-    p: &Pipeline,
-    i: u32,
-) -> Result<(), Failed>
+fn put_held_at<K: Sink>(to: &mut PieceWriter<'_, K>, p: &Pipeline, i: u32) -> Result<(), Failed>
     ensures { Emits K.Sink to.old to.new result (text_if gateway_line (slice_get (held_tasks p.now.state.gateway) i)) }
 {
     match p.held_at(i) {
@@ -98,11 +90,7 @@ fn put_held_at<K: Sink>(
 }
 
 /// Puts the line of a task of the ready queue, by its place.
-fn put_queued_at<K: Sink>(
-    to: &mut PieceWriter<'_, K>,
-    p: &Pipeline,
-    i: u32,
-) -> Result<(), Failed>
+fn put_queued_at<K: Sink>(to: &mut PieceWriter<'_, K>, p: &Pipeline, i: u32) -> Result<(), Failed>
     ensures { Emits K.Sink to.old to.new result (text_if queue_line (slice_get p.now.state.queue i)) }
 {
     match p.queue_at(i) {
@@ -122,11 +110,7 @@ fn put_held_trap<K: Sink>(to: &mut PieceWriter<'_, K>, p: &Pipeline) -> Result<(
 }
 
 /// Puts the line of a piece that main has printed, by its place.
-fn put_piece_at<K: Sink>(
-    to: &mut PieceWriter<'_, K>,
-    p: &Pipeline,
-    i: u32,
-) -> Result<(), Failed>
+fn put_piece_at<K: Sink>(to: &mut PieceWriter<'_, K>, p: &Pipeline, i: u32) -> Result<(), Failed>
     ensures { Emits K.Sink to.old to.new result (text_if piece_line (slice_get p.now.state.main.pieces i)) }
 {
     match p.piece_at(i) {

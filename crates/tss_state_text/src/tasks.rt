@@ -28,11 +28,7 @@ fn put_operand_at<K: Sink>(
 }
 
 /// Puts the lines of the operands of a task in flight.
-fn put_operands<K: Sink>(
-    to: &mut PieceWriter<'_, K>,
-    p: &Pipeline,
-    task: u32,
-) -> Result<(), Failed>
+fn put_operands<K: Sink>(to: &mut PieceWriter<'_, K>, p: &Pipeline, task: u32) -> Result<(), Failed>
     ensures { Emits K.Sink to.old to.new result
         (text_if (λ x. operands_text task 0 x.operands) (get p.now.state.flight task)) }
 {

@@ -52,10 +52,7 @@ fn next_version(p: &Pipeline, last: Option<OpName>) -> Option<VersionView>
 }
 
 /// Puts the lines of all versions, by name.
-pub(crate) fn put_versions<K: Sink>(
-    to: &mut PieceWriter<'_, K>,
-    p: &Pipeline,
-) -> Result<(), Failed>
+pub(crate) fn put_versions<K: Sink>(to: &mut PieceWriter<'_, K>, p: &Pipeline) -> Result<(), Failed>
     ensures { Emits K.Sink to.old to.new result
         (flat_map (λ e. version_line e.0 e.1) (entries p.now.state.versions)) }
 {

@@ -25,11 +25,7 @@ fn row_at(scratch: &[u8], k: u32) -> &[u8]
 }
 
 /// Puts the rows of a worker's scratch in which a byte isn't 0.
-fn put_scratch<K: Sink>(
-    to: &mut PieceWriter<'_, K>,
-    w: u32,
-    scratch: &[u8],
-) -> Result<(), Failed>
+fn put_scratch<K: Sink>(to: &mut PieceWriter<'_, K>, w: u32, scratch: &[u8]) -> Result<(), Failed>
     requires { length scratch.now ≡ scratch_range.len }
     ensures { Emits K.Sink to.old to.new result (scratch_text w scratch.now) }
 {

@@ -17,5 +17,5 @@ pub returns-in-Some : goal.returns-in-Some
 returns-in-Some g c =
     let bank = c.number-in-Some.ensures ∙ ap decimal c.from-in-Some.ensures in
     same_text ((λ i. line (codes "buffer")
-      ((bank i ∷ c.name-in-Some.ensures.text i ∷ []) ++ encode_lower c.in-Some.bytes.now ∷ []))
+    ((bank i ∷ c.name-in-Some.ensures.text i ∷ []) ++ encode_lower c.in-Some.bytes.now ∷ []))
     ∙ ap (λ b. buffer_line c.args.bank c.args.name (option_map (λ x. x.now) b)) (sym c.in-Some.is)) c.put_hex_line.ensures

@@ -9,9 +9,9 @@ pub returns : goal.returns
 returns g c =
     let len = c.number.ensures ∙ ap decimal c.from.ensures in
     same_text (λ i.
-      line (codes "operand")
-      (c.name.ensures.text i
-      ∷ c.hex.ensures i
-      ∷ len i
-      ∷ c.mode_word.ensures i
-      ∷ (c.source_words-version.ensures i ++ c.link_word.ensures i ∷ c.farewell_word.ensures i ∷ []))) c.put_line.ensures
+    line (codes "operand")
+    (c.name.ensures.text i
+    ∷ c.hex.ensures i
+    ∷ len i
+    ∷ c.mode_word.ensures i
+    ∷ (c.source_words-version.ensures i ++ c.link_word.ensures i ∷ c.farewell_word.ensures i ∷ []))) c.put_line.ensures
