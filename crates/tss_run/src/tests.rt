@@ -4,6 +4,7 @@ mod migration;
 mod outside;
 mod process;
 mod programs;
+mod runs;
 mod usage;
 
 use crate::answering::tss_main;
