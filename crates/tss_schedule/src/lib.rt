@@ -5,8 +5,6 @@
 #![tactic(auto)]
 
 mod driving;
-#[cfg(test)]
-mod driving_tests;
 mod given;
 mod laws;
 mod schedule;

@@ -6,6 +6,7 @@ mod faults;
 mod logs;
 mod rows;
 mod seeds;
+mod written;
 
 use crate::{Pick, Schedule};
 use std::alloc::Global;
@@ -15,6 +16,7 @@ use tss_base::{Event, Key, Machine};
 use tss_elf::read_image;
 use tss_events::read_event;
 use tss_machine::read_machine;
+use tss_outside::MemFiles;
 use tss_pipeline::Pipeline;
 use tss_programs::description;
 
@@ -32,6 +34,13 @@ fn opened(alloc: Global, bytes: &[u8], machine: &Machine) -> Result<Pipeline, Fa
 {
     let image = read_image(alloc, bytes)?;
     Ok(Pipeline::open(alloc, &image, machine)?)
+}
+
+/// Files in which a log has room.
+fn roomy_files(alloc: Global) -> Result<MemFiles, Fail> {
+    let mut files = MemFiles::new(alloc);
+    files.room("log", 65536)?;
+    Ok(files)
 }
 
 /// The event of a text.

@@ -6,6 +6,8 @@ use Rattle.tss_base.specs.declared.machine.Machine.{Machine}
 use Rattle.tss_base.specs.declared.counts.Peaks.{Peaks}
 use Rattle.tss_base.specs.Image.{ImageState, IsAccepted}
 use Rattle.tss_base.specs.Machine.{IsAdmissible}
+use Rattle.tss_model.specs.Memory.{loaded}
+use Rattle.tss_protocol.specs.Run.{IsRun}
 use Rattle.tss_protocol.specs.Counts.{peaks_of}
 use Rattle.tss_protocol.specs.State.{initial_state}
 use Rattle.tss_protocol.specs.Schedule as judging
@@ -14,19 +16,21 @@ use Rattle.tss_protocol.specs.Text.{lines_of, log_header}
 use Rattle.tss_log.specs.declared.log.Log.{Ghosts}
 use Rattle.tss_log.specs.LogLines.{LinesLeft, event_lines}
 use Rattle.tss_conditions.proofs.Known.{reached_first}
-use Rattle.tss_pipeline.specs.Seen.{IsReached}
+use Rattle.tss_pipeline.specs.Seen.{PipelineState, IsReached}
 use Rattle.tss_schedule.specs.declared.driving.ScheduleFault.{ScheduleFault}
 use Rattle.tss_schedule.specs.declared.driving.ScheduleFault.TheVariants as fault
 use Rattle.tss_schedule.specs.Picks.{Driven, at_first, Comes}
 use Rattle.tss_schedule.specs.Givens.{given_picks, line_fault, by_lines}
-use Rattle.tss_schedule.specs.Driving.{Answer, IsWritten, Drives}
+use Rattle.tss_schedule.specs.Driving.{Answer, IsWritten, driven, Drives}
 use Rattle.tss_schedule.proofs.GivenRuns.{run_of_log}
 use Rattle.tss_schedule.proofs.drives.BoundedEvents.{within_bound, bound_fits}
 use Rattle.tss_outside.specs.Outside.{Rose}
 use Rattle.tss_unit_runs.specs.declared.faults.GivenFault.{GivenFault}
 use Rattle.tss_unit_runs.specs.declared.faults.GivenFault.TheVariants as given_fault
 use Rattle.tss_unit_runs.specs.declared.faults.LineFault.{LineFault}
-use Rattle.tss_unit_runs.specs.Runs.{later_fault, fault_of, IsCounted}
+use Rattle.tss_unit_runs.specs.declared.faults.LineFault.TheVariants as line
+use Rattle.tss_unit_runs.specs.Runs.{later_fault, fault_of, IsCounted, is_short, IsWholeOrShort}
+use Rattle.tss_unit_runs.proofs.OverLemmas.{run_of_image, ranges_of_image}
 use Rattle.tss_unit_runs.proofs.SeedLemmas.{never_rose}
 
 -- at most the header comes before the first pick
@@ -116,3 +120,75 @@ line_same r f e = cc
 -- no log that never fails has that fault
 pub written_by_none : (x : ScheduleFault) → (◌≡◌ {A = Answer} (Err x) (Err fault.WriteFault) → Rose 0 0) → IsWritten (Err x)
 written_by_none x cause e = never_rose (cause e)
+
+-- ---- the state that a log gives
+
+true_false : false ≡ true → ⊥
+true_false e = cc
+
+-- lines that just end too early
+pub short_fault : (f : LineFault) → is_short f ≡ true → IsWholeOrShort (Some (fault_of f))
+short_fault (line.BadLine n) e = absurd (true_false e)
+short_fault (line.NotEnabled n) e = absurd (true_false e)
+short_fault (line.Short n) e = tt
+short_fault (line.Long n) e = absurd (true_false e)
+
+module _ {L : Type 0} (g : Ghosts L) (m : Machine) (i : ImageState) (bytes : List ℕ) (p : PipelineState) (s : LinesLeft)
+    (last : Driven LinesLeft) (log log_new : L) (accepted : IsAccepted i) (admissible : IsAdmissible m)
+    (first : p ≡ record { machine = m; state = initial_state i }) (lines : s ≡ event_lines (lines_of bytes)) where
+  -- the drive from the start
+  abbrev from_start : (answer : Answer) → Drives given_picks g (driven p s) last log log_new answer
+      → Drives given_picks g (at_first m i (event_lines (lines_of bytes))) last log log_new answer
+  from_start answer h =
+      at_log g m i bytes last log log_new accepted admissible (driven p s) answer (λ k. driven (first k) (lines k)) h
+
+  -- the run that the state comes from, and its ranges
+  state_by : (answer : Answer) (h : Drives given_picks g (driven p s) last log log_new answer) (es : List Event)
+      → (from_start answer h).events ≡ es → IsRun m i es last.pipeline.state
+  state_by answer h es is =
+      subst (λ es. IsRun m i es last.pipeline.state) is
+      (run_of_image given_picks g (at_first m i (event_lines (lines_of bytes))) last log log_new i accepted refl answer
+      (from_start answer h))
+
+  pub state_ranges : (answer : Answer) → Drives given_picks g (driven p s) last log log_new answer
+      → last.pipeline.state.home.ranges ≡ (loaded i).ranges
+  state_ranges answer h =
+      ranges_of_image given_picks g (at_first m i (event_lines (lines_of bytes))) last log log_new i accepted refl answer
+      (from_start answer h) admissible
+
+  -- after a whole run
+  pub state_whole : (peaks : Peaks) → Drives given_picks g (driven p s) last log log_new (Ok peaks)
+      → IsRun m i (judged m i bytes).events last.pipeline.state
+  state_whole peaks h =
+      state_by (Ok peaks) h (judged m i bytes).events
+      (ap (λ (j : Judgement). j.events)
+      (log_whole g m i bytes last log log_new accepted admissible peaks (from_start (Ok peaks) h)))
+
+  pub fault_whole : (peaks : Peaks) → Drives given_picks g (driven p s) last log log_new (Ok peaks)
+      → IsWholeOrShort (judged m i bytes).fault
+  fault_whole peaks h =
+      subst IsWholeOrShort
+      (ap (λ (j : Judgement). j.fault)
+      (log_whole g m i bytes last log log_new accepted admissible peaks (from_start (Ok peaks) h)))
+      tt
+
+  -- after a part of one
+  module _ (x : ScheduleFault) (h : Drives given_picks g (driven p s) last log log_new (Err x)) (written : IsWritten (Err x)) where
+    pub state_part : IsRun m i (judged m i bytes).events last.pipeline.state
+    state_part =
+        state_by (Err x) h (judged m i bytes).events
+        (ap (λ (j : Judgement). j.events)
+        (log_judged g m i bytes last log log_new accepted admissible x (from_start (Err x) h) written))
+
+    -- the number of the fault
+    pub part_counted : (k : ℕ) → k ≡ s.offset → IsCounted k x
+    part_counted k is =
+        subst (λ k. IsCounted k x) (sym (is ∙ ap (λ (l : LinesLeft). l.offset) lines))
+        (log_counted g m i bytes last log log_new accepted admissible x (from_start (Err x) h) written)
+
+    -- the fault itself
+    pub part_fault : (k : ℕ) (r : LineFault) → k ≡ s.offset → Some (fault_of r) ≡ later_fault k x
+        → (judged m i bytes).fault ≡ Some (fault_of r)
+    part_fault k r is told =
+        line_judged g m i bytes last log log_new accepted admissible x k r r (from_start (Err x) h) written
+        (is ∙ ap (λ (l : LinesLeft). l.offset) lines) told refl

@@ -82,9 +82,11 @@ file_whole old new name es put others =
 
 -- what is held is a part of a longer text too
 part_of_more : (xs ys rest held : List ℕ) (o : List ℕ) → IsPrefix held (o ++ xs) → ys ≡ xs ++ rest → IsPrefix held (o ++ ys)
-part_of_more xs ys rest held o part more =
-    (part.0 ++ rest, ap (λ l. o ++ l) more ∙ sym (append_assoc o xs rest) ∙ ap (λ l. l ++ rest) part.1
-    ∙ append_assoc held part.0 rest)
+part_of_more xs ys rest held o part more = (
+  part.0 ++ rest,
+  ap (λ l. o ++ l) more ∙ sym (append_assoc o xs rest) ∙ ap (λ l. l ++ rest) part.1
+      ∙ append_assoc held part.0 rest,
+)
 
 -- what grew, and is a part of what was with more after it, grew by a part of that
 grown_part : (o held xs : List ℕ) → IsPrefix o held → IsPrefix held (o ++ xs) → (p : List ℕ) × IsPrefix p xs × (held ≡ o ++ p)

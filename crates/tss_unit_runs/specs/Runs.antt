@@ -1,5 +1,5 @@
 -- What a run of an image by a schedule comes to, and what is told of its log.
-use Rattle.std.specs.Prelude.{◌≡◌, ℕ, ◌+◌, ◌^◌, ◌<◌, List, Option, Some, None, Result, Ok, Err, IfOk}
+use Rattle.std.specs.Prelude.{◌≡◌, ℕ, ◌+◌, ◌^◌, ◌<◌, Bool, true, false, List, Option, Some, None, Result, Ok, Err, IfOk}
 use Rattle.tss_base.specs.declared.event.Event.{Event}
 use Rattle.tss_base.specs.declared.machine.Machine.{Machine}
 use Rattle.tss_base.specs.Image.{ImageState, IsAccepted}
@@ -63,12 +63,12 @@ fault_of (line.NotEnabled n) = judging.NotEnabled n
 fault_of (line.Short n) = judging.Short n
 fault_of (line.Long n) = judging.Long n
 
--- the lines don't just end too early
-abbrev pub IsNotShort : LineFault → Type 0
-IsNotShort (line.BadLine n) = Unit {0}
-IsNotShort (line.NotEnabled n) = Unit {0}
-IsNotShort (line.Short n) = ⊥
-IsNotShort (line.Long n) = Unit {0}
+-- the lines just end too early
+abbrev pub is_short : LineFault → Bool
+is_short (line.BadLine n) = false
+is_short (line.NotEnabled n) = false
+is_short (line.Short n) = true
+is_short (line.Long n) = false
 
 -- a judgement has no fault but that the lines may end too early
 abbrev pub IsWholeOrShort : Option LogFault → Type 0

@@ -1,5 +1,5 @@
 // Runs of an image: by a seed, and by a log that is given.
-ghost use Rattle.std.specs.Prelude.{◌≡◌, ◌≤◌, ℕ, List, Some, None, IfOk, IfErr, IsErrOf, OnOk, OnErr};
+ghost use Rattle.std.specs.Prelude.{◌≡◌, ◌≤◌, ℕ, false, List, Some, None, IfOk, IfErr, IsErrOf, OnOk, OnErr};
 ghost use Rattle.tss_base.specs.Machine.{IsAdmissible};
 ghost use Rattle.tss_model.specs.Memory.{loaded};
 ghost use Rattle.tss_outside.specs.Outside.{Rose, AppendsTo};
@@ -8,7 +8,7 @@ ghost use Rattle.tss_protocol.specs.Schedule.{seeded_events, judged};
 ghost use Rattle.tss_protocol.specs.State.{initial_state};
 ghost use Rattle.tss_protocol.specs.Text.{ended_line, log_header, log_text};
 ghost use Rattle.tss_log.specs.FileLogs.{KeepsFiles};
-ghost use Rattle.tss_unit_runs.specs.Runs.{run_of, fault_of, PutsPart, Finishes, later_fault, IsCounted, IsNotShort, IsWholeOrShort};
+ghost use Rattle.tss_unit_runs.specs.Runs.{run_of, fault_of, PutsPart, Finishes, later_fault, IsCounted, is_short, IsWholeOrShort};
 
 use crate::faults::{GivenFault, LineFault, LoggedFault};
 use crate::finished::FinishedRun;
@@ -167,7 +167,7 @@ pub fn state_given(
     ensures ranges { IfOk result (λ p. p.state.home.ranges ≡ (loaded image.now).ranges) }
     ensures ok { OnOk result (IsWholeOrShort (judged machine.now image.now bytes.now).fault) }
     ensures line { (f : LineFault) → IsErrOf result (GivenFault.Line f)
-        → ((judged machine.now image.now bytes.now).fault ≡ Some (fault_of f)) × IsNotShort f }
+        → ((judged machine.now image.now bytes.now).fault ≡ Some (fault_of f)) × (is_short f ≡ false) }
 {
     let _entry = image.entry();
     let Ok(mut pipeline) = Pipeline::open(alloc, image, machine) else {
@@ -177,10 +177,13 @@ pub fn state_given(
     let offset = lines.offset();
     match drive(&mut pipeline, &mut lines, &mut NoLog {}) {
         Ok(_) => Ok(pipeline),
-        Err(ScheduleFault::Short(_)) => Ok(pipeline),
         Err(fault) => {
+            let line = line_fault(fault, offset);
+            if line.is_short() {
+                return Ok(pipeline);
+            }
             pipeline.close();
-            Err(GivenFault::Line(line_fault(fault, offset)))
+            Err(GivenFault::Line(line))
         }
     }
 }

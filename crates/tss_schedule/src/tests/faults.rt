@@ -1,7 +1,7 @@
 // Schedules that don't come to the end of a run, and logs that can't be written.
 ghost use Rattle.tss_base.specs.Machine.{IsAdmissible};
 
-use super::{machine, opened};
+use super::{machine, opened, roomy_files};
 use crate::{Given, Schedule, ScheduleFault, Seeded, drive};
 use std::alloc::Global;
 use std::process::Abort;
@@ -116,13 +116,6 @@ fn logged(
     let answer = drive(&mut p, &mut Seeded::new(2), &mut FileLog::new(files, "log"));
     p.close();
     Ok(answer)
-}
-
-/// Files in which a log has room.
-fn roomy_files(alloc: Global) -> Result<MemFiles, Fail> {
-    let mut files = MemFiles::new(alloc);
-    files.room("log", 65536)?;
-    Ok(files)
 }
 
 #[test]
