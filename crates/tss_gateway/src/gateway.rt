@@ -63,7 +63,7 @@ impl Gateway {
     }
 
     /// How many tasks are held.
-    fn tasks(&self) -> u32
+    pub fn tasks(&self) -> u32
         ensures { result ≡ length (held_tasks self.now.gateway) }
     {
         let held = self.held.as_slice();

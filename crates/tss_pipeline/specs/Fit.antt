@@ -11,7 +11,6 @@ use Rattle.tss_base.specs.declared.operand.Storage.TheVariants as storage
 use Rattle.tss_model.specs.Access.{operands_of}
 use Rattle.tss_workers.specs.declared.running.Worker.{Worker}
 use Rattle.tss_base.specs.Names.{Named, Numbered}
-use Rattle.tss_base.specs.Image.{ImageState}
 use Rattle.tss_tokens.specs.Pool.{TokenState}
 use Rattle.tss_events.specs.declared.message.Opening.{Opening}
 use Rattle.tss_events.specs.declared.message.HeldBuffer.{HeldBuffer}
@@ -19,7 +18,6 @@ use Rattle.tss_events.specs.declared.message.Gone.{Gone}
 use Rattle.tss_protocol.specs.Names.{bank_of}
 use Rattle.tss_protocol.specs.Renaming.{line_of}
 use Rattle.tss_protocol.specs.Counts.{message_limit, all_slots}
-use Rattle.tss_protocol.specs.State.{State}
 use Rattle.tss_banks.specs.Tables.{AreBankTables}
 use Rattle.tss_banks.specs.Versions.{VersionsInBanks}
 use Rattle.tss_renaming.specs.Bank.{RenamingState}
@@ -27,10 +25,10 @@ use Rattle.tss_renaming.specs.Holding.{AreApart}
 use Rattle.tss_versions.specs.declared.kept.Kept.{Kept}
 use Rattle.tss_versions.specs.Known.{IsHeld, buffer_in}
 use Rattle.tss_buffers.specs.declared.copying.Copying.{Copying}
-use Rattle.tss_conditions.specs.Reached.{Reached}
 use Rattle.tss_pipeline.specs.declared.units.Units.{Units}
 use Rattle.tss_pipeline.specs.declared.bank.Bank.{Bank}
 use Rattle.tss_pipeline.specs.declared.bank.Job.{Job}
+use Rattle.tss_pipeline.specs.Seen.{IsReached}
 use Rattle.tss_pipeline.specs.State.{state_of, bank_tables, bank_versions}
 
 -- ---- sizes
@@ -58,13 +56,6 @@ pub record AreSized (u : Units) : Type 0 where
   pub buffer_banks : u.buffers.banks ≡ u.machine.sizes.banks
   pub buffers : u.buffers.each ≡ u.machine.sizes.buffers
   pub object_bytes : u.buffers.object_bytes ≡ u.machine.limits.object_bytes
-
--- ---- a run
-
--- some run of an accepted image leaves the state
-pub record IsReached (m : Machine) (S : State) : Type 0 where
-  pub image : ImageState
-  pub reached : Reached m image S
 
 -- ---- places
 

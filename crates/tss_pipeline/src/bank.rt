@@ -180,6 +180,16 @@ impl Bank {
         }
     }
 
+    /// The name of the buffer that the bank copies home.
+    pub(crate) fn copied_buffer(&self) -> Option<OpName>
+        ensures { result ≡ option_map (λ j. j.buffer) self.now.job }
+    {
+        match &self.job {
+            Some(job) => Some(job.buffer),
+            None => None,
+        }
+    }
+
     /// Ends a bank with nothing in it.
     pub(crate) fn close_empty(self)
         requires versions { self.versions.versions ≡ map.empty }

@@ -1,7 +1,8 @@
 // What the machine shows of its banks. Of a bank that isn't there it shows nothing.
 ghost use Rattle.std.specs.Prelude.{◌≡◌, is_some, option_map, slice_get};
-ghost use Rattle.std.specs.FinMap.{get};
-ghost use Rattle.tss_maps.specs.Ordered.{key_at};
+ghost use Rattle.std.specs.FinMap.{get, len};
+ghost use Rattle.tss_base.specs.Names.{name_cmp};
+ghost use Rattle.tss_maps.specs.Ordered.{key_at, least_above};
 ghost use Rattle.tss_renaming.specs.Entries.{entry_of};
 ghost use Rattle.tss_buffers.specs.Contents.{HasBuffer, seat};
 ghost use Rattle.tss_pipeline.specs.BankParts.{contents_under, copy_shown, copy_told, entries_at, names_at, value_at, version_shown, versions_at};
@@ -44,6 +45,16 @@ impl Pipeline {
         }
     }
 
+    /// How many entries a bank has.
+    pub fn entry_count(&self, bank: u32) -> u32
+        ensures { result ≡ len (entries_at self.now.machine.sizes bank self.now.state.entries) }
+    {
+        match bank_at(&self.units.banks, bank) {
+            Some(bank) => bank.renaming.entries(),
+            None => 0,
+        }
+    }
+
     /// An entry of a bank by its place, from 0, in the order of the objects' bases.
     pub fn entry_at(&self, bank: u32, i: u32) -> Option<EntryView>
         ensures { option_map entry_of result
@@ -55,6 +66,16 @@ impl Pipeline {
         }
     }
 
+    /// How many places of a bank are held.
+    pub fn place_count(&self, bank: u32) -> u32
+        ensures { result ≡ len (names_at bank self.now.state.places) }
+    {
+        match bank_at(&self.units.banks, bank) {
+            Some(bank) => bank.renaming.places(),
+            None => 0,
+        }
+    }
+
     /// The name for which a place of a bank is held, by its place, from 0, in the order of these names.
     pub fn place_at(&self, bank: u32, i: u32) -> Option<OpName>
         ensures { result ≡ key_at (names_at bank self.now.state.places) i }
@@ -62,6 +83,16 @@ impl Pipeline {
         match bank_at(&self.units.banks, bank) {
             Some(bank) => bank.renaming.place_at(i),
             None => None,
+        }
+    }
+
+    /// How many buffers of a bank are held.
+    pub fn buffer_count(&self, bank: u32) -> u32
+        ensures { result ≡ len (names_at bank self.now.state.buffers) }
+    {
+        match bank_at(&self.units.banks, bank) {
+            Some(bank) => bank.renaming.buffers(),
+            None => 0,
         }
     }
 
@@ -113,6 +144,26 @@ impl Pipeline {
         }
     }
 
+    /// How many versions are registered in a bank.
+    pub fn version_count(&self, bank: u32) -> u32
+        ensures { result ≡ len (versions_at self.now.machine.sizes bank self.now.state.versions) }
+    {
+        match bank_at(&self.units.banks, bank) {
+            Some(bank) => bank.versions.count(),
+            None => 0,
+        }
+    }
+
+    /// The least name above a given one of the versions of a bank.
+    pub fn version_after(&self, bank: u32, v: OpName) -> Option<OpName>
+        ensures { result ≡ least_above name_cmp (versions_at self.now.machine.sizes bank self.now.state.versions) v }
+    {
+        match bank_at(&self.units.banks, bank) {
+            Some(bank) => bank.versions.name_after(v),
+            None => None,
+        }
+    }
+
     /// A version of a bank by its place, from 0, in the order of names.
     pub fn version_at(&self, bank: u32, i: u32) -> Option<VersionView>
         ensures version { option_map version_shown result
@@ -142,6 +193,16 @@ impl Pipeline {
     {
         match bank_at(&self.units.banks, bank) {
             Some(bank) => bank.copy(),
+            None => None,
+        }
+    }
+
+    /// The name of the buffer that a bank copies home.
+    pub fn copy_buffer(&self, bank: u32) -> Option<OpName>
+        ensures { result ≡ option_map (λ c. c.buffer) (get self.now.state.copies bank) }
+    {
+        match bank_at(&self.units.banks, bank) {
+            Some(bank) => bank.copied_buffer(),
             None => None,
         }
     }

@@ -6,7 +6,7 @@ ghost use Rattle.tss_protocol.specs.State.{initial_state};
 ghost use Rattle.tss_protocol.specs.Counts.{counts_of};
 ghost use Rattle.tss_protocol.specs.Result.{is_finished, result_of, tasks_of, printed_of};
 ghost use Rattle.tss_protocol.specs.UnitMachine.{enabled_events};
-ghost use Rattle.tss_pipeline.specs.Seen.{StepsTo};
+ghost use Rattle.tss_pipeline.specs.Seen.{IsReached, StepsTo};
 
 use crate::step::NotEnabled;
 use crate::units::Units;
@@ -112,6 +112,13 @@ impl Pipeline {
         ensures { result.now ≡ self.now.state.home }
     {
         &self.units.space
+    }
+
+    /// Says that some run of an accepted image leaves this state, so that the laws over every run hold of it. Does nothing.
+    pub fn reached(&self)
+        ensures reached { IsReached self.now.machine self.now.state }
+    {
+        let _ = &self.units;
     }
 
     /// Ends the machine, in any state.

@@ -1,7 +1,8 @@
 // What the machine shows of itself.
-ghost use Rattle.std.specs.Prelude.{◌≡◌, IsSome, Some, option_and_then, option_map, slice_get};
-ghost use Rattle.std.specs.FinMap.{get};
+ghost use Rattle.std.specs.Prelude.{◌≡◌, IsSome, Some, length, option_and_then, option_map, slice_get};
+ghost use Rattle.std.specs.FinMap.{get, len};
 ghost use Rattle.tss_maps.specs.Ordered.{key_at};
+ghost use Rattle.tss_model.specs.Memory.{scratch_range};
 ghost use Rattle.tss_protocol.specs.Gateway.{held_tasks};
 ghost use Rattle.tss_protocol.specs.Mail.{message_at, message_names};
 ghost use Rattle.tss_protocol.specs.Stations.{operand_at};
@@ -29,6 +30,20 @@ impl Pipeline {
         ensures { result ≡ self.now.state.main.spawned }
     {
         self.units.main.spawned()
+    }
+
+    /// How many objects are named in this epoch.
+    pub fn epoch_count(&self) -> u32
+        ensures { result ≡ length self.now.state.main.epoch }
+    {
+        self.units.main.epoch_count()
+    }
+
+    /// How many pieces main has printed.
+    pub fn piece_count(&self) -> u32
+        ensures { result ≡ length self.now.state.main.pieces }
+    {
+        self.units.main.piece_count()
     }
 
     /// Main's registers.
@@ -67,6 +82,13 @@ impl Pipeline {
         self.units.gateway.inbox()
     }
 
+    /// How many tasks the gateway holds.
+    pub fn held_count(&self) -> u32
+        ensures { result ≡ length (held_tasks self.now.state.gateway) }
+    {
+        self.units.gateway.tasks()
+    }
+
     /// A task that the gateway holds, by its place from 0, and how many of its operands are still to be acknowledged.
     pub fn held_at(&self, i: u32) -> Option<(u32, u32)>
         ensures { result ≡ told_at (slice_get (held_tasks self.now.state.gateway) i) }
@@ -74,9 +96,17 @@ impl Pipeline {
         self.units.gateway.held_at(i)
     }
 
+    /// How many tasks are in flight.
+    pub fn task_count(&self) -> u32
+        ensures { result ≡ len self.now.state.flight }
+    {
+        self.units.stations.count()
+    }
+
     /// A task in flight by its place from 0, in order of number, and its stage.
     pub fn task_at(&self, i: u32) -> Option<(&Task, Stage)>
-        ensures { option_map (λ t. (t.0.now, t.1)) result
+        ensures number { option_map (λ t. t.0.now.number) result ≡ key_at self.now.state.flight i }
+        ensures task { option_map (λ t. (t.0.now, t.1)) result
             ≡ option_and_then (found_in self.now.state.flight) (key_at self.now.state.flight i) }
     {
         self.units.stations.task_at(i)
@@ -89,11 +119,25 @@ impl Pipeline {
         self.units.stations.find(task)
     }
 
+    /// How many operands a task in flight has.
+    pub fn operand_count(&self, task: u32) -> Option<u32>
+        ensures { result ≡ option_map (λ x. length x.operands) (get self.now.state.flight task) }
+    {
+        self.units.stations.operand_count(task)
+    }
+
     /// What is known of an operand of a task in flight.
     pub fn operand(&self, o: OpName) -> Option<OperandView>
         ensures { option_map state_of result ≡ operand_at self.now.state.flight o }
     {
         self.units.stations.operand(o)
+    }
+
+    /// How many tasks are in the ready queue.
+    pub fn queue_count(&self) -> u32
+        ensures { result ≡ length self.now.state.queue }
+    {
+        self.units.queue.len()
     }
 
     /// A task of the ready queue by its place, from 0 at the front.
@@ -121,9 +165,17 @@ impl Pipeline {
     /// The scratch of a busy worker.
     pub fn scratch(&self, w: u32) -> &[u8]
         requires { IsSome (get self.now.state.workers w) }
-        ensures { option_map (λ b. b.scratch) (get self.now.state.workers w) ≡ Some result.now }
+        ensures exact { option_map (λ b. b.scratch) (get self.now.state.workers w) ≡ Some result.now }
+        ensures whole { length result.now ≡ scratch_range.len }
     {
         self.units.workers.scratch(w).bytes()
+    }
+
+    /// How many messages are under way.
+    pub fn message_count(&self) -> u32
+        ensures { result ≡ length (message_names self.now.state.mail) }
+    {
+        self.units.mail.count()
     }
 
     /// The name of a message by its place, from 0, in the order of events.

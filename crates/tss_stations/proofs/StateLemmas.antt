@@ -3,6 +3,7 @@ use Rattle.std.proofs.Common.{◌≡◌, ℕ, zero, suc, Bool, true, false, List
 use Rattle.std.specs.Prelude.{◌==◌, map, take, is_some, option_and_then}
 use Rattle.std.proofs.lemmas.Bool.Decides.{nat_tests}
 use Rattle.std.proofs.lemmas.Option.{none-some}
+use Rattle.std.proofs.lemmas.List.{length-map}
 use Rattle.std.specs.FinMap.{get, insert}
 use Rattle.tss_base.specs.declared.operand.OpName.{OpName}
 use Rattle.tss_base.specs.declared.operand.Operand.{Operand}
@@ -15,11 +16,12 @@ use Rattle.tss_maps.proofs.Keys.{nat_order}
 use Rattle.tss_maps.proofs.Changes.{at_inserted}
 use Rattle.tss_maps.proofs.MappedLemmas.{get-mapped, mapped-insert}
 use Rattle.tss_model.specs.Access.{operands_of}
+use Rattle.tss_protocol.specs.State.{Flying}
 use Rattle.tss_protocol.specs.Stations.{new_operand, entered, first_stage, is_complete, after_ready}
 use Rattle.tss_events.specs.Events.{source_of}
 use Rattle.tss_stations.specs.declared.operand_view.OperandView.{OperandView}
 use Rattle.tss_stations.specs.declared.slot.Slot.{Slot}
-use Rattle.tss_stations.specs.Views.{state_of, flying_of, flight_of, view_at, view_in, with_view, new_view, new_slot, told_view, linked_view, parted_view}
+use Rattle.tss_stations.specs.Views.{state_of, views_of, flying_of, flight_of, view_at, view_in, with_view, new_view, new_slot, told_view, linked_view, parted_view}
 use Rattle.tss_stations.specs.Slots.{StationsState, awaited_slot, remaining_slots, slots_after_ready, slots_after_link, slots_after_bye, start_in, slots_after_start, finish_in, slots_after_finish}
 use Rattle.tss_stations.specs.Reading.{shown, found_in}
 use Rattle.tss_stations.proofs.ViewLemmas.{view_found}
@@ -94,6 +96,17 @@ module _ (slots : Numbered Slot) (task : ℕ) where
       by : (m : Option Slot) → option_map shown (option_map flying_of m) ≡ option_map slot_shown m
       by None = refl
       by (Some x) = refl
+
+  -- with as many operands
+  pub operands-flight_of : option_map (λ (x : Flying). length x.operands) (get (flight_of slots) task)
+      ≡ option_map (λ (x : Slot). length (views_of x)) (get slots task)
+  operands-flight_of =
+      ap (option_map (λ (x : Flying). length x.operands)) (get-mapped flying_of slots task) ∙ by (get slots task)
+    where
+      by : (m : Option Slot) → option_map (λ (x : Flying). length x.operands) (option_map flying_of m)
+          ≡ option_map (λ (x : Slot). length (views_of x)) m
+      by None = refl
+      by (Some x) = ap Some (length-map (views_of x) state_of)
 
   pub has-flight_of : is_some (get (flight_of slots) task) ≡ is_some (get slots task)
   has-flight_of = ap is_some (get-mapped flying_of slots task) ∙ by (get slots task)

@@ -1,5 +1,5 @@
 // Slots.
-ghost use Rattle.std.specs.Prelude.{◌≡◌, map};
+ghost use Rattle.std.specs.Prelude.{◌≡◌, length, map};
 ghost use Rattle.std.specs.List.{list_all};
 ghost use Rattle.tss_protocol.specs.Stations.{is_ready, has_left, is_complete, is_gone};
 ghost use Rattle.tss_stations.specs.Views.{state_of, views_of, flying_of, view_at, new_view, new_slot};
@@ -42,6 +42,13 @@ impl Slot {
         ensures { result.now ≡ views_of self.now }
     {
         &self.operands[..self.task.count.min(MAX_OPERANDS) as usize]
+    }
+
+    /// How many operands its task has.
+    pub fn count(&self) -> u32
+        ensures { result ≡ length (views_of self.now) }
+    {
+        self.task.count.min(MAX_OPERANDS)
     }
 
     /// What is known of an operand.

@@ -1,5 +1,5 @@
 // The reservation stations.
-ghost use Rattle.std.specs.Prelude.{◌≡◌, ◌<◌, ◌≤◌, IfOk, IsTrue, None, is_some, option_and_then, option_map};
+ghost use Rattle.std.specs.Prelude.{◌≡◌, ◌<◌, ◌≤◌, IfOk, IsTrue, None, is_some, length, option_and_then, option_map};
 ghost use Rattle.std.specs.FinMap as map;
 ghost use Rattle.tss_base.specs.declared.machine.Key.TheVariants as key;
 ghost use Rattle.tss_base.specs.Machine.{IsInRange};
@@ -173,6 +173,16 @@ impl Stations {
         ensures { result ≡ is_some (map.get (flight_of self.now.slots) task) }
     {
         self.slots.get(task).is_some()
+    }
+
+    /// How many operands a task in flight has.
+    pub fn operand_count(&self, task: u32) -> Option<u32>
+        ensures { result ≡ option_map (λ x. length x.operands) (map.get (flight_of self.now.slots) task) }
+    {
+        match self.slots.get(task) {
+            Some(slot) => Some(slot.count()),
+            None => None,
+        }
     }
 
     /// What is known of an operand of a task in flight.

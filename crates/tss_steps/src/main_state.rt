@@ -94,6 +94,13 @@ impl Main {
         self.epoch.at(i)
     }
 
+    /// How many objects are named.
+    pub fn epoch_count(&self) -> u32
+        ensures { result ≡ length self.now.main.epoch }
+    {
+        self.epoch.count()
+    }
+
     /// The named object with the base in x10, which an await takes out of what is named. None exactly where no named
     /// object has that base.
     pub fn awaited(&self) -> Option<Range>
@@ -122,6 +129,13 @@ impl Main {
         ensures { option_map (λ p. record { before = p.0; bytes = p.1.now }) result ≡ slice_get self.now.main.pieces i }
     {
         self.printed.piece_at(i)
+    }
+
+    /// How many pieces main has printed.
+    pub fn piece_count(&self) -> u32
+        ensures { result ≡ length self.now.main.pieces }
+    {
+        self.printed.count()
     }
 
     /// What main has printed with fewer than `task` tasks spawned.

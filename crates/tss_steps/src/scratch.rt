@@ -52,7 +52,8 @@ impl Scratch {
 
     /// All bytes.
     pub fn bytes(&self) -> &[u8]
-        ensures { result.now ≡ self.now }
+        ensures bytes { result.now ≡ self.now }
+        ensures whole { length result.now ≡ scratch_range.len }
     {
         self.bytes.as_slice()
     }

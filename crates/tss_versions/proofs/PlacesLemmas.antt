@@ -3,14 +3,15 @@ use Rattle.std.proofs.Common.{◌≡◌, ◌≢◌, ◌⊎◌, ℕ, ◌<◌, Opt
 use Rattle.std.specs.Prelude.{is_some, slice_get}
 use Rattle.std.specs.Option.{option_copied}
 use Rattle.std.specs.declared.cmp.Ordering.{Ordering}
-use Rattle.std.specs.Ordering.{nat_cmp}
+use Rattle.std.specs.List.{find}
+use Rattle.std.specs.Ordering.{nat_cmp, is_lt}
 use Rattle.std.specs.FinMap.{FinMap, get, insert, remove, len, empty, get-empty}
 use Rattle.std.proofs.lemmas.Option.{none-some, same_Some}
 use Rattle.tss_base.specs.declared.operand.OpName.{OpName}
 use Rattle.tss_base.specs.Names.{name_cmp, Named, Numbered}
 use Rattle.tss_maps.proofs.Keys.{nat_order, name_order, decide_key}
 use Rattle.tss_maps.proofs.Changes.{same_by_get, at_inserted, beside_inserted, at_removed, beside_removed, from_inserted, from_removed, decide_get}
-use Rattle.tss_maps.specs.Ordered.{key_at}
+use Rattle.tss_maps.specs.Ordered.{key_at, least_above}
 use Rattle.tss_maps.proofs.Entries.{len_added, len_within_places, some_entry, absent_empty}
 use Rattle.tss_maps.proofs.MappedLemmas.{get-mapped, keys-mapped, mapped-empty}
 use Rattle.tss_tables.specs.Table.{TableState}
@@ -44,6 +45,13 @@ pub key_at-versions_at : (seats : Numbered Seat) (index : Named ℕ) (i : ℕ) �
 unfolding key_at
 key_at-versions_at seats index i =
     ap (λ ks. slice_get ks i) (keys-mapped (λ p. kept_in (get seats p)) index)
+
+-- the least name above one
+pub least_above-versions_at : (seats : Numbered Seat) (index : Named ℕ) (v : OpName)
+    → least_above name_cmp (versions_at seats index) v ≡ least_above name_cmp index v
+unfolding least_above
+least_above-versions_at seats index v =
+    ap (find (λ q. is_lt (name_cmp v q))) (keys-mapped (λ p. kept_in (get seats p)) index)
 
 -- no name has a version where none has a place
 pub versions_none : (seats : Numbered Seat) → versions_at seats empty ≡ empty

@@ -3,7 +3,8 @@ ghost use Rattle.std.specs.Prelude.{◌≡◌, ◌<◌, ◌^◌, IfOk, None, Som
 ghost use Rattle.std.specs.FinMap as map;
 ghost use Rattle.tss_base.specs.declared.machine.Key.TheVariants as key;
 ghost use Rattle.tss_base.specs.Machine.{IsInRange};
-ghost use Rattle.tss_maps.specs.Ordered.{key_at};
+ghost use Rattle.tss_base.specs.Names.{name_cmp};
+ghost use Rattle.tss_maps.specs.Ordered.{key_at, least_above};
 ghost use Rattle.tss_versions.specs.Known.{IsAt, HaveSites, AreNumbered, site_of};
 ghost use Rattle.tss_versions.specs.Conditions.{IsFree, IsUnnamed};
 
@@ -73,6 +74,13 @@ impl Versions {
         ensures { result ≡ key_at self.now.versions i }
     {
         self.index.key_at(i)
+    }
+
+    /// The least name of a version above a given name.
+    pub fn name_after(&self, v: OpName) -> Option<OpName>
+        ensures { result ≡ least_above name_cmp self.now.versions v }
+    {
+        self.index.next_after(v)
     }
 
     /// Where a version stands.

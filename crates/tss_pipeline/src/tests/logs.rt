@@ -2,6 +2,7 @@
 ghost use Rattle.tss_base.specs.Machine.{IsAdmissible};
 
 use super::{event, follow, machine, opened};
+use crate::Pipeline;
 use std::alloc::Global;
 use std::process::Abort;
 use std::test::Fail;
@@ -181,6 +182,53 @@ fn a_renamed_output_lies_in_a_buffer(rt: HostRuntime) -> Result<(), Fail> {
     };
     assert!(&rt; name == OpName { task: 3, place: 0 });
     assert!(&rt; p.buffer_at(0, 1) == None);
+    assert_eq!(&rt; p.buffer_count(0), 1);
+    assert_eq!(&rt; p.copy_buffer(0), None);
+    p.close();
+    Ok(())
+}
+
+/// How many versions of a bank there are, by their names in order.
+fn versions_by_name(p: &Pipeline, bank: u32) -> u32 {
+    let mut count: u32 = 0;
+    let mut name = OpName { task: 0, place: 0 };
+    for _ in 0..256u32 {
+        let Some(next) = p.version_after(bank, name) else {
+            break;
+        };
+        count = count.saturating_add(1);
+        name = next;
+    }
+    count
+}
+
+/// Whether the counts of a state are those of what it shows.
+fn counts_shown(rt: &impl Abort, p: &Pipeline) {
+    assert!(rt; p.message_at(p.message_count()) == None);
+    assert_eq!(rt; p.message_count(), p.counts().messages);
+    assert_eq!(rt; p.queue_count(), p.counts().ready);
+    assert!(rt; p.held_at(p.held_count()).is_none());
+    assert!(rt; p.task_at(p.task_count()).is_none());
+    assert!(rt; p.epoch_at(p.epoch_count()).is_none());
+    assert!(rt; p.piece_at(p.piece_count()).is_none());
+    assert_eq!(rt; p.entry_count(0), p.counts().entries);
+    assert_eq!(rt; p.place_count(0), p.counts().versions);
+    assert_eq!(rt; p.buffer_count(0), p.counts().buffers);
+    assert_eq!(rt; versions_by_name(p, 0), p.version_count(0));
+    if let Some((task, _)) = p.task_at(0) {
+        assert_eq!(rt; p.operand_count(task.number), Some(task.count));
+    }
+}
+
+#[test]
+fn what_is_shown_is_counted(rt: HostRuntime) -> Result<(), Fail> {
+    let image = renamed_output(rt.alloc())?;
+    let machine = machine(rt.alloc(), &[])?;
+    let mut p = opened(rt.alloc(), image.as_slice(), &machine)?;
+    for line in RENAMED_OUTPUT_LOG.lines() {
+        assert!(&rt; p.step(event(&rt, line)) == Ok(()));
+        counts_shown(&rt, &p);
+    }
     p.close();
     Ok(())
 }

@@ -6,7 +6,7 @@ use Rattle.tss_pipeline.specs.declared.bank.Bank.{Bank}
 use Rattle.tss_pipeline.specs.declared.closing.EndedBank.{EndedBank}
 use Rattle.tss_pipeline.specs.Fit.{HoldsOwn}
 use Rattle.tss_pipeline.specs.Closing.{ended_bank, AreEnded}
-use Rattle.tss_pipeline.proofs.AppendedLemmas.{slice_get-last, slice_get-before}
+use Rattle.tss_pipeline.proofs.places.AppendedLemmas.{slice_get-last, slice_get-before}
 use Rattle.tss_pipeline.proofs.closing.end_banks.Goals as goal
 
 -- a bank that stands in front of the last

@@ -5,7 +5,7 @@ use Rattle.tss_events.specs.Events.{message_of}
 use Rattle.tss_protocol.specs.Mail.{Mail, taken, message_names, message_count}
 use Rattle.tss_mail.specs.Letters.{mail_of}
 use Rattle.tss_pipeline.specs.Closing.{AreOfBanks}
-use Rattle.tss_pipeline.proofs.EndingLemmas.{fewer_taken, names_there, none_named, banks_taken, letter_of_bank}
+use Rattle.tss_pipeline.proofs.ends.EndingLemmas.{fewer_taken, names_there, none_named, banks_taken, letter_of_bank}
 use Rattle.tss_pipeline.proofs.closing.end_letters.Goals as goal
 
 pub end_letter-requires-clause-own : goal.end_letter-requires-clause-own

@@ -10,8 +10,8 @@ use Rattle.tss_protocol.specs.Gateway.{decodes_from}
 use Rattle.tss_protocol.specs.Mail.{posted_all}
 use Rattle.tss_mail.specs.Letters.{mail_of}
 use Rattle.tss_pipeline.specs.Lines.{AwaitDecodes, lined}
-use Rattle.tss_pipeline.proofs.LineLemmas.{own_lines, lined_same, lined_again, await_more}
-use Rattle.tss_pipeline.proofs.DecodeLemmas.{length-decodes_from, next_decode, new_decode, others_may, same_end, same_many}
+use Rattle.tss_pipeline.proofs.front_rows.LineLemmas.{own_lines, lined_same, lined_again, await_more}
+use Rattle.tss_pipeline.proofs.front_rows.DecodeLemmas.{length-decodes_from, next_decode, new_decode, others_may, same_end, same_many}
 use Rattle.tss_pipeline.proofs.front.expect_all.Goals as goal
 
 pub loop-place-init : goal.loop-place-init

@@ -4,7 +4,7 @@ use Rattle.std.specs.FinMap.{get, len}
 use Rattle.tss_banks.proofs.BankLines.{line_within, none_in_line}
 use Rattle.tss_mail.specs.Letters.{MailState}
 use Rattle.tss_pipeline.specs.Lines.{lined}
-use Rattle.tss_pipeline.proofs.LineLemmas.{own_lines, lined_joined, bank_there, from_first}
+use Rattle.tss_pipeline.proofs.front_rows.LineLemmas.{own_lines, lined_joined, bank_there, from_first}
 use Rattle.tss_pipeline.proofs.front.expect_operand.Goals as goal
 
 pub expect-requires-clause-room : goal.expect-requires-clause-room

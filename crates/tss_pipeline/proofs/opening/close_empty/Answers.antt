@@ -3,7 +3,7 @@ use Rattle.std.specs.Prelude.{slice_get}
 use Rattle.tss_base.specs.declared.machine.Sizes.{Sizes}
 use Rattle.tss_pipeline.specs.declared.bank.Bank.{Bank}
 use Rattle.tss_pipeline.specs.Opening.{empty_bank, AreEmpty}
-use Rattle.tss_pipeline.proofs.AppendedLemmas.{slice_get-last, slice_get-before}
+use Rattle.tss_pipeline.proofs.places.AppendedLemmas.{slice_get-last, slice_get-before}
 use Rattle.tss_pipeline.proofs.opening.close_empty.Goals as goal
 
 -- the last bank is empty

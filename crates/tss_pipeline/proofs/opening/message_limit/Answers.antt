@@ -1,5 +1,5 @@
 use Rattle.std.proofs.Common.{◌+◌, ◌*◌, ◌≤◌, arith}
-use Rattle.tss_pipeline.proofs.SizeLemmas.{window_operands, all_slots_few, twice_slots, slot_operands, all_versions}
+use Rattle.tss_pipeline.proofs.places.SizeLemmas.{window_operands, all_slots_few, twice_slots, slot_operands, all_versions}
 use Rattle.tss_pipeline.proofs.opening.message_limit.Goals as goal
 
 pub overflow_mul-result : goal.overflow_mul-result

@@ -2,7 +2,7 @@ use Rattle.std.proofs.Common.{◌≡◌, ◌+◌, ◌≤◌, ◌++◌, List, [],
 use Rattle.std.specs.Prelude.{slice_get}
 use Rattle.tss_pipeline.specs.declared.bank.Bank.{Bank}
 use Rattle.tss_pipeline.specs.Opening.{empty_bank, AreEmpty}
-use Rattle.tss_pipeline.proofs.AppendedLemmas.{from_appended}
+use Rattle.tss_pipeline.proofs.places.AppendedLemmas.{from_appended}
 use Rattle.tss_pipeline.proofs.opening.open_banks.Goals as goal
 
 pub loop-bank-preserved : goal.loop-bank-preserved

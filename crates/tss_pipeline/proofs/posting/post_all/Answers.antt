@@ -7,7 +7,7 @@ use Rattle.tss_mail.specs.Letters.{mail_of}
 use Rattle.tss_conditions.specs.Posting.{MayPostAll, MayPostNext}
 use Rattle.tss_conditions.proofs.Postable.{post_next}
 use Rattle.tss_pipeline.specs.Letters.{with_letters}
-use Rattle.tss_pipeline.proofs.LetterLemmas.{size_with_letter}
+use Rattle.tss_pipeline.proofs.places.LetterLemmas.{size_with_letter}
 use Rattle.tss_pipeline.proofs.posting.post_all.Goals as goal
 
 pub loop-message-init : goal.loop-message-init

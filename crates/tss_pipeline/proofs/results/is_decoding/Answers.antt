@@ -3,7 +3,7 @@ use Rattle.std.proofs.Common.{sym, ◌∙◌, arith}
 use Rattle.std.specs.FinMap.{keys}
 use Rattle.std.proofs.lemmas.List.{length-map}
 use Rattle.tss_base.specs.declared.event.Event.TheVariants as event
-use Rattle.tss_pipeline.proofs.DecodingObjects.{decode_found, decode_nowhere}
+use Rattle.tss_pipeline.proofs.shown.DecodingObjects.{decode_found, decode_nowhere}
 use Rattle.tss_pipeline.proofs.results.is_decoding.Goals as goal
 
 pub returns-then-eq : goal.returns-then-eq

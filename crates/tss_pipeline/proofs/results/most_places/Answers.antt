@@ -1,7 +1,7 @@
 -- The next bank may have more.
 use Rattle.std.proofs.Common.{sym, ap, ◌∙◌}
 use Rattle.std.specs.FinMap.{len}
-use Rattle.tss_pipeline.proofs.BankFills.{more_places}
+use Rattle.tss_pipeline.proofs.shown.BankFills.{more_places}
 use Rattle.tss_pipeline.proofs.results.most_places.Goals as goal
 
 pub loop-i-preserved : goal.loop-i-preserved

@@ -7,7 +7,7 @@ use Rattle.tss_stations.specs.Views.{flight_of, state_of}
 use Rattle.tss_mail.specs.Letters.{mail_of}
 use Rattle.tss_conditions.specs.Posting.{MayPostAll}
 use Rattle.tss_pipeline.specs.Ending.{releases_in, release_by}
-use Rattle.tss_pipeline.proofs.ReleaseLemmas.{may_first, may_rest, posted_both, next_release, no_release, past_releases, all_releases}
+use Rattle.tss_pipeline.proofs.worker_rows.ReleaseLemmas.{may_first, may_rest, posted_both, next_release, no_release, past_releases, all_releases}
 use Rattle.tss_pipeline.proofs.worker_events.release_all.Goals as goal
 
 pub loop-place-init : goal.loop-place-init

@@ -1,6 +1,6 @@
 -- The buffer of a copy is held.
 use Rattle.std.proofs.Common.{sym, ◌∙◌}
-use Rattle.tss_pipeline.proofs.SeenBanks.{buffer_of_job}
+use Rattle.tss_pipeline.proofs.shown.SeenBanks.{buffer_of_job}
 use Rattle.tss_pipeline.proofs.bank.Bank.copy.Goals as goal
 
 pub unreachable-requires : goal.unreachable-requires

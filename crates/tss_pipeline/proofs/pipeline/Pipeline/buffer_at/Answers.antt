@@ -1,7 +1,7 @@
 -- The name stands at its place in the bank.
 use Rattle.std.proofs.Common.{ℕ, ap, option_map, ◌∙◌}
 use Rattle.tss_base.specs.declared.operand.OpName.{OpName}
-use Rattle.tss_pipeline.proofs.SeenBanks.{name_under, seen_buffers, seen_no_buffer}
+use Rattle.tss_pipeline.proofs.shown.SeenBanks.{name_under, seen_buffers, seen_no_buffer}
 use Rattle.tss_pipeline.proofs.pipeline.Pipeline.buffer_at.Goals as goal
 
 pub returns-in-Some : goal.returns-in-Some

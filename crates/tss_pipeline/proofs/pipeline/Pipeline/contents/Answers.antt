@@ -1,6 +1,6 @@
 -- The contents of a buffer are those at its place.
 use Rattle.std.proofs.Common.{sym, ◌∙◌}
-use Rattle.tss_pipeline.proofs.SeenBanks.{seen_contents, seen_no_contents, has_buffer_here, seen_nothing_held}
+use Rattle.tss_pipeline.proofs.shown.SeenBanks.{seen_contents, seen_no_contents, has_buffer_here, seen_nothing_held}
 use Rattle.tss_pipeline.proofs.pipeline.Pipeline.contents.Goals as goal
 
 pub set_bytes-requires : goal.set_bytes-requires

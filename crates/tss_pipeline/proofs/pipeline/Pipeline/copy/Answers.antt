@@ -1,7 +1,7 @@
 -- The engine copies what the bank has as its job.
 use Rattle.std.proofs.Common.{ap, option_map, ◌∙◌}
 use Rattle.tss_pipeline.specs.BankParts.{copy_told}
-use Rattle.tss_pipeline.proofs.SeenBanks.{engaged_here, seen_copied, seen_no_copy}
+use Rattle.tss_pipeline.proofs.shown.SeenBanks.{engaged_here, seen_copied, seen_no_copy}
 use Rattle.tss_pipeline.proofs.pipeline.Pipeline.copy.Goals as goal
 
 pub copy-requires : goal.copy-requires

@@ -1,7 +1,7 @@
 -- The entry stands in the bank.
 use Rattle.std.proofs.Common.{ap, ◌∙◌}
 use Rattle.std.specs.FinMap.{get}
-use Rattle.tss_pipeline.proofs.SeenBanks.{seen_entries, seen_no_entry}
+use Rattle.tss_pipeline.proofs.shown.SeenBanks.{seen_entries, seen_no_entry}
 use Rattle.tss_pipeline.proofs.pipeline.Pipeline.entry.Goals as goal
 
 pub returns-in-Some : goal.returns-in-Some

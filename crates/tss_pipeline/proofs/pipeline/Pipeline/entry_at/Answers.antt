@@ -1,7 +1,7 @@
 -- The entry stands at its place in the bank.
 use Rattle.std.proofs.Common.{ap, ◌∙◌}
 use Rattle.tss_pipeline.specs.BankParts.{value_at}
-use Rattle.tss_pipeline.proofs.SeenBanks.{seen_entries, seen_no_entry_at}
+use Rattle.tss_pipeline.proofs.shown.SeenBanks.{seen_entries, seen_no_entry_at}
 use Rattle.tss_pipeline.proofs.pipeline.Pipeline.entry_at.Goals as goal
 
 pub returns-in-Some : goal.returns-in-Some

@@ -1,7 +1,7 @@
 -- The version stands in the bank.
 use Rattle.std.proofs.Common.{ap, is_some, ◌∙◌}
 use Rattle.std.specs.FinMap.{get}
-use Rattle.tss_pipeline.proofs.SeenBanks.{version_there, seen_versions, seen_no_version}
+use Rattle.tss_pipeline.proofs.shown.SeenBanks.{version_there, seen_versions, seen_no_version}
 use Rattle.tss_pipeline.proofs.pipeline.Pipeline.has.Goals as goal
 
 pub returns-in-Some : goal.returns-in-Some

@@ -1,7 +1,7 @@
 -- The engine has moved as many.
 use Rattle.std.proofs.Common.{ap, option_map, ◌∙◌}
 use Rattle.tss_protocol.specs.State.{CopyState}
-use Rattle.tss_pipeline.proofs.SeenBanks.{seen_moved, seen_no_copy}
+use Rattle.tss_pipeline.proofs.shown.SeenBanks.{seen_moved, seen_no_copy}
 use Rattle.tss_pipeline.proofs.pipeline.Pipeline.moved.Goals as goal
 
 pub returns-in-Some : goal.returns-in-Some

@@ -1,6 +1,6 @@
 -- The name stands at its place in the bank.
 use Rattle.std.proofs.Common.{◌∙◌}
-use Rattle.tss_pipeline.proofs.SeenBanks.{seen_places, seen_no_place}
+use Rattle.tss_pipeline.proofs.shown.SeenBanks.{seen_places, seen_no_place}
 use Rattle.tss_pipeline.proofs.pipeline.Pipeline.place_at.Goals as goal
 
 pub returns-in-Some : goal.returns-in-Some

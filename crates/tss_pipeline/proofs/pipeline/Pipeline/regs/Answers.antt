@@ -2,7 +2,7 @@
 use Rattle.std.proofs.Common.{ap, ◌∙◌}
 use Rattle.tss_protocol.specs.State.{Busy}
 use Rattle.tss_pipeline.specs.Seen.{PipelineState}
-use Rattle.tss_pipeline.proofs.ReaderLemmas.{part_of_busy, some_busy}
+use Rattle.tss_pipeline.proofs.shown.ReaderLemmas.{part_of_busy, some_busy}
 use Rattle.tss_pipeline.proofs.pipeline.Pipeline.regs.Goals as goal
 
 pub regs-requires : goal.regs-requires

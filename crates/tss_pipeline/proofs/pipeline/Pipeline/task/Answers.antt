@@ -2,7 +2,7 @@
 use Rattle.std.proofs.Common.{sym, ap, ◌∙◌}
 use Rattle.tss_protocol.specs.State.{Busy}
 use Rattle.tss_pipeline.specs.Seen.{PipelineState}
-use Rattle.tss_pipeline.proofs.ReaderLemmas.{part_of_busy}
+use Rattle.tss_pipeline.proofs.shown.ReaderLemmas.{part_of_busy}
 use Rattle.tss_pipeline.proofs.pipeline.Pipeline.task.Goals as goal
 
 pub returns : goal.returns

@@ -4,7 +4,7 @@ use Rattle.std.specs.FinMap.{get}
 use Rattle.tss_protocol.specs.State.{Version}
 use Rattle.tss_versions.specs.declared.version_view.VersionView.{VersionView}
 use Rattle.tss_pipeline.specs.BankParts.{version_shown}
-use Rattle.tss_pipeline.proofs.SeenBanks.{version_told, version_named, seen_versions, seen_no_version}
+use Rattle.tss_pipeline.proofs.shown.SeenBanks.{version_told, version_named, seen_versions, seen_no_version}
 use Rattle.tss_pipeline.proofs.pipeline.Pipeline.version.Goals as goal
 
 pub returns-in-Some-clause-version : goal.returns-in-Some-clause-version

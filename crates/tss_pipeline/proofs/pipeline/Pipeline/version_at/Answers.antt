@@ -3,7 +3,7 @@ use Rattle.std.proofs.Common.{ap, option_map, ◌∙◌}
 use Rattle.tss_maps.specs.Ordered.{key_at}
 use Rattle.tss_versions.specs.declared.version_view.VersionView.{VersionView}
 use Rattle.tss_pipeline.specs.BankParts.{value_at, version_shown}
-use Rattle.tss_pipeline.proofs.SeenBanks.{version_told_at, version_named_at, seen_versions, seen_no_version_at, seen_no_name_at}
+use Rattle.tss_pipeline.proofs.shown.SeenBanks.{version_told_at, version_named_at, seen_versions, seen_no_version_at, seen_no_name_at}
 use Rattle.tss_pipeline.proofs.pipeline.Pipeline.version_at.Goals as goal
 
 pub returns-in-Some-clause-version : goal.returns-in-Some-clause-version

@@ -1,6 +1,6 @@
 -- The gateway holds the operand that is acknowledged.
 use Rattle.std.proofs.Common.{refl}
-use Rattle.tss_pipeline.proofs.AckLemmas.{ack_there, ack_held, does_ack}
+use Rattle.tss_pipeline.proofs.front_rows.AckLemmas.{ack_there, ack_held, does_ack}
 use Rattle.tss_pipeline.proofs.units.Units.ack.Goals as goal
 
 pub take_ack-requires : goal.take_ack-requires

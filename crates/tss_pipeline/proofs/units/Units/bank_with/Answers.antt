@@ -4,7 +4,7 @@ use Rattle.std.specs.Prelude.{slice_get, is_some}
 use Rattle.std.specs.FinMap.{get}
 use Rattle.std.proofs.lemmas.Option.{same_Some, slice_get_within}
 use Rattle.tss_pipeline.specs.declared.bank.Bank.{Bank}
-use Rattle.tss_pipeline.proofs.VersionLookups.{read_there, none_there, here_or_before}
+use Rattle.tss_pipeline.proofs.version_rows.VersionLookups.{read_there, none_there, here_or_before}
 use Rattle.tss_pipeline.proofs.units.Units.bank_with.Goals as goal
 
 pub returns-then-has : goal.returns-then-has

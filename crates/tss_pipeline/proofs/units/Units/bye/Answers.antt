@@ -1,5 +1,5 @@
 -- The farewell's message is there.
-use Rattle.tss_pipeline.proofs.StationLemmas.{bye_there, does_bye}
+use Rattle.tss_pipeline.proofs.front_rows.StationLemmas.{bye_there, does_bye}
 use Rattle.tss_pipeline.proofs.units.Units.bye.Goals as goal
 
 pub take_bye-promised-requires : goal.take_bye-promised-requires

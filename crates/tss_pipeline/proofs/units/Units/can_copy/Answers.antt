@@ -4,7 +4,7 @@ use Rattle.std.specs.FinMap.{get}
 use Rattle.std.specs.Prelude.{is_some}
 use Rattle.tss_protocol.specs.UnitMachine.{is_enabled}
 use Rattle.tss_pipeline.specs.State.{copies_from}
-use Rattle.tss_pipeline.proofs.CopyLemmas.{copy_here, no_copy_here, job_there, at_place, test_less, test_not_less}
+use Rattle.tss_pipeline.proofs.worker_rows.CopyLemmas.{copy_here, no_copy_here, job_there, at_place, test_less, test_not_less}
 use Rattle.tss_pipeline.proofs.units.Units.can_copy.Goals as goal
 
 pub returns-in-Some : goal.returns-in-Some

@@ -4,7 +4,7 @@ use Rattle.std.specs.FinMap.{get}
 use Rattle.tss_protocol.specs.Names.{bank_of}
 use Rattle.tss_protocol.specs.Renaming.{wait_number}
 use Rattle.tss_renaming.specs.Decoding.{wait_here}
-use Rattle.tss_pipeline.proofs.RenamingBanks.{decode_letter_there, decode_letter_none, some_banks, bank_there, wait_joined, none_to_decode, is_none_by, is_none-mapped}
+use Rattle.tss_pipeline.proofs.renaming_rows.RenamingBanks.{decode_letter_there, decode_letter_none, some_banks, bank_there, wait_joined, none_to_decode, is_none_by, is_none-mapped}
 use Rattle.tss_pipeline.proofs.units.Units.can_decode.Goals as goal
 
 pub bank_of-bank-requires-clause-some : goal.bank_of-bank-requires-clause-some

@@ -3,7 +3,7 @@ use Rattle.std.proofs.Common.{ap, ◌∙◌, option_map}
 use Rattle.tss_model.specs.MainStep.{call_of}
 use Rattle.tss_protocol.specs.MainEvent.{may_call}
 use Rattle.tss_pipeline.specs.State.{state_of}
-use Rattle.tss_pipeline.proofs.MainCalls.{main_goes, main_stops, same_call}
+use Rattle.tss_pipeline.proofs.shown.MainCalls.{main_goes, main_stops, same_call}
 use Rattle.tss_pipeline.proofs.units.Units.can_main.Goals as goal
 
 pub returns-then-goes_on : goal.returns-then-goes_on

@@ -1,7 +1,7 @@
 -- Whether a version may be opened.
 use Rattle.std.proofs.Common.{◌≡◌, Some, sym, ap, ◌∙◌, subst}
 use Rattle.std.specs.Prelude.{slice_get, option_map}
-use Rattle.tss_pipeline.proofs.VersionLookups.{some_banks, read_there, opening_seen, no_opening_seen, opens_not, opens_first, opens_behind}
+use Rattle.tss_pipeline.proofs.version_rows.VersionLookups.{some_banks, read_there, opening_seen, no_opening_seen, opens_not, opens_first, opens_behind}
 use Rattle.tss_pipeline.proofs.units.Units.can_open.Goals as goal
 
 pub bank_of-bank-requires-clause-some : goal.bank_of-bank-requires-clause-some

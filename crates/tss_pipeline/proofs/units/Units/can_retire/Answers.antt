@@ -2,9 +2,9 @@
 use Rattle.std.proofs.Common.{sym, ◌∙◌, arith}
 use Rattle.std.specs.FinMap.{get}
 use Rattle.std.proofs.lemmas.Option.{slice_get_within}
-use Rattle.tss_pipeline.proofs.VersionLookups.{in_read, is_some-mapped}
-use Rattle.tss_pipeline.proofs.VersionEvents.{something}
-use Rattle.tss_pipeline.proofs.VersionRetiring.{none_told, retires_not, retires_nowhere, retires_home, retires_away}
+use Rattle.tss_pipeline.proofs.version_rows.VersionLookups.{in_read, is_some-mapped}
+use Rattle.tss_pipeline.proofs.version_rows.VersionEvents.{something}
+use Rattle.tss_pipeline.proofs.version_rows.VersionRetiring.{none_told, retires_not, retires_nowhere, retires_home, retires_away}
 use Rattle.tss_pipeline.proofs.units.Units.can_retire.Goals as goal
 
 pub returns-then-not-has : goal.returns-then-not-has

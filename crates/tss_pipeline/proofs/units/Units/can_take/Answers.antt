@@ -1,6 +1,6 @@
 -- The inbox's task may be taken by the tests of the gateway and the stations.
 use Rattle.std.proofs.Common.{true, false, None, refl, sym, ◌∙◌}
-use Rattle.tss_pipeline.proofs.TakeLemmas.{may_take_by, arrives, may_take}
+use Rattle.tss_pipeline.proofs.front_rows.TakeLemmas.{may_take_by, arrives, may_take}
 use Rattle.tss_pipeline.proofs.units.Units.can_take.Goals as goal
 
 pub room-requires : goal.room-requires

@@ -5,8 +5,8 @@ use Rattle.tss_base.specs.declared.event.Event.TheVariants as event
 use Rattle.tss_pipeline.specs.declared.enabling.Source.{Source}
 use Rattle.tss_pipeline.specs.Enabling.{candidates_of}
 use Rattle.tss_pipeline.specs.State.{state_of}
-use Rattle.tss_pipeline.proofs.EnabledKinds.{enabled_by_kinds}
-use Rattle.tss_pipeline.proofs.FilteredLists.{length-numbers, number_from_zero}
+use Rattle.tss_pipeline.proofs.listed.EnabledKinds.{enabled_by_kinds}
+use Rattle.tss_pipeline.proofs.listed.FilteredLists.{length-numbers, number_from_zero}
 use Rattle.tss_pipeline.proofs.units.Units.candidate.Goals as goal
 
 pub returns-in-Start : goal.returns-in-Start

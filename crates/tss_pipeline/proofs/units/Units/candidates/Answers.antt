@@ -3,7 +3,7 @@ use Rattle.tss_base.specs.declared.event.Event.TheVariants as event
 use Rattle.tss_pipeline.specs.declared.enabling.Source.{Source}
 use Rattle.tss_pipeline.specs.Enabling.{candidates_of}
 use Rattle.tss_pipeline.specs.State.{state_of}
-use Rattle.tss_pipeline.proofs.FilteredLists.{length-numbers}
+use Rattle.tss_pipeline.proofs.listed.FilteredLists.{length-numbers}
 use Rattle.tss_pipeline.proofs.units.Units.candidates.Goals as goal
 
 pub returns-in-Start : goal.returns-in-Start

@@ -1,6 +1,6 @@
 use Rattle.std.proofs.Common.{◌≡◌, ◌+◌, ◌*◌, ◌<◌, Some, sym, ap, ◌∙◌, arith}
-use Rattle.tss_pipeline.proofs.SizeLemmas.{few_banks}
-use Rattle.tss_pipeline.proofs.Banks.{letters_of_banks}
+use Rattle.tss_pipeline.proofs.places.SizeLemmas.{few_banks}
+use Rattle.tss_pipeline.proofs.places.Banks.{letters_of_banks}
 use Rattle.tss_pipeline.proofs.units.Units.close.Goals as goal
 
 pub end_banks-ended-requires-clause-numbers : goal.end_banks-ended-requires-clause-numbers

@@ -12,8 +12,8 @@ use Rattle.tss_mail.specs.Letters.{mail_of}
 use Rattle.tss_conditions.specs.Posting.{MayPostAll}
 use Rattle.tss_pipeline.specs.declared.bank.Bank.{Bank}
 use Rattle.tss_pipeline.specs.Pieces.{CopiesWithin, gone_messages, gones_with}
-use Rattle.tss_pipeline.proofs.Grounds.{does}
-use Rattle.tss_pipeline.proofs.BankCopies.{copies, copies_within, buffer_place, piece_there, can_write, may_send, piece_state, banks_left, placed_left, index_copies, piece_of_bank}
+use Rattle.tss_pipeline.proofs.places.Grounds.{does}
+use Rattle.tss_pipeline.proofs.worker_rows.BankCopies.{copies, copies_within, buffer_place, piece_there, can_write, may_send, piece_state, banks_left, placed_left, index_copies, piece_of_bank}
 use Rattle.tss_pipeline.proofs.units.Units.copy.Goals as goal
 
 pub index_mut-requires : goal.index_mut-requires

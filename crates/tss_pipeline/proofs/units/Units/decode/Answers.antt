@@ -6,9 +6,9 @@ use Rattle.tss_protocol.specs.Mail.{posted_all}
 use Rattle.tss_renaming.specs.Holding.{HoldsAlone}
 use Rattle.tss_events.specs.Events.{messages_of}
 use Rattle.tss_pipeline.specs.Letters.{with_letters}
-use Rattle.tss_pipeline.proofs.RenamingBanks.{some_banks}
-use Rattle.tss_pipeline.proofs.RenamedState.{sent_fresh, sent_room}
-use Rattle.tss_pipeline.proofs.DecodingLemmas.{decode_letter_by, waits_for_nothing, new_place, new_buffer, room_for_use, has_buffer, decode_sent, decode_does}
+use Rattle.tss_pipeline.proofs.renaming_rows.RenamingBanks.{some_banks}
+use Rattle.tss_pipeline.proofs.renaming_rows.RenamedState.{sent_fresh, sent_room}
+use Rattle.tss_pipeline.proofs.renaming_rows.DecodingLemmas.{decode_letter_by, waits_for_nothing, new_place, new_buffer, room_for_use, has_buffer, decode_sent, decode_does}
 use Rattle.tss_pipeline.proofs.units.Units.decode.Goals as goal
 
 pub take_decode-operand-requires : goal.take_decode-operand-requires

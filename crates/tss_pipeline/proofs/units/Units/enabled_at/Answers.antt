@@ -5,7 +5,7 @@ use Rattle.tss_pipeline.specs.declared.enabling.Source.TheVariants as source
 use Rattle.tss_pipeline.specs.declared.enabling.TheConstants.{SOURCES}
 use Rattle.tss_pipeline.specs.Enabling.{enabled_of_kind, enabled_of_kinds}
 use Rattle.tss_pipeline.specs.State.{state_of}
-use Rattle.tss_pipeline.proofs.FewEvents.{all_by_kinds, find_kind, find_further, find_none}
+use Rattle.tss_pipeline.proofs.listed.FewEvents.{all_by_kinds, find_kind, find_further, find_none}
 use Rattle.tss_pipeline.proofs.units.Units.enabled_at.Goals as goal
 
 pub loop-kind-init : goal.loop-kind-init

@@ -5,8 +5,8 @@ use Rattle.tss_base.specs.declared.event.Event.{Event}
 use Rattle.tss_protocol.specs.UnitMachine.{is_enabled}
 use Rattle.tss_pipeline.specs.Enabling.{candidates_of}
 use Rattle.tss_pipeline.specs.State.{state_of}
-use Rattle.tss_pipeline.proofs.FreeEvents.{free_kind}
-use Rattle.tss_pipeline.proofs.FilteredLists.{found_here, found_later, found_beside}
+use Rattle.tss_pipeline.proofs.listed.FreeEvents.{free_kind}
+use Rattle.tss_pipeline.proofs.listed.FilteredLists.{found_here, found_later, found_beside}
 use Rattle.tss_pipeline.proofs.units.Units.enabled_in.Goals as goal
 use Rattle.tss_pipeline.proofs.units.Units.enabled_in.Goals.{then-is_enabled+else-left-eq0, else-is_enabled}
 

@@ -4,8 +4,8 @@ use Rattle.tss_base.specs.declared.event.Event.{Event}
 use Rattle.tss_protocol.specs.UnitMachine.{is_enabled}
 use Rattle.tss_pipeline.specs.Enabling.{candidates_of}
 use Rattle.tss_pipeline.specs.State.{state_of}
-use Rattle.tss_pipeline.proofs.FreeEvents.{free_kind}
-use Rattle.tss_pipeline.proofs.FilteredLists.{counted_one, counted_none, count_within}
+use Rattle.tss_pipeline.proofs.listed.FreeEvents.{free_kind}
+use Rattle.tss_pipeline.proofs.listed.FilteredLists.{counted_one, counted_none, count_within}
 use Rattle.tss_pipeline.proofs.units.Units.enabled_of.Goals as goal
 use Rattle.tss_pipeline.proofs.units.Units.enabled_of.Goals.{then-is_enabled, else-is_enabled}
 

@@ -5,11 +5,11 @@ use Rattle.tss_base.specs.declared.event.Event.TheVariants as event
 use Rattle.tss_protocol.specs.Workers.{can_exec}
 use Rattle.tss_workers.specs.Seen.{busy_of, WhereBusy, CanGoOn, ExecutesIn}
 use Rattle.tss_pipeline.specs.Fit.{ground_of}
-use Rattle.tss_pipeline.proofs.Grounds.{does}
-use Rattle.tss_pipeline.proofs.Placing.{placed_workers}
-use Rattle.tss_pipeline.proofs.BusyLemmas.{passes_not, exec_test, exec_worker}
-use Rattle.tss_pipeline.proofs.SeatedTasks.{some_banks}
-use Rattle.tss_pipeline.proofs.ExecLemmas.{can_go_on, executed_state, left_holds}
+use Rattle.tss_pipeline.proofs.places.Grounds.{does}
+use Rattle.tss_pipeline.proofs.places.Placing.{placed_workers}
+use Rattle.tss_pipeline.proofs.worker_rows.BusyLemmas.{passes_not, exec_test, exec_worker}
+use Rattle.tss_pipeline.proofs.worker_rows.SeatedTasks.{some_banks}
+use Rattle.tss_pipeline.proofs.worker_rows.ExecLemmas.{can_go_on, executed_state, left_holds}
 use Rattle.tss_pipeline.proofs.units.Units.exec.Goals as goal
 
 pub exec-requires-clause-banks : goal.exec-requires-clause-banks

@@ -15,9 +15,9 @@ use Rattle.tss_workers.specs.Seen.{busy_of, workers_of}
 use Rattle.tss_conditions.specs.Posting.{MayPostAll}
 use Rattle.tss_pipeline.specs.Fit.{ArePlaced, ground_of}
 use Rattle.tss_pipeline.specs.State.{state_of, held_trap}
-use Rattle.tss_pipeline.proofs.Grounds.{does}
-use Rattle.tss_pipeline.proofs.Placing.{placed_workers}
-use Rattle.tss_pipeline.proofs.BusyLemmas.{passes_not, finish_test, finish_worker, ended_is, worker_within, few_in_flight, may_release, busy_there, finished_state}
+use Rattle.tss_pipeline.proofs.places.Grounds.{does}
+use Rattle.tss_pipeline.proofs.places.Placing.{placed_workers}
+use Rattle.tss_pipeline.proofs.worker_rows.BusyLemmas.{passes_not, finish_test, finish_worker, ended_is, worker_within, few_in_flight, may_release, busy_there, finished_state}
 use Rattle.tss_pipeline.proofs.units.Units.finish.Goals as goal
 
 pub finish-requires : goal.finish-requires

@@ -7,9 +7,9 @@ use Rattle.tss_renaming.specs.Bank.{RenamingState, state_after_gone}
 use Rattle.tss_events.specs.Events.{gone_of}
 use Rattle.tss_pipeline.specs.Does.{Does}
 use Rattle.tss_pipeline.specs.Fit.{HoldsGone}
-use Rattle.tss_pipeline.proofs.RenamingBanks.{some_banks, bank_there}
-use Rattle.tss_pipeline.proofs.GoneBanks.{gone_letter}
-use Rattle.tss_pipeline.proofs.GoneLemmas.{gone_does}
+use Rattle.tss_pipeline.proofs.renaming_rows.RenamingBanks.{some_banks, bank_there}
+use Rattle.tss_pipeline.proofs.renaming_rows.GoneBanks.{gone_letter}
+use Rattle.tss_pipeline.proofs.renaming_rows.GoneLemmas.{gone_does}
 use Rattle.tss_pipeline.proofs.units.Units.gone.Goals as goal
 
 pub take_gone-gone-requires : goal.take_gone-gone-requires

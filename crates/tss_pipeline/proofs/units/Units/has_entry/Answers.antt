@@ -1,6 +1,6 @@
 -- The entry of the object stands in its bank.
 use Rattle.std.proofs.Common.{None, ◌∙◌}
-use Rattle.tss_pipeline.proofs.BankFills.{some_bank, entry_read}
+use Rattle.tss_pipeline.proofs.shown.BankFills.{some_bank, entry_read}
 use Rattle.tss_pipeline.proofs.units.Units.has_entry.Goals as goal
 
 pub bank_of-bank-requires-clause-some : goal.bank_of-bank-requires-clause-some

@@ -2,7 +2,7 @@
 use Rattle.std.proofs.Common.{ap, ◌∙◌}
 use Rattle.std.specs.List.{list_all}
 use Rattle.tss_pipeline.specs.Emptiness.{is_empty}
-use Rattle.tss_pipeline.proofs.EmptyBanks.{empty_banks}
+use Rattle.tss_pipeline.proofs.ends.EmptyBanks.{empty_banks}
 use Rattle.tss_pipeline.proofs.units.Units.has_no_object.Goals as goal
 
 pub returns : goal.returns

@@ -4,9 +4,9 @@ use Rattle.tss_base.specs.declared.event.Event.TheVariants as event
 use Rattle.tss_protocol.specs.Mail.{posted_all}
 use Rattle.tss_events.specs.Events.{messages_of}
 use Rattle.tss_pipeline.specs.Letters.{with_letters}
-use Rattle.tss_pipeline.proofs.RenamingBanks.{some_banks}
-use Rattle.tss_pipeline.proofs.RenamedState.{sent_fresh, sent_room}
-use Rattle.tss_pipeline.proofs.IdleLemmas.{idle_letter, idle_sent, idle_does}
+use Rattle.tss_pipeline.proofs.renaming_rows.RenamingBanks.{some_banks}
+use Rattle.tss_pipeline.proofs.renaming_rows.RenamedState.{sent_fresh, sent_room}
+use Rattle.tss_pipeline.proofs.renaming_rows.IdleLemmas.{idle_letter, idle_sent, idle_does}
 use Rattle.tss_pipeline.proofs.units.Units.idle.Goals as goal
 
 pub take_idle-base-requires : goal.take_idle-base-requires

@@ -2,7 +2,7 @@
 use Rattle.std.proofs.Common.{sym, ap, ◌∙◌}
 use Rattle.tss_mail.specs.Letters.{MailState}
 use Rattle.tss_base.specs.declared.event.Event.TheVariants as event
-use Rattle.tss_pipeline.proofs.StationLemmas.{sent_fresh, sent_room, link_there, link_sent, does_link}
+use Rattle.tss_pipeline.proofs.front_rows.StationLemmas.{sent_fresh, sent_room, link_there, link_sent, does_link}
 use Rattle.tss_pipeline.proofs.units.Units.link.Goals as goal
 
 pub take_link-next-requires : goal.take_link-next-requires

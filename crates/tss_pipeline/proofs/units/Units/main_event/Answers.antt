@@ -1,6 +1,6 @@
 -- Main's step is a call exactly where there is a number, and a spawn finds the inbox empty.
 use Rattle.std.proofs.Common.{Some, None, refl}
-use Rattle.tss_pipeline.proofs.MainLemmas.{does_stretch, does_call, inbox_empty, does_spawn}
+use Rattle.tss_pipeline.proofs.front_rows.MainLemmas.{does_stretch, does_call, inbox_empty, does_spawn}
 use Rattle.tss_pipeline.proofs.units.Units.main_event.Goals as goal
 
 pub returns-then-is_none : goal.returns-then-is_none

@@ -2,7 +2,7 @@
 use Rattle.std.proofs.Common.{ap, ◌∙◌, length}
 use Rattle.tss_protocol.specs.Counts.{greatest}
 use Rattle.tss_pipeline.specs.Emptiness.{fill_at}
-use Rattle.tss_pipeline.proofs.BankFills.{all_entries}
+use Rattle.tss_pipeline.proofs.shown.BankFills.{all_entries}
 use Rattle.tss_pipeline.proofs.units.Units.most_entries.Goals as goal
 
 pub returns : goal.returns

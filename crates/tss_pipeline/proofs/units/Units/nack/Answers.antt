@@ -1,9 +1,9 @@
 -- A version may not retire.
 use Rattle.std.proofs.Common.{arith}
 use Rattle.std.proofs.lemmas.Option.{slice_get_within}
-use Rattle.tss_pipeline.proofs.VersionLookups.{in_read}
-use Rattle.tss_pipeline.proofs.VersionSteps.{chained_here}
-use Rattle.tss_pipeline.proofs.VersionEvents.{nack_there, nack_somewhere, nack_done}
+use Rattle.tss_pipeline.proofs.version_rows.VersionLookups.{in_read}
+use Rattle.tss_pipeline.proofs.version_rows.VersionSteps.{chained_here}
+use Rattle.tss_pipeline.proofs.version_rows.VersionEvents.{nack_there, nack_somewhere, nack_done}
 use Rattle.tss_pipeline.proofs.units.Units.nack.Goals as goal
 
 pub unreachable-requires : goal.unreachable-requires

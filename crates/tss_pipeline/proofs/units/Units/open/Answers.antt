@@ -2,8 +2,8 @@ use Rattle.std.proofs.Common.{◌≡◌, None, refl, sym, ap, ◌∙◌}
 use Rattle.tss_base.specs.declared.machine.Key.TheVariants as key
 use Rattle.tss_model.specs.MainStep.{main_start}
 use Rattle.tss_mail.specs.Letters.{no_letters}
-use Rattle.tss_pipeline.proofs.SizeLemmas.{few_operands}
-use Rattle.tss_pipeline.proofs.OpeningLemmas.{opened}
+use Rattle.tss_pipeline.proofs.places.SizeLemmas.{few_operands}
+use Rattle.tss_pipeline.proofs.ends.OpeningLemmas.{opened}
 use Rattle.tss_pipeline.proofs.units.Units.open.Goals as goal
 
 pub open-requires : goal.open-requires

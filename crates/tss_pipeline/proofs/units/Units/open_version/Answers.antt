@@ -1,8 +1,8 @@
 -- A version is registered.
 use Rattle.std.proofs.Common.{refl}
-use Rattle.tss_pipeline.proofs.VersionLookups.{some_banks, read_there}
-use Rattle.tss_pipeline.proofs.VersionSteps.{chained_here}
-use Rattle.tss_pipeline.proofs.VersionOpening.{open_there, open_may, open_bare, open_not_blocked, open_done}
+use Rattle.tss_pipeline.proofs.version_rows.VersionLookups.{some_banks, read_there}
+use Rattle.tss_pipeline.proofs.version_rows.VersionSteps.{chained_here}
+use Rattle.tss_pipeline.proofs.version_rows.VersionOpening.{open_there, open_may, open_bare, open_not_blocked, open_done}
 use Rattle.tss_pipeline.proofs.units.Units.open_version.Goals as goal
 
 pub take_open-opening-requires : goal.take_open-opening-requires

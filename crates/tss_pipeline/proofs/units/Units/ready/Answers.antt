@@ -2,7 +2,7 @@
 use Rattle.std.proofs.Common.{sym, ap, ◌∙◌}
 use Rattle.tss_mail.specs.Letters.{MailState}
 use Rattle.tss_base.specs.declared.event.Event.TheVariants as event
-use Rattle.tss_pipeline.proofs.StationLemmas.{sent_fresh, sent_room, ready_there, ready_sent, ready_room, does_ready}
+use Rattle.tss_pipeline.proofs.front_rows.StationLemmas.{sent_fresh, sent_room, ready_there, ready_sent, ready_room, does_ready}
 use Rattle.tss_pipeline.proofs.units.Units.ready.Goals as goal
 
 pub take_ready-storage-requires : goal.take_ready-storage-requires

@@ -1,7 +1,7 @@
 -- A task has finished with a version.
-use Rattle.tss_pipeline.proofs.VersionLookups.{some_banks, read_there}
-use Rattle.tss_pipeline.proofs.VersionSteps.{chained_here}
-use Rattle.tss_pipeline.proofs.VersionEvents.{something, release_there, releaser_flies, release_registered, release_readers, release_done}
+use Rattle.tss_pipeline.proofs.version_rows.VersionLookups.{some_banks, read_there}
+use Rattle.tss_pipeline.proofs.version_rows.VersionSteps.{chained_here}
+use Rattle.tss_pipeline.proofs.version_rows.VersionEvents.{something, release_there, releaser_flies, release_registered, release_readers, release_done}
 use Rattle.tss_pipeline.proofs.units.Units.release.Goals as goal
 
 pub bank_of_operand-bank-requires-clause-some : goal.bank_of_operand-bank-requires-clause-some

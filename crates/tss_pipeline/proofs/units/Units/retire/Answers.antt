@@ -8,8 +8,8 @@ use Rattle.tss_events.specs.Events.{message_of}
 use Rattle.tss_mail.specs.Letters.{mail_of, with_letter}
 use Rattle.tss_protocol.specs.Mail.{message_at, name_of, posted}
 use Rattle.tss_pipeline.specs.Does.{Does}
-use Rattle.tss_pipeline.proofs.VersionLookups.{in_read}
-use Rattle.tss_pipeline.proofs.VersionRetiring.{retire_there, retire_somewhere, retire_brings, brought_now, brought_later, home_room, home_fresh, home_does, copy_does}
+use Rattle.tss_pipeline.proofs.version_rows.VersionLookups.{in_read}
+use Rattle.tss_pipeline.proofs.version_rows.VersionRetiring.{retire_there, retire_somewhere, retire_brings, brought_now, brought_later, home_room, home_fresh, home_does, copy_does}
 use Rattle.tss_pipeline.proofs.units.Units.retire.Goals as goal
 
 pub unreachable-requires : goal.unreachable-requires

@@ -4,11 +4,11 @@ use Rattle.std.specs.FinMap.{get}
 use Rattle.tss_base.specs.declared.event.Event.TheVariants as event
 use Rattle.tss_stations.specs.Views.{flight_of}
 use Rattle.tss_pipeline.specs.Fit.{ground_of}
-use Rattle.tss_pipeline.proofs.Grounds.{does}
-use Rattle.tss_pipeline.proofs.Placing.{placed_workers}
-use Rattle.tss_pipeline.proofs.SeatedTasks.{some_banks}
-use Rattle.tss_pipeline.proofs.StorageLemmas.{idle_not_busy}
-use Rattle.tss_pipeline.proofs.TaskStarts.{begins, start_within, not_empty, startable, not_lost, task_shown, task_few, listed_few, are_held, works, begun_state, begun_holds}
+use Rattle.tss_pipeline.proofs.places.Grounds.{does}
+use Rattle.tss_pipeline.proofs.places.Placing.{placed_workers}
+use Rattle.tss_pipeline.proofs.worker_rows.SeatedTasks.{some_banks}
+use Rattle.tss_pipeline.proofs.worker_rows.StorageLemmas.{idle_not_busy}
+use Rattle.tss_pipeline.proofs.worker_rows.TaskStarts.{begins, start_within, not_empty, startable, not_lost, task_shown, task_few, listed_few, are_held, works, begun_state, begun_holds}
 use Rattle.tss_pipeline.proofs.units.Units.start.Goals as goal
 
 pub unreachable-requires : goal.unreachable-requires

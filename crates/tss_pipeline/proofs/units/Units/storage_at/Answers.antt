@@ -5,7 +5,7 @@ use Rattle.tss_base.specs.declared.operand.Mode.TheVariants as mode
 use Rattle.tss_stations.specs.declared.operand_view.OperandView.{OperandView}
 use Rattle.tss_pipeline.specs.Beginning.{IsStored}
 use Rattle.tss_pipeline.specs.Fit.{ground_of}
-use Rattle.tss_pipeline.proofs.StorageLemmas.{taken_there}
+use Rattle.tss_pipeline.proofs.worker_rows.StorageLemmas.{taken_there}
 use Rattle.tss_pipeline.proofs.units.Units.storage_at.Goals as goal
 
 pub storage_of-requires-clause-held : goal.storage_of-requires-clause-held

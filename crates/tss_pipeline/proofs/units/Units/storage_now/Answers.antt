@@ -5,8 +5,8 @@ use Rattle.std.proofs.lemmas.Option.{same_Some}
 use Rattle.tss_base.specs.declared.operand.Storage.TheVariants as storage
 use Rattle.tss_pipeline.specs.declared.bank.Bank.{Bank}
 use Rattle.tss_pipeline.specs.Beginning.{told_name}
-use Rattle.tss_pipeline.proofs.CopyLemmas.{at_place}
-use Rattle.tss_pipeline.proofs.StorageLemmas.{not_there}
+use Rattle.tss_pipeline.proofs.worker_rows.CopyLemmas.{at_place}
+use Rattle.tss_pipeline.proofs.worker_rows.StorageLemmas.{not_there}
 use Rattle.tss_pipeline.proofs.units.Units.storage_now.Goals as goal
 
 pub unreachable-requires : goal.unreachable-requires

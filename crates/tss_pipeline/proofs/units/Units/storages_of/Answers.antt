@@ -3,7 +3,7 @@ use Rattle.std.proofs.Common.{◌<◌, length, set, slice_get, refl, sym, ◌∙
 use Rattle.std.proofs.lemmas.List.{length-set}
 use Rattle.tss_pipeline.specs.Fit.{ground_of}
 use Rattle.tss_pipeline.specs.Beginning.{IsStoredAt}
-use Rattle.tss_pipeline.proofs.StorageLemmas.{last_or_before, written_place, written_beside}
+use Rattle.tss_pipeline.proofs.worker_rows.StorageLemmas.{last_or_before, written_place, written_beside}
 use Rattle.tss_pipeline.proofs.units.Units.storages_of.Goals as goal
 
 pub loop-place-init : goal.loop-place-init

@@ -1,7 +1,7 @@
 -- The inbox's task has a slot, and its decodes may be sent.
 use Rattle.std.proofs.Common.{refl, sym, ap, ◌∙◌, subst, length}
 use Rattle.tss_pipeline.specs.Lines.{lined, AwaitDecodes}
-use Rattle.tss_pipeline.proofs.TakeLemmas.{arrives, not_blocked, await_first, slot_free, queue_free, lines_free, decodes_fresh, decodes_free, does_take}
+use Rattle.tss_pipeline.proofs.front_rows.TakeLemmas.{arrives, not_blocked, await_first, slot_free, queue_free, lines_free, decodes_fresh, decodes_free, does_take}
 use Rattle.tss_pipeline.proofs.units.Units.take.Goals as goal
 
 pub take-requires : goal.take-requires

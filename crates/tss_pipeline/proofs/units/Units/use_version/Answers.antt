@@ -1,8 +1,8 @@
 -- A reader is enlisted.
-use Rattle.tss_pipeline.proofs.VersionLookups.{some_banks, read_there, user_flies}
+use Rattle.tss_pipeline.proofs.version_rows.VersionLookups.{some_banks, read_there, user_flies}
 use Rattle.std.proofs.Common.{refl, subst, sym}
 use Rattle.std.specs.Prelude.{IsSome}
-use Rattle.tss_pipeline.proofs.VersionEvents.{use_there, use_registered, use_readers, use_not_blocked, use_done}
+use Rattle.tss_pipeline.proofs.version_rows.VersionEvents.{use_there, use_registered, use_readers, use_not_blocked, use_done}
 use Rattle.tss_pipeline.proofs.units.Units.use_version.Goals as goal
 
 pub bank_of_operand-bank-requires-clause-some : goal.bank_of_operand-bank-requires-clause-some

@@ -1,0 +1,9 @@
+pub mod SizeLemmas
+pub mod AppendedLemmas
+pub mod LetterLemmas
+pub mod BankChanges
+pub mod Holds
+pub mod Lookups
+pub mod Placing
+pub mod Grounds
+pub mod Banks

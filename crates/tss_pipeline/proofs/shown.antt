@@ -1,0 +1,6 @@
+pub mod BankFills
+pub mod ReaderLemmas
+pub mod BankPartLemmas
+pub mod SeenBanks
+pub mod DecodingObjects
+pub mod MainCalls

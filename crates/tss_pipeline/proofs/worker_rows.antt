@@ -1,0 +1,10 @@
+pub mod ReleaseLemmas
+pub mod BusyLemmas
+pub mod StorageLemmas
+pub mod BufferSeats
+pub mod ImageRanges
+pub mod SeatedTasks
+pub mod ExecLemmas
+pub mod TaskStarts
+pub mod CopyLemmas
+pub mod BankCopies

@@ -1,0 +1,4 @@
+pub mod Drawing
+pub mod SeededRuns
+pub mod GivenRuns
+pub mod drives

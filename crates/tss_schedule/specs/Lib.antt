@@ -1,0 +1,5 @@
+pub mod Picks
+pub mod Goings
+pub mod Seeds
+pub mod Givens
+pub mod Driving

@@ -1,0 +1,4 @@
+pub mod OverLemmas
+pub mod SeedLemmas
+pub mod LineLemmas
+pub mod LogFileLemmas
