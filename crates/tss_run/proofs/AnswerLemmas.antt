@@ -1,5 +1,5 @@
 -- From the answers of the parts to what the bytes of a file come to.
-use Rattle.std.proofs.Common.{◌≡◌, ℕ, List, Some, None, Result, Ok, Err, sym, ap, ◌∙◌}
+use Rattle.std.proofs.Common.{◌≡◌, ℕ, List, Option, Some, None, Result, Ok, Err, refl, sym, ap, ◌∙◌}
 use Rattle.tss_base.specs.Image.{ImageState}
 use Rattle.tss_base.specs.declared.machine.Machine.{Machine}
 use Rattle.tss_elf.specs.Elf.{Refused, Accepted, image_of}
@@ -8,9 +8,12 @@ use Rattle.tss_machine.specs.declared.fault.MachineFault.TheVariants as fault
 use Rattle.tss_machine.specs.Description.{machine_of}
 use Rattle.tss_machine.specs.Description as description
 use Rattle.tss_protocol.specs.Migration.{migrated}
+use Rattle.tss_unit_runs.specs.Runs.{fault_of}
+use Rattle.tss_unit_runs.specs.declared.faults.LineFault.{LineFault}
+use Rattle.tss_unit_runs.specs.declared.faults.LineFault.TheVariants as line
 use Rattle.tss_run.specs.declared.outcome.Refusal.TheVariants as refusal
 use Rattle.tss_run.specs.MachineCheck.{BadMachineState, bad_machine_of}
-use Rattle.tss_run.specs.Work.{machine_refused, machine_answer, described_machine, image_answer, accepted_image, migration_answer, migrated_log}
+use Rattle.tss_run.specs.Work.{machine_refused, machine_answer, described_machine, image_answer, accepted_image, migration_answer, migrated_log, line_fault}
 
 none_some : {X : Type 0} {x : X} → None ≡ Some x → ⊥
 none_some e = cc
@@ -48,6 +51,13 @@ pub migrated-ok : (bytes log : List ℕ) → migrated bytes ≡ Ok log → Ok lo
 unfolding migrated_log
 migrated-ok bytes log e = sym (ap migration_answer e)
 
-pub migrated-err : (bytes : List ℕ) (n : ℕ) → migrated bytes ≡ Err n → Err (refusal.BadLine n) ≡ migrated_log bytes
+pub migrated-err : (bytes : List ℕ) (n : ℕ) → migrated bytes ≡ Err n → Err (refusal.Schedule (line.BadLine n)) ≡ migrated_log bytes
 unfolding migrated_log
 migrated-err bytes n e = sym (ap migration_answer e)
+
+-- a fault of a line is one again
+pub line_same : (fault : LineFault) → line_fault (fault_of fault) ≡ fault
+line_same (line.BadLine n) = refl
+line_same (line.NotEnabled n) = refl
+line_same (line.Short n) = refl
+line_same (line.Long n) = refl

@@ -1,8 +1,9 @@
 -- From an outcome that is due, and its text written or cut short, to what is claimed of a call.
-use Rattle.std.proofs.Common.{◌≡◌, ◌≢◌, ◌⊎◌, inl, inr, ℕ, ◌<◌, ◌≤◌, [], Option, Some, None, IfSome, unwrap_or, All, Result, Ok, Err, refl, sym, ap, ◌∙◌, subst, arith}
+use Rattle.std.proofs.Common.{◌≡◌, ◌≢◌, ◌⊎◌, inl, inr, ℕ, ◌<◌, ◌≤◌, List, [], ◌++◌, Option, Some, None, IfSome, unwrap_or, All, Result, Ok, Err, refl, sym, ap, ◌∙◌, subst, arith}
 use Rattle.std.proofs.lemmas.List.{append-nil}
 use Rattle.tss_base.specs.declared.ending.Ending.{Ending}
 use Rattle.tss_base.specs.declared.ending.Ending.TheVariants as ending
+use Rattle.tss_model.specs.InOrder.{in_order}
 use Rattle.tss_outside.specs.Outside.{Held, AppendsTo}
 use Rattle.tss_run.specs.declared.outcome.Refusal.{Refusal}
 use Rattle.tss_run.specs.declared.outcome.Refusal.TheVariants as refusal
@@ -12,8 +13,8 @@ use Rattle.tss_run.specs.Words.{Command, command_of}
 use Rattle.tss_run.specs.Reading.{Reading, found_on, names_read, ComesTo}
 use Rattle.tss_run.specs.Work.{Addition, Deed, Outcome, work_of, outcome_of, appended_by}
 use Rattle.tss_run.specs.Answer.{ending_status, report_status, refusal_status, status_of}
-use Rattle.tss_run.specs.Outcomes.{FilesSeen, FailedToRead, FailedToAdd, KeepsFiles, AppendsAll, AppendsPart, AppendsPartTo, IsDueTo}
-use Rattle.tss_run.specs.Call.{Call, Tells, found_by, expected_by, IsComplete, AppendsExpected, AppendsPartly, ChangesNoFile, IsAnswered, TellsAll}
+use Rattle.tss_run.specs.Outcomes.{FilesSeen, FailedToRead, FailedToAdd, KeepsFiles, AppendsAll, AppendsPart, AppendsPartTo, IsDone, IsOutcomeOf, IsDueTo}
+use Rattle.tss_run.specs.Call.{Call, Tells, found_by, expected_by, HasNoFault, IsComplete, AppendsExpected, AppendsPartly, ChangesNoFile, IsAnswered, TellsAll}
 use Rattle.tss_run.proofs.ReadingLemmas.{follows, is_found}
 
 some_same : {X : Type 0} {x y : X} → Some x ≡ Some y → x ≡ y
@@ -34,6 +35,7 @@ ending_below (ending.Refused n pc) = omega arith
 
 -- a report's status is below those of refusals
 report_below : (r : Report) → report_status r < 3
+report_below (report.Ran run) = ending_below (in_order run.image run.machine.limits).ending
 report_below (report.InOrder run) = ending_below run.reference.ending
 report_below (report.Migrated lines) = omega arith
 
@@ -43,7 +45,7 @@ refusal_above (refusal.ReadFault which) = omega arith
 refusal_above (refusal.TooLong which) = omega arith
 refusal_above (refusal.Machine bad) = omega arith
 refusal_above (refusal.Image n) = omega arith
-refusal_above (refusal.BadLine n) = omega arith
+refusal_above (refusal.Schedule fault) = omega arith
 refusal_above refusal.WriteLog = omega arith
 refusal_above refusal.NoMemory = omega arith
 

@@ -2,3 +2,5 @@ mod ReadingLemmas
 mod AnswerLemmas
 mod OutcomeLemmas
 mod CallLemmas
+mod ReportLemmas
+mod NumberLemmas

@@ -1,10 +1,13 @@
 -- Outcomes that are due, over files at three moments one after another.
-use Rattle.std.proofs.Common.{◌≡◌, inl, inr, ℕ, ◌≤◌, List, [], ◌++◌, Option, Some, None, unwrap_or, Result, Ok, Err, refl, sym, ap, ◌∙◌, subst, arith}
+use Rattle.std.proofs.Common.{◌≡◌, ◌≢◌, Bool, true, false, cond, inl, inr, ℕ, ◌≤◌, List, [], ◌++◌, Option, Some, None, IfSome, unwrap_or, Result, Ok, Err, refl, sym, ap, ◌∙◌, subst, arith}
+use Rattle.std.specs.Prelude.{bytes_eq}
 use Rattle.std.proofs.lemmas.List.{append-nil}
+use Rattle.std.proofs.lemmas.Slice.Eq.{bytes_eq-Decides}
 use Rattle.tss_outside.specs.Outside.{Held, risen, IsPrefix, AppendsTo, HoldsPrefix, PutsPrefixTo}
+use Rattle.tss_unit_runs.specs.Runs.{PutsPart}
 use Rattle.tss_run.specs.declared.outcome.Refusal.{Refusal}
 use Rattle.tss_run.specs.declared.outcome.Refusal.TheVariants as refusal
-use Rattle.tss_run.specs.Outcomes.{FilesSeen, FailedToRead, FailedToAppend, OnlyReads, FailedToAdd, AppendsAll, AppendsPart, AppendsPartTo, IsOutcomeOf}
+use Rattle.tss_run.specs.Outcomes.{FilesSeen, KeepsFiles, FailedToRead, FailedToAppend, OnlyReads, FailedToAdd, AppendsAll, AppendsPart, AppendsPartTo, IsDone, IsOutcomeOf}
 use Rattle.tss_run.specs.Reading.{Reading, ComesTo}
 use Rattle.tss_run.specs.Work.{Deed, Outcome}
 use Rattle.tss_run.proofs.ReadingLemmas.{weaker}
@@ -62,10 +65,36 @@ prefix_part before (Some b) name bytes (a, is, holds, same) = (a, is, part holds
     part (inl same) = ([], (bytes, refl), ap (λ o. unwrap_or o []) same ∙ sym (append-nil (unwrap_or (a name) [])))
     part (inr more) = (more.0, more.1, ap (λ o. unwrap_or o []) more.2)
 
+some_same : {X : Type 0} {x y : X} → Some x ≡ Some y → x ≡ y
+some_same e = cc
+
+none_some : {X : Type 0} {x : X} → None ≡ Some x → ⊥
+none_some e = cc
+
+-- a file of another name holds the same
+same_at : (a b : Held) (name n : List ℕ) (t : Bool) → bytes_eq n name ≡ t → n ≢ name → cond t None (a n) ≡ cond t None (b n) → b n ≡ a n
+same_at a b name n true e apart same = absurd (apart ((bytes_eq-Decides n name).0 e))
+same_at a b name n false e apart same = sym same
+
+-- a part of a log that was put into its file
+pub log_part : (before after : Option Held) (name text : List ℕ) → PutsPart before after name text → AppendsPartTo before after name text
+log_part before None name text put = tt
+log_part None (Some b) name text put = absurd (none_some put.others)
+log_part (Some a) (Some b) name text put = (
+  a,
+  refl,
+  (put.part.0, put.part.1, put.part.2.2 ∙ ap (λ x. x ++ put.part.0) (sym (some_same put.part.2.1))),
+  λ n apart. same_at a b name n (bytes_eq n name) refl apart (ap (λ f. f n) (some_same put.others)),
+)
+
 -- a refusal after files were only read
 pub refused : (b a : FilesSeen) (w : Reading Deed) (o : Outcome) (e : Refusal) → o ≡ Err e → ComesTo b.held (FailedToRead b a) w (Err e) → OnlyReads b a →
     IsOutcomeOf b a w o
 refused b a w o e is comes only = inl (e, is, comes, only.held)
+
+-- want of memory after files were kept
+pub ran_out_after : (b a : FilesSeen) (w : Reading Deed) (o : Outcome) → o ≡ Err refusal.NoMemory → KeepsFiles b a → IsOutcomeOf b a w o
+ran_out_after b a w o is kept = inl (refusal.NoMemory, is, inl refl, kept)
 
 -- and want of memory
 pub ran_out : (b a : FilesSeen) (w : Reading Deed) (o : Outcome) → o ≡ Err refusal.NoMemory → OnlyReads b a → IsOutcomeOf b a w o

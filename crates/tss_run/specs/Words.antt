@@ -1,7 +1,8 @@
 -- The words of the program, and the commands that they are.
-use Rattle.std.specs.Prelude.{ℕ, if◌then◌else◌, List, [], ◌∷◌, map, Option, Some, None, codes, string_bytes}
+use Rattle.std.specs.Prelude.{ℕ, ◌^◌, nat_lt, ◌&&◌, if◌then◌else◌, List, [], ◌∷◌, map, Option, Some, None, option_map, codes, decimal, string_bytes}
 use Rattle.std.specs.Str.{bytes_eq}
 use Rattle.std.proofs.Common.{String, Global}
+use Rattle.tss_protocol.specs.Text.{number_in}
 use Rattle.tss_run.specs.declared.command.Command as declared
 use Rattle.tss_run.specs.declared.command.Command.TheVariants as form
 
@@ -14,6 +15,13 @@ pub record Names : Type 0 where
   pub image : List ℕ
   pub machine : List ℕ
 
+-- the number that a word writes in its one spelling, below 2 ^ 64
+abbrev pub number_if_spelled : List ℕ → ℕ → Option ℕ
+number_if_spelled word n = if bytes_eq (decimal n) word && nat_lt n (2 ^ 64) then Some n else None
+
+abbrev pub number_of : List ℕ → Option ℕ
+number_of word = number_if_spelled word (number_in word)
+
 -- the files that name a migration: a log, and the one to which its new form is appended
 pub record LogNames : Type 0 where
   pub log : List ℕ
@@ -21,18 +29,52 @@ pub record LogNames : Type 0 where
 
 -- a command, with the names that it has
 pub data Command : Type 0 where
+  RunSeeded : Names → ℕ → Command
+  RunLogged : Names → ℕ → List ℕ → Command
+  RunGiven : Names → List ℕ → Command
   InOrder : Names → Command
   Migrate : LogNames → Command
 
 -- that of a command of the code
 abbrev pub command_meant : declared.Command → Command
+command_meant (form.RunSeeded image machine seed) = RunSeeded (record { image = image.now; machine = machine.now }) seed
+command_meant (form.RunLogged image machine seed log) =
+    RunLogged (record { image = image.now; machine = machine.now }) seed log.now
+command_meant (form.RunGiven image machine schedule) =
+    RunGiven (record { image = image.now; machine = machine.now }) schedule.now
 command_meant (form.InOrder image machine) = InOrder (record { image = image.now; machine = machine.now })
 command_meant (form.Migrate log new_log) = Migrate (record { log = log.now; new_log = new_log.now })
 
--- the command that words are, and none of other words: `inorder IMAGE MACHINE` or `migrate FILE NEW`
-abbrev pub command_of : List (List ℕ) → Option Command
-command_of (form ∷ first ∷ second ∷ []) =
+-- ---- the forms
+
+-- `FORM FIRST SECOND`: `inorder IMAGE MACHINE`, or `migrate FILE NEW`
+abbrev pub command_of_two : List ℕ → List ℕ → List ℕ → Option Command
+command_of_two form first second =
     if bytes_eq form (codes "inorder") then Some (InOrder (record { image = first; machine = second }))
     else if bytes_eq form (codes "migrate") then Some (Migrate (record { log = first; new_log = second }))
+    else None
+
+-- `run IMAGE MACHINE HOW WHAT`: `seed N`, or `given FILE`
+abbrev pub run_command : Names → List ℕ → List ℕ → Option Command
+run_command names how what =
+    if bytes_eq how (codes "seed") then option_map (RunSeeded names) (number_of what)
+    else if bytes_eq how (codes "given") then Some (RunGiven names what)
+    else None
+
+-- `run IMAGE MACHINE HOW WHAT AND_LOG LOG`: `seed N log FILE`
+abbrev pub logged_command : Names → List ℕ → List ℕ → List ℕ → List ℕ → Option Command
+logged_command names how what and_log log =
+    if bytes_eq how (codes "seed") && bytes_eq and_log (codes "log")
+    then option_map (λ seed. RunLogged names seed log) (number_of what)
+    else None
+
+-- the command that words are, and none of other words
+abbrev pub command_of : List (List ℕ) → Option Command
+command_of (form ∷ first ∷ second ∷ []) = command_of_two form first second
+command_of (form ∷ image ∷ machine ∷ how ∷ what ∷ []) =
+    if bytes_eq form (codes "run") then run_command (record { image = image; machine = machine }) how what else None
+command_of (form ∷ image ∷ machine ∷ how ∷ what ∷ and_log ∷ log ∷ []) =
+    if bytes_eq form (codes "run")
+    then logged_command (record { image = image; machine = machine }) how what and_log log
     else None
 command_of words = None

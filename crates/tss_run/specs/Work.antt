@@ -8,8 +8,13 @@ use Rattle.tss_machine.specs.declared.fault.MachineFault.{MachineFault}
 use Rattle.tss_machine.specs.Description.{machine_of}
 use Rattle.tss_model.specs.InOrder.{in_order}
 use Rattle.tss_model.specs.Memory.{loaded}
+use Rattle.tss_base.specs.declared.event.Event.{Event}
 use Rattle.tss_protocol.specs.Migration.{migrated}
-use Rattle.tss_protocol.specs.Text.{lines_of}
+use Rattle.tss_protocol.specs.Schedule.{LogFault, BadLine, NotEnabled, Short, Long, judged, seeded_events}
+use Rattle.tss_protocol.specs.Text.{lines_of, log_text}
+use Rattle.tss_unit_runs.specs.Runs.{run_of}
+use Rattle.tss_unit_runs.specs.declared.faults.LineFault.{LineFault}
+use Rattle.tss_unit_runs.specs.declared.faults.LineFault.TheVariants as line
 use Rattle.tss_run.specs.declared.outcome.Input.TheVariants as input
 use Rattle.tss_run.specs.declared.outcome.Refusal.{Refusal}
 use Rattle.tss_run.specs.declared.outcome.Refusal.TheVariants as refusal
@@ -18,7 +23,7 @@ use Rattle.tss_run.specs.declared.outcome.Report.TheVariants as report
 use Rattle.tss_run.specs.declared.outcome.Program.{Program}
 use Rattle.tss_run.specs.MachineCheck.{BadMachineState, bad_machine_of}
 use Rattle.tss_run.specs.Reading.{Reading, Found, with_found, file_reading, within}
-use Rattle.tss_run.specs.Words.{Names, Command, InOrder, Migrate}
+use Rattle.tss_run.specs.Words.{Names, LogNames, Command, RunSeeded, RunLogged, RunGiven, InOrder, Migrate}
 
 -- ---- what the bytes of a file come to
 
@@ -92,12 +97,61 @@ in_order_deed p = record {
 abbrev pub in_order_found : Program → Reading Deed
 in_order_found p = Found (Ok (in_order_deed p))
 
+-- ---- `run`
+
+-- the program was run by these events
+abbrev pub ran : Program → List Event → Report
+ran p es = report.Ran (run_of p.machine p.image es)
+
+-- by those that a seed draws
+abbrev pub drawn : Program → ℕ → List Event
+drawn p seed = seeded_events p.machine p.image seed
+
+abbrev pub seeded_deed : ℕ → Program → Deed
+seeded_deed seed p = record { appended = None; report = ran p (drawn p seed) }
+
+abbrev pub seeded_found : ℕ → Program → Reading Deed
+seeded_found seed p = Found (Ok (seeded_deed seed p))
+
+-- and their log is appended
+abbrev pub logged_deed : ℕ → List ℕ → Program → Deed
+logged_deed seed log p = record {
+  appended = Some (record { name = log; bytes = log_text (drawn p seed) });
+  report = ran p (drawn p seed);
+}
+
+abbrev pub logged_found : ℕ → List ℕ → Program → Reading Deed
+logged_found seed log p = Found (Ok (logged_deed seed log p))
+
+-- the fault of a schedule that is given
+abbrev pub line_fault : LogFault → LineFault
+line_fault (BadLine n) = line.BadLine n
+line_fault (NotEnabled n) = line.NotEnabled n
+line_fault (Short n) = line.Short n
+line_fault (Long n) = line.Long n
+
+-- the events that it gives, unless it has a fault
+abbrev pub given_deed : Program → List Event → Deed
+given_deed p es = record { appended = None; report = ran p es }
+
+abbrev pub given_answer : Program → List Event → Option LogFault → Result Deed Refusal
+given_answer p es None = Ok (given_deed p es)
+given_answer p es (Some fault) = Err (refusal.Schedule (line_fault fault))
+
+abbrev pub given_found : Program → List ℕ → Reading Deed
+given_found p bytes =
+    Found (given_answer p (judged p.machine p.image bytes).events (judged p.machine p.image bytes).fault)
+
+-- the schedule is read after machine and image
+abbrev pub given_under : List ℕ → Program → Reading Deed
+given_under schedule p = with_found (given_found p) (schedule_reading schedule)
+
 -- ---- `migrate`
 
 -- the log in the present format, or the first line that is no event's text
 abbrev pub migration_answer : Result (List ℕ) ℕ → Result (List ℕ) Refusal
 migration_answer (Ok log) = Ok log
-migration_answer (Err n) = Err (refusal.BadLine n)
+migration_answer (Err n) = Err (refusal.Schedule (line.BadLine n))
 
 unfoldable pub migrated_log : List ℕ → Result (List ℕ) Refusal
 migrated_log bytes = migration_answer (migrated bytes)
@@ -116,6 +170,9 @@ log_judged new bytes = with_found (λ log. Found (Ok (migration_deed new bytes l
 -- ---- any command
 
 abbrev pub work_of : Command → Reading Deed
+work_of (RunSeeded names seed) = with_found (seeded_found seed) (program_reading names)
+work_of (RunLogged names seed log) = with_found (logged_found seed log) (program_reading names)
+work_of (RunGiven names schedule) = with_found (given_under schedule) (program_reading names)
 work_of (InOrder names) = with_found in_order_found (program_reading names)
 work_of (Migrate names) = with_found (log_judged names.new_log) (schedule_reading names.log)
 
@@ -137,5 +194,6 @@ appended_by (Err e) = None
 
 -- the memory of a run has the ranges of its image
 abbrev pub HasItsRanges : Report → Type 0
+HasItsRanges (report.Ran run) = Unit {0}
 HasItsRanges (report.InOrder run) = run.reference.memory.ranges ≡ (loaded run.image).ranges
 HasItsRanges (report.Migrated lines) = Unit {0}

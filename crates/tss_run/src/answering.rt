@@ -9,6 +9,7 @@ use crate::command::{Command, parse};
 use crate::inputs::program_in;
 use crate::migration::migrate;
 use crate::outcome::{Refusal, Report, Run};
+use crate::runs::{run_given, run_logged, run_seeded};
 use crate::statuses::WRITE_FAILED;
 use crate::texts::{status, write_outcome};
 use std::alloc::Global;
@@ -43,6 +44,28 @@ fn outcome<F: Files>(alloc: Global, words: &[String], files: &mut F) -> Result<R
 {
     match parse(words) {
         None => Err(Refusal::Usage),
+        Some(
+            Command::RunSeeded {
+                image,
+                machine,
+                seed,
+            },
+        ) => run_seeded(alloc, image, machine, seed, files),
+        Some(
+            Command::RunLogged {
+                image,
+                machine,
+                seed,
+                log,
+            },
+        ) => run_logged(alloc, image, machine, seed, log, files),
+        Some(
+            Command::RunGiven {
+                image,
+                machine,
+                schedule,
+            },
+        ) => run_given(alloc, image, machine, schedule, files),
         Some(Command::InOrder { image, machine }) => in_order(alloc, image, machine, files),
         Some(Command::Migrate { log, new_log }) => migrate(alloc, log, new_log, files),
     }
@@ -56,6 +79,14 @@ fn tell<K: Sink>(out: &mut K, outcome: &Result<Report, Refusal>) -> u8
     match write_outcome(out, outcome) {
         Ok(()) => status(outcome),
         Err(Failed) => WRITE_FAILED,
+    }
+}
+
+/// Lets go of all that was run.
+fn close(outcome: Result<Report, Refusal>) {
+    match outcome {
+        Ok(report) => report.close(),
+        Err(_) => {}
     }
 }
 
@@ -77,5 +108,7 @@ pub fn tss_main<F: Files, K: Sink>(
     ensures kept { ChangesNoFile (called F.Files K.Sink words.now files.old out.old files.new out.new result) }
 {
     let outcome = outcome(alloc, words, files);
-    tell(out, &outcome)
+    let status = tell(out, &outcome);
+    close(outcome);
+    status
 }

@@ -1,14 +1,130 @@
 // The commands that words are.
 ghost use Rattle.std.specs.Prelude.{◌≡◌, option_map};
-ghost use Rattle.tss_run.specs.Words.{words_of, command_of, command_meant};
+ghost use Rattle.tss_run.specs.Words.{words_of, command_of, command_of_two, run_command, logged_command, command_meant, number_of};
+
+use itoa::Buffer;
 
 /// What the program is asked for.
 #[derive(Clone, Copy, Debug, PartialEq, Eq)]
 pub enum Command<'a> {
+    /// `run IMAGE MACHINE seed N`: a program, and the seed from which its events are drawn.
+    RunSeeded {
+        image: &'a str,
+        machine: &'a str,
+        seed: u64,
+    },
+    /// `run IMAGE MACHINE seed N log FILE`: the same, and the file to which its events are appended.
+    RunLogged {
+        image: &'a str,
+        machine: &'a str,
+        seed: u64,
+        log: &'a str,
+    },
+    /// `run IMAGE MACHINE given FILE`: a program, and the file that gives its events.
+    RunGiven {
+        image: &'a str,
+        machine: &'a str,
+        schedule: &'a str,
+    },
     /// `inorder IMAGE MACHINE`: the image and the machine that it names.
-    InOrder { image: &'a str, machine: &'a str },
+    InOrder {
+        image: &'a str,
+        machine: &'a str,
+    },
     /// `migrate FILE NEW`: a log, and the file to which it is appended in the present format.
-    Migrate { log: &'a str, new_log: &'a str },
+    Migrate {
+        log: &'a str,
+        new_log: &'a str,
+    },
+}
+
+/// The number that a word writes, below 2^64. None where it has other bytes than digits, or a leading zero.
+fn number(word: &str) -> Option<u64>
+    ensures { result ≡ number_of word.now }
+{
+    match word.parse::<u64>() {
+        Ok(n) => {
+            let mut digits = Buffer::new();
+            if digits.format(n) == word {
+                Some(n)
+            } else {
+                None
+            }
+        }
+        Err(_) => None,
+    }
+}
+
+/// The command of a form and two names.
+fn command_of_two<'a>(form: &str, first: &'a str, second: &'a str) -> Option<Command<'a>>
+    ensures { option_map command_meant result ≡ command_of_two form.now first.now second.now }
+{
+    if form == "inorder" {
+        Some(Command::InOrder {
+            image: first,
+            machine: second,
+        })
+    } else if form == "migrate" {
+        Some(Command::Migrate {
+            log: first,
+            new_log: second,
+        })
+    } else {
+        None
+    }
+}
+
+/// The run of a program by a seed, or by a file that gives its events.
+fn run_command<'a>(
+    image: &'a str,
+    machine: &'a str,
+    how: &str,
+    what: &'a str,
+) -> Option<Command<'a>>
+    ensures { option_map command_meant result
+        ≡ run_command (record { image = image.now; machine = machine.now }) how.now what.now }
+{
+    if how == "seed" {
+        let seed = number(what)?;
+        Some(Command::RunSeeded {
+            image,
+            machine,
+            seed,
+        })
+    } else if how == "given" {
+        Some(Command::RunGiven {
+            image,
+            machine,
+            schedule: what,
+        })
+    } else {
+        None
+    }
+}
+
+/// The run of a program by a seed, with a log.
+fn logged_command<'a>(
+    image: &'a str,
+    machine: &'a str,
+    how: &str,
+    what: &str,
+    and_log: &str,
+    log: &'a str,
+) -> Option<Command<'a>>
+    ensures { option_map command_meant result
+        ≡ logged_command (record { image = image.now; machine = machine.now }) how.now what.now and_log.now log.now }
+{
+    if how == "seed" && and_log == "log" {
+        let seed = number(what)?;
+        Some(Command::RunLogged {
+            image,
+            machine,
+            seed,
+            log,
+        })
+    } else {
+        None
+    }
 }
 
 /// The command that words are. None where they are no command.
@@ -16,14 +132,13 @@ pub fn parse(words: &[String]) -> Option<Command<'_>>
     ensures { option_map command_meant result ≡ command_of (words_of words.now) }
 {
     match words {
-        [form, image, machine] if form.as_str() == "inorder" => Some(Command::InOrder {
-            image: image.as_str(),
-            machine: machine.as_str(),
-        }),
-        [form, log, new_log] if form.as_str() == "migrate" => Some(Command::Migrate {
-            log: log.as_str(),
-            new_log: new_log.as_str(),
-        }),
+        [form, first, second] => command_of_two(form, first, second),
+        [form, image, machine, how, what] if form.as_str() == "run" => {
+            run_command(image, machine, how, what)
+        }
+        [form, image, machine, how, what, and_log, log] if form.as_str() == "run" => {
+            logged_command(image, machine, how, what, and_log, log)
+        }
         _ => None,
     }
 }

@@ -11,6 +11,7 @@ use crate::outcome::{Refusal, Report};
 use std::alloc::Global;
 use tss_log::{LogFault, line_count, migrate_log};
 use tss_outside::{Failed, Files};
+use tss_unit_runs::LineFault;
 
 /// The bytes of a log in the present format, or the first line that is no event's text.
 fn migrated(alloc: Global, log: &[u8]) -> Result<Vec<u8>, Refusal>
@@ -18,7 +19,7 @@ fn migrated(alloc: Global, log: &[u8]) -> Result<Vec<u8>, Refusal>
 {
     match migrate_log(alloc, log) {
         Ok(log) => Ok(log),
-        Err(LogFault::BadLine(n)) => Err(Refusal::BadLine(n)),
+        Err(LogFault::BadLine(n)) => Err(Refusal::Schedule(LineFault::BadLine(n))),
         Err(LogFault::NoMemory) => Err(Refusal::NoMemory),
     }
 }

@@ -8,6 +8,7 @@ use std::marker::Model;
 use tss_base::{Image, Machine, NoMemory};
 use tss_inorder::Reference;
 use tss_machine::MachineFault;
+use tss_unit_runs::{FinishedRun, LineFault};
 
 /// A file that a command reads, by what it is to the command.
 #[derive(Clone, Copy, Debug, PartialEq, Eq)]
@@ -75,8 +76,8 @@ pub enum Refusal {
     Machine(BadMachine),
     /// The image fails the check of this number.
     Image(u32),
-    /// The line of this number, from 1, is no event's text, and it is the first such line.
-    BadLine(u64),
+    /// A schedule is refused.
+    Schedule(LineFault),
     /// Appending to a file failed.
     WriteLog,
     /// Memory ran out.
@@ -106,11 +107,22 @@ pub struct Run {
     pub reference: Reference,
 }
 
-/// What a command that isn't refused has to tell.
-#[derive(Drop)]
+/// What a command that isn't refused has to tell. It must be closed.
 pub enum Report {
+    /// A run of the unit machine.
+    Ran(FinishedRun),
     /// The execution in program order.
     InOrder(Run),
     /// A log that was put into the present format: how many lines it had.
     Migrated(u64),
+}
+
+impl Report {
+    /// Lets go of all that was run.
+    pub fn close(self) {
+        match self {
+            Report::Ran(run) => run.close(),
+            Report::InOrder(_) | Report::Migrated(_) => {}
+        }
+    }
 }

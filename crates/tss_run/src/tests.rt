@@ -4,6 +4,7 @@ mod migration;
 mod outside;
 mod process;
 mod programs;
+mod runs;
 mod usage;
 
 use crate::answering::tss_main;
@@ -11,6 +12,10 @@ use std::alloc::{AllocError, Global};
 use std::process::Abort;
 use std::test::Fail;
 use tss_outside::{HonestFiles, MemSink};
+
+/// The forms of the words.
+const USAGE: &[u8] =
+    b"usage: run IMAGE MACHINE seed N [log FILE] | run IMAGE MACHINE given FILE | inorder IMAGE MACHINE | migrate FILE NEW\n";
 
 /// The words of a command.
 fn words(alloc: Global, texts: &[&str]) -> Result<Vec<String>, AllocError> {

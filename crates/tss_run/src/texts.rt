@@ -1,7 +1,7 @@
 // The text and the status of an outcome.
 ghost use Rattle.std.specs.Prelude.{◌≡◌, IfOk, option_map};
 ghost use Rattle.tss_report.specs.Pieces.{Emits, Writes};
-ghost use Rattle.tss_run.specs.Answer.{ending_status, report_status, refusal_status, status_of, input_name, machine_line, refusal_text, migrated_text, run_text, text_of_report, text_of};
+ghost use Rattle.tss_run.specs.Answer.{ending_status, report_status, refusal_status, status_of, input_name, machine_line, refusal_text, fault_name, fault_line, schedule_line, finished_text, migrated_text, run_text, text_of_report, text_of};
 ghost use Rattle.tss_model.specs.Memory.{loaded};
 ghost use Rattle.tss_run.specs.Work.{HasItsRanges};
 
@@ -14,6 +14,11 @@ use itoa::Buffer;
 use tss_base::Ending;
 use tss_outside::{Failed, Sink};
 use tss_report::{PieceWriter, write_report};
+use tss_unit_runs::{FinishedRun, LineFault};
+
+/// The forms of the words.
+const USAGE: &[u8] = b"usage: run IMAGE MACHINE seed N [log FILE] | run IMAGE MACHINE given FILE | \
+    inorder IMAGE MACHINE | migrate FILE NEW\n";
 
 /// What a file is called in a text.
 fn input_name(input: Input) -> &'static [u8]
@@ -42,13 +47,46 @@ fn put_machine<K: Sink>(
     }
 }
 
+/// What a fault of a schedule is called in a text.
+fn fault_name(fault: LineFault) -> &'static [u8]
+    ensures { result.now ≡ fault_name fault }
+{
+    match fault {
+        LineFault::BadLine(_) => b"bad-line ",
+        LineFault::NotEnabled(_) => b"not-enabled ",
+        LineFault::Short(_) => b"short ",
+        LineFault::Long(_) => b"long ",
+    }
+}
+
+/// The number of its line.
+fn fault_line(fault: LineFault) -> u64
+    ensures { result ≡ fault_line fault }
+{
+    match fault {
+        LineFault::BadLine(n)
+        | LineFault::NotEnabled(n)
+        | LineFault::Short(n)
+        | LineFault::Long(n) => n,
+    }
+}
+
+/// Puts the line of a schedule that is refused.
+fn put_schedule<K: Sink>(to: &mut PieceWriter<'_, K>, fault: LineFault) -> Result<(), Failed>
+    ensures { Emits K.Sink to.old to.new result (schedule_line fault) }
+{
+    let mut digits = Buffer::new();
+    let line = digits.format(fault_line(fault)).as_bytes();
+    to.put_all(&[b"schedule ", fault_name(fault), line, b"\n"])
+}
+
 /// Puts the text of a refusal.
 fn put_refusal<K: Sink>(to: &mut PieceWriter<'_, K>, refusal: &Refusal) -> Result<(), Failed>
     ensures text { Emits K.Sink to.old to.new result (refusal_text refusal.now) }
     ensures same_sink { to.new.out.ghost_name ≡ to.old.out.ghost_name }
 {
     match refusal {
-        Refusal::Usage => to.put(b"usage: inorder IMAGE MACHINE | migrate FILE NEW\n"),
+        Refusal::Usage => to.put(USAGE),
         Refusal::ReadFault(input) => to.put_all(&[b"read ", input_name(*input), b"\n"]),
         Refusal::TooLong(input) => to.put_all(&[b"long ", input_name(*input), b"\n"]),
         Refusal::Machine(bad) => put_machine(to, bad.number(), bad.key()),
@@ -56,10 +94,7 @@ fn put_refusal<K: Sink>(to: &mut PieceWriter<'_, K>, refusal: &Refusal) -> Resul
             let mut digits = Buffer::new();
             to.put_all(&[b"image ", digits.format(*n).as_bytes(), b"\n"])
         }
-        Refusal::BadLine(n) => {
-            let mut digits = Buffer::new();
-            to.put_all(&[b"schedule bad-line ", digits.format(*n).as_bytes(), b"\n"])
-        }
+        Refusal::Schedule(fault) => put_schedule(to, *fault),
         Refusal::WriteLog => to.put(b"write log\n"),
         Refusal::NoMemory => to.put(b"no memory\n"),
     }
@@ -91,6 +126,22 @@ fn write_run<K: Sink>(out: &mut K, run: &Run) -> Result<(), Failed>
     )
 }
 
+/// Writes the report of a run of the unit machine.
+fn write_finished<K: Sink>(out: &mut K, run: &FinishedRun) -> Result<(), Failed>
+    ensures { Writes K.Sink out.old out.new result (finished_text run.now) }
+{
+    write_report(
+        out,
+        &run.ending(),
+        run.tasks(),
+        run.output(),
+        run.image(),
+        run.space(),
+        Some(run.peaks()),
+        run.machine(),
+    )
+}
+
 /// Puts how many lines a log has that was put into the present format.
 fn put_migrated<K: Sink>(to: &mut PieceWriter<'_, K>, lines: u64) -> Result<(), Failed>
     ensures { Emits K.Sink to.old to.new result (migrated_text lines) }
@@ -114,6 +165,7 @@ fn write_text_of_report<K: Sink>(out: &mut K, report: &Report) -> Result<(), Fai
     ensures { Writes K.Sink out.old out.new result (text_of_report report.now) }
 {
     match report {
+        Report::Ran(run) => write_finished(out, run),
         Report::InOrder(run) => write_run(out, run),
         Report::Migrated(lines) => write_migrated(out, *lines),
     }
@@ -146,6 +198,7 @@ fn report_status(report: &Report) -> u8
     ensures { result ≡ report_status report.now }
 {
     match report {
+        Report::Ran(run) => ending_status(run.ending()),
         Report::InOrder(run) => ending_status(run.reference.ending()),
         Report::Migrated(_) => EXITED,
     }
@@ -158,7 +211,7 @@ fn refusal_status(refusal: &Refusal) -> u8
     match refusal {
         Refusal::Image(_) => BAD_IMAGE,
         Refusal::Machine(_) => BAD_MACHINE,
-        Refusal::BadLine(_) => BAD_SCHEDULE,
+        Refusal::Schedule(_) => BAD_SCHEDULE,
         Refusal::Usage => BAD_WORDS,
         Refusal::ReadFault(_) | Refusal::TooLong(_) => READ_FAILED,
         Refusal::WriteLog => WRITE_FAILED,

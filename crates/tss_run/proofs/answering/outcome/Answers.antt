@@ -15,3 +15,21 @@ returns-in-Some-Migrate-clause-due g c =
     subst (λ k. IsDueTo k (files_seen g.F.Files c.args.files.now) (files_seen g.F.Files c.migrate.new.files) c.migrate.result)
     (ap (λ x. option_map command_meant (Some x)) (sym c.in-Some-Migrate.field-0-is) ∙ ap (option_map command_meant) (sym c.in-Some-Migrate.is) ∙ c.parse.ensures)
     c.migrate.ensures.due
+
+pub returns-in-Some-RunSeeded-clause-due : goal.returns-in-Some-RunSeeded-clause-due
+returns-in-Some-RunSeeded-clause-due g c =
+    subst (λ k. IsDueTo k (files_seen g.F.Files c.args.files.now) (files_seen g.F.Files c.run_seeded.new.files) c.run_seeded.result)
+    (ap (λ x. option_map command_meant (Some x)) (sym c.in-Some-RunSeeded.field-0-is) ∙ ap (option_map command_meant) (sym c.in-Some-RunSeeded.is) ∙ c.parse.ensures)
+    c.run_seeded.ensures.due
+
+pub returns-in-Some-RunLogged-clause-due : goal.returns-in-Some-RunLogged-clause-due
+returns-in-Some-RunLogged-clause-due g c =
+    subst (λ k. IsDueTo k (files_seen g.F.Files c.args.files.now) (files_seen g.F.Files c.run_logged.new.files) c.run_logged.result)
+    (ap (λ x. option_map command_meant (Some x)) (sym c.in-Some-RunLogged.field-0-is) ∙ ap (option_map command_meant) (sym c.in-Some-RunLogged.is) ∙ c.parse.ensures)
+    c.run_logged.ensures.due
+
+pub returns-in-Some-RunGiven-clause-due : goal.returns-in-Some-RunGiven-clause-due
+returns-in-Some-RunGiven-clause-due g c =
+    subst (λ k. IsDueTo k (files_seen g.F.Files c.args.files.now) (files_seen g.F.Files c.run_given.new.files) c.run_given.result)
+    (ap (λ x. option_map command_meant (Some x)) (sym c.in-Some-RunGiven.field-0-is) ∙ ap (option_map command_meant) (sym c.in-Some-RunGiven.is) ∙ c.parse.ensures)
+    c.run_given.ensures.due

@@ -29,9 +29,5 @@ returns-in-Image-clause-text g c =
     ((λ i. joined (codes "image " ∷ digits i ∷ codes "\n" ∷ [])) ∙ ap refusal_text (sym c.in-Image.is))
     c.put_all-in-Image.ensures
 
-pub returns-in-BadLine-clause-text : goal.returns-in-BadLine-clause-text
-returns-in-BadLine-clause-text g c =
-    let digits = c.as_bytes-in-BadLine.ensures.value ∙ c.format-in-BadLine.ensures.text in
-    same_text
-    ((λ i. joined (codes "schedule bad-line " ∷ digits i ∷ codes "\n" ∷ [])) ∙ ap refusal_text (sym c.in-BadLine.is))
-    c.put_all-in-BadLine.ensures
+pub returns-in-Schedule-clause-text : goal.returns-in-Schedule-clause-text
+returns-in-Schedule-clause-text g c = same_text (ap refusal_text (sym c.in-Schedule.is)) c.put_schedule.ensures
