@@ -47,13 +47,11 @@ fn version() -> VersionView {
         head: Some(name(4, 0)),
         tail: Some(name(5, 1)),
         predecessor: Some(name(2, 6)),
-        successor: Some(
-            Follow {
-                version: name(9, 2),
-                how: How::Over,
-                last: 13,
-            },
-        ),
+        successor: Some(Follow {
+            version: name(9, 2),
+            how: How::Over,
+            last: 13,
+        }),
         asked: Some(12),
         refused: Some(0),
     }
