@@ -1,6 +1,6 @@
 -- A drive by a given log from an image's first event: its judgement, by lines.
-use Rattle.std.proofs.Common.{◌≡◌, ℕ, ◌+◌, ◌^◌, ◌≤◌, ◌<◌, Bool, true, false, cond, List, [], ◌∷◌, length, Option, Some, None, Result, Ok, Err, refl, sym, ap, subst, ◌∙◌, arith}
-use Rattle.std.specs.Prelude.{option_map, bytes_eq}
+use Rattle.std.proofs.Common.{◌≡◌, ℕ, ◌+◌, ◌^◌, ◌≤◌, ◌<◌, Bool, true, false, cond, List, [], ◌∷◌, length, Some, None, Result, Ok, Err, refl, sym, ap, subst, ◌∙◌, arith}
+use Rattle.std.specs.Prelude.{bytes_eq}
 use Rattle.tss_base.specs.declared.event.Event.{Event}
 use Rattle.tss_base.specs.declared.machine.Machine.{Machine}
 use Rattle.tss_base.specs.declared.counts.Peaks.{Peaks}
@@ -20,7 +20,7 @@ use Rattle.tss_pipeline.specs.Seen.{PipelineState, IsReached}
 use Rattle.tss_schedule.specs.declared.driving.ScheduleFault.{ScheduleFault}
 use Rattle.tss_schedule.specs.declared.driving.ScheduleFault.TheVariants as fault
 use Rattle.tss_schedule.specs.Picks.{Driven, at_first, Comes}
-use Rattle.tss_schedule.specs.Givens.{given_picks, line_fault, by_lines}
+use Rattle.tss_schedule.specs.Givens.{given_picks, line_fault}
 use Rattle.tss_schedule.specs.Driving.{Answer, IsWritten, driven, Drives}
 use Rattle.tss_schedule.proofs.GivenRuns.{run_of_log}
 use Rattle.tss_schedule.proofs.drives.BoundedEvents.{within_bound, bound_fits}

@@ -1,5 +1,5 @@
 -- A drive that came to the end leaves a pipeline in which the run is over.
-use Rattle.std.proofs.Common.{◌≡◌, [], Some, Ok, Err, refl, sym, ap, ◌∙◌, subst}
+use Rattle.std.proofs.Common.{◌≡◌, [], Some, Ok, Err, sym, ap, subst}
 use Rattle.tss_base.specs.declared.counts.Peaks.{Peaks}
 use Rattle.tss_base.specs.Image.{ImageState, IsAccepted}
 use Rattle.tss_base.specs.Machine.{IsAdmissible}
@@ -10,7 +10,6 @@ use Rattle.tss_protocol.specs.Result.{IsFinished}
 use Rattle.tss_program_order.specs.Refinement.{HasReferenceResult}
 use Rattle.tss_conditions.proofs.Filling.{grounded}
 use Rattle.tss_log.specs.declared.log.Log.{Ghosts}
-use Rattle.tss_pipeline.specs.Seen.{PipelineState, IsReached}
 use Rattle.tss_schedule.specs.declared.driving.ScheduleFault.{ScheduleFault}
 use Rattle.tss_schedule.specs.Picks.{Meaning, Driven, at_first}
 use Rattle.tss_schedule.specs.Driving.{Answer, Drives, EndsInOrder}

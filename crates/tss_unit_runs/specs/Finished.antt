@@ -1,5 +1,5 @@
 -- What a contract sees of a run that is over, and what it has.
-use Rattle.std.specs.Prelude.{◌≡◌, ℕ, refl}
+use Rattle.std.specs.Prelude.{◌≡◌, refl}
 use Rattle.std.specs.Coded.{Coded, code_by, coded×}
 use Rattle.tss_base.specs.declared.counts.Peaks.{Peaks}
 use Rattle.tss_base.specs.contracts.counts.Peaks as peaks

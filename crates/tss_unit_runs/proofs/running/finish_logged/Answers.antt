@@ -1,7 +1,6 @@
 -- What the log tells of its file.
-use Rattle.std.proofs.Common.{◌≡◌, ◌≢◌, Ok, Err, refl, ap, ◌∙◌, subst}
+use Rattle.std.proofs.Common.{◌≡◌, Ok, Err, refl, ◌∙◌}
 use Rattle.tss_base.specs.declared.counts.Peaks.{Peaks}
-use Rattle.tss_schedule.specs.declared.driving.ScheduleFault.{ScheduleFault}
 use Rattle.tss_schedule.specs.declared.driving.ScheduleFault.TheVariants as fault
 use Rattle.tss_schedule.specs.Driving.{Answer, IsWritten}
 use Rattle.tss_unit_runs.proofs.SeedLemmas.{at_seed, seed_failed, seed_peaks, seed_events, seed_part}

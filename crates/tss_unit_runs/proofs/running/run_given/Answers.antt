@@ -5,7 +5,7 @@ use Rattle.tss_log.specs.LogLines.{LinesLeft}
 use Rattle.tss_log.specs.contracts.log.NoLogLog.TheImpl as no_log
 use Rattle.tss_pipeline.specs.Seen.{PipelineState}
 use Rattle.tss_schedule.specs.Picks.{at_first}
-use Rattle.tss_unit_runs.specs.Runs.{IsCounted, run_of}
+use Rattle.tss_unit_runs.specs.Runs.{IsCounted}
 use Rattle.tss_unit_runs.proofs.LineLemmas.{at_log, log_whole, log_peaks, log_counted, line_judged, line_same, written_by_none}
 use Rattle.tss_unit_runs.proofs.running.run_given.Goals as goal
 

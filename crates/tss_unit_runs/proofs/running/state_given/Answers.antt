@@ -1,5 +1,5 @@
 -- The state after the lines' events, and the first fault by its line.
-use Rattle.std.proofs.Common.{◌≡◌, false, true, Ok, Err, Some, ap, sym, ◌∙◌, subst}
+use Rattle.std.proofs.Common.{Ok, Err, Some, ap, sym, ◌∙◌, subst}
 use Rattle.tss_log.specs.contracts.log.NoLogLog.TheImpl as no_log
 use Rattle.tss_schedule.specs.Driving.{driven}
 use Rattle.tss_unit_runs.specs.Runs.{fault_of, is_short, IsWholeOrShort}
