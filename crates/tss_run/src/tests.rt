@@ -5,6 +5,7 @@ mod outside;
 mod process;
 mod programs;
 mod runs;
+mod states;
 mod usage;
 
 use crate::answering::tss_main;
@@ -12,6 +13,10 @@ use std::alloc::{AllocError, Global};
 use std::process::Abort;
 use std::test::Fail;
 use tss_outside::{HonestFiles, MemSink};
+
+/// The forms of the words.
+const USAGE: &[u8] =
+    b"usage: run IMAGE MACHINE seed N [log FILE] | run IMAGE MACHINE given FILE | state IMAGE MACHINE given FILE | inorder IMAGE MACHINE | self N | migrate FILE NEW | self N mul\n";
 
 /// The words of a command.
 fn words(alloc: Global, texts: &[&str]) -> Result<Vec<String>, AllocError> {

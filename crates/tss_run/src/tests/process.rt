@@ -1,5 +1,5 @@
 // From the arguments of a process to its status.
-use super::words as texts;
+use super::{USAGE, words as texts};
 use crate::process::{exit_code, words};
 use std::alloc::Global;
 use std::io;
@@ -53,12 +53,7 @@ fn the_process_ends_with_the_answer(rt: HostRuntime) -> Result<(), Fail> {
             b"end exit 7\ntasks 0\noutput 0\n\n".as_slice(),
         ),
         (Some(words.as_slice()), 4, 8, b""),
-        (
-            Some(fewer.as_slice()),
-            64,
-            6,
-            b"usage: inorder IMAGE MACHINE | migrate FILE NEW\n",
-        ),
+        (Some(fewer.as_slice()), 256, 6, USAGE),
         (None, 64, 9, b""),
     ] {
         let mut out = MemSink::new(alloc, room)?;

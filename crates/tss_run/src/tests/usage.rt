@@ -1,5 +1,5 @@
 // Words that are no command.
-use super::words;
+use super::{USAGE, words};
 use crate::answering::tss_main;
 use std::process::Abort;
 use std::test::Fail;
@@ -17,13 +17,16 @@ fn other_words_show_the_usage(rt: HostRuntime) -> Result<(), Fail> {
         &["Inorder", "image", "machine"],
         &["migrate", "log"],
         &["migrate", "log", "new", "more"],
+        &["run", "image", "machine", "seed"],
+        &["run", "image", "machine", "given", "log", "log", "more"],
+        &["state", "image", "machine", "seed", "7"],
     ] {
         let words = words(alloc, texts)?;
         let mut files = HonestFiles::new(alloc);
         let mut out = MemSink::new(alloc, 256)?;
         let answered = tss_main(alloc, words.as_slice(), &mut files, &mut out);
         assert_eq!(rt; answered, 6);
-        assert!(rt; out.bytes() == b"usage: inorder IMAGE MACHINE | migrate FILE NEW\n".as_slice());
+        assert!(rt; out.bytes() == USAGE);
     }
     Ok(())
 }
