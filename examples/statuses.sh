@@ -32,7 +32,7 @@ image() {
     printf "$2" | dd of="$1" bs=1 seek=116 conv=notrunc 2>/dev/null
 }
 
-usage='usage: inorder IMAGE MACHINE | migrate FILE NEW'
+usage='usage: run IMAGE MACHINE seed N [log FILE] | run IMAGE MACHINE given FILE | state IMAGE MACHINE given FILE | inorder IMAGE MACHINE | self N | migrate FILE NEW | self N mul'
 exit7=$here/exit7.elf
 
 answers "exit" 0 "end exit 7" inorder "$exit7" "$machine"
@@ -53,6 +53,7 @@ answers "an empty image" 3 "image 1" inorder empty "$machine"
 answers "an image as a machine" 4 "machine 1" inorder "$exit7" "$exit7"
 answers "an empty machine" 4 "machine 2 main_budget" inorder "$exit7" empty
 printf 'tss-log 2\nmain\n' >new-log
+answers "a log that was cut off" 5 "schedule short 3" run "$exit7" "$machine" given new-log
 answers "a log of the present format" 5 "schedule bad-line 1" migrate new-log newer-log
 
 answers "no words" 6 "$usage"
