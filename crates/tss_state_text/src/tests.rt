@@ -54,6 +54,7 @@ fn after(
     requires { IsAdmissible machine.now }
     ensures { IfOk result (λ p. Reached p.machine image.now p.state) }
 {
+    assert!(rt; image.count() > 0);
     let mut p = Pipeline::open(alloc, image, machine)?;
     let mut left = count;
     for line in log.lines() {
