@@ -32,7 +32,7 @@ image() {
     printf "$2" | dd of="$1" bs=1 seek=116 conv=notrunc 2>/dev/null
 }
 
-usage='usage: run IMAGE MACHINE seed N [log FILE] | run IMAGE MACHINE given FILE | inorder IMAGE MACHINE | migrate FILE NEW'
+usage='usage: run IMAGE MACHINE seed N [log FILE] | run IMAGE MACHINE given FILE | state IMAGE MACHINE given FILE | inorder IMAGE MACHINE | self N | migrate FILE NEW | self N mul'
 exit7=$here/exit7.elf
 
 answers "exit" 0 "end exit 7" inorder "$exit7" "$machine"

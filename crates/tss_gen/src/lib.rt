@@ -10,3 +10,4 @@ mod tasks;
 mod tests;
 
 pub use building::{workload, workload_mul};
+pub use form::Form;

@@ -4,3 +4,4 @@ pub mod BankPartLemmas
 pub mod SeenBanks
 pub mod DecodingObjects
 pub mod MainCalls
+pub mod KeptCounts

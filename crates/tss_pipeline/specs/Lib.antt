@@ -14,3 +14,4 @@ pub mod Ending
 pub mod Unsetting
 pub mod Beginning
 pub mod Pieces
+pub mod Keeping

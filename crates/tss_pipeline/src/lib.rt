@@ -7,6 +7,7 @@
 mod bank;
 mod bank_readers;
 mod closing;
+mod counting;
 mod enabling;
 mod front;
 mod letters;

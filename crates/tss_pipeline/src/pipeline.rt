@@ -20,12 +20,13 @@ use tss_memory::Space;
 /// process is taken when it is opened.
 pub struct Pipeline {
     pub(crate) units: Units,
+    counts: Counts,
 }
 
 impl Model for Pipeline {
     ghost use Rattle.tss_pipeline.specs.Seen.{PipelineState, pipeline_code};
     ghost use Rattle.tss_pipeline.specs.State.{seen_of};
-    ghost use Rattle.tss_pipeline.specs.Fit.{IsFit};
+    ghost use Rattle.tss_pipeline.specs.Keeping.{IsKept};
 
     ghost Value = { PipelineState };
 
@@ -33,7 +34,7 @@ impl Model for Pipeline {
 
     ghost view = { λ p. seen_of p.units };
 
-    ghost invariant = { λ p. IsFit p.units };
+    ghost invariant = { λ p. IsKept p.units p.counts };
 }
 
 impl Pipeline {
@@ -42,9 +43,9 @@ impl Pipeline {
         requires { IsAdmissible machine.now }
         ensures { IfOk result (λ p. p ≡ record { machine = machine.now; state = initial_state image.now }) }
     {
-        Ok(Pipeline {
-            units: Units::open(alloc, image, machine)?,
-        })
+        let units = Units::open(alloc, image, machine)?;
+        let counts = units.counts();
+        Ok(Pipeline { units, counts })
     }
 
     /// Does one event, where it may happen.
@@ -55,6 +56,7 @@ impl Pipeline {
             return Err(NotEnabled);
         }
         self.units.event(e);
+        self.counts = self.units.counts_after(&e, &self.counts);
         Ok(())
     }
 
@@ -79,11 +81,11 @@ impl Pipeline {
         self.units.finished()
     }
 
-    /// How full each table is.
+    /// How full each table is. This is kept from event to event, and nothing is counted here.
     pub fn counts(&self) -> Counts
         ensures { result ≡ counts_of self.now.machine self.now.state }
     {
-        self.units.counts()
+        self.counts
     }
 
     /// The ending of a run that is over, and none of any other.
@@ -123,7 +125,7 @@ impl Pipeline {
 
     /// Ends the machine, in any state.
     pub fn close(self) {
-        let Pipeline { units } = self;
+        let Pipeline { units, counts: _ } = self;
         units.close();
     }
 }

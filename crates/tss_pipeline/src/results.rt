@@ -184,7 +184,7 @@ impl Units {
     }
 
     /// The most slots that are taken of one station.
-    fn most_slots(&self) -> u32
+    pub(crate) fn most_slots(&self) -> u32
         requires { self.now.stations.sizes ≡ self.now.machine.sizes }
         ensures { result ≡ (counts_of self.now.machine (state_of self.now)).slots }
     {
@@ -196,7 +196,7 @@ impl Units {
     }
 
     /// The most entries of one bank.
-    fn most_entries(&self) -> u32
+    pub(crate) fn most_entries(&self) -> u32
         requires { IsFit self.now }
         ensures { result ≡ (counts_of self.now.machine (state_of self.now)).entries }
     {
@@ -204,7 +204,7 @@ impl Units {
     }
 
     /// The most places that are held of one bank.
-    fn most_places(&self) -> u32
+    pub(crate) fn most_places(&self) -> u32
         requires { IsFit self.now }
         ensures { result ≡ (counts_of self.now.machine (state_of self.now)).versions }
     {
@@ -212,7 +212,7 @@ impl Units {
     }
 
     /// The most buffers that are held of one bank.
-    fn most_buffers(&self) -> u32
+    pub(crate) fn most_buffers(&self) -> u32
         requires { IsFit self.now }
         ensures { result ≡ (counts_of self.now.machine (state_of self.now)).buffers }
     {

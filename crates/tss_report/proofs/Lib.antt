@@ -2,5 +2,6 @@ pub mod PieceLemmas
 mod SizeLemmas
 mod PeakLemmas
 mod RowLemmas
+mod DigestLemmas
 mod ImageLemmas
 mod MachineLemmas

@@ -4,7 +4,7 @@ ghost use Rattle.hex.specs.Hex.{encode_lower};
 ghost use Rattle.tss_report.specs.Digits.{hex_word as hex_word_of};
 
 /// Eight lower-case hexadecimal digits.
-pub(crate) fn hex_word(n: u32) -> [u8; 8]
+pub fn hex_word(n: u32) -> [u8; 8]
     ensures { result ≡ hex_word_of n }
 {
     let mut digits = [0; 8];
@@ -15,7 +15,7 @@ pub(crate) fn hex_word(n: u32) -> [u8; 8]
 }
 
 /// Writes two lower-case hexadecimal digits for each byte.
-pub(crate) fn write_hex(bytes: &[u8], digits: &mut [u8])
+pub fn write_hex(bytes: &[u8], digits: &mut [u8])
     requires { length digits.old ≡ 2 * length bytes.now }
     ensures { digits.new ≡ encode_lower bytes.now }
 {

@@ -92,7 +92,7 @@ fn put_range<K: Sink>(
 }
 
 /// Puts the rows of memory that have changed since it was loaded.
-pub(crate) fn put_changed<K: Sink>(
+pub fn put_changed<K: Sink>(
     to: &mut PieceWriter<'_, K>,
     image: &Image,
     space: &Space,

@@ -3,7 +3,7 @@ ghost use Rattle.std.specs.Prelude.{◌≡◌, IfOk};
 ghost use Rattle.tss_model.specs.Memory.{loaded};
 ghost use Rattle.tss_report.specs.Peaks.{HasRanges};
 
-use crate::write_report;
+use crate::{digest, write_report, write_self};
 use std::alloc::Global;
 use std::process::Abort;
 use std::test::Fail;
@@ -272,4 +272,97 @@ fn pieces_have_4096_bytes(rt: HostRuntime) -> Result<(), Fail> {
         puts(&rt, rt.alloc(), count, failing, whole, len)?;
     }
     Ok(())
+}
+
+/// The digest of the image's memory, by another implementation of SHA-256.
+const LOADED: [u8; 32] = [
+    0xAA, 0x3B, 0xF8, 0x4B, 0xA7, 0xEE, 0x24, 0xA1, 0x56, 0x70, 0x0B, 0x65, 0x4C, 0x88, 0xA8, 0xD0,
+    0xD5, 0x85, 0x87, 0x41, 0x79, 0x4A, 0xF0, 0x70, 0x4D, 0xD2, 0x86, 0x6B, 0x39, 0x6D, 0x3D, 0x6D,
+];
+
+/// That after writes to the last byte of a range, the first of the next, and the last of the stack.
+const CHANGED: [u8; 32] = [
+    0x4B, 0x16, 0xE6, 0x0E, 0x0F, 0x2F, 0xF9, 0xEB, 0x93, 0x69, 0x5F, 0xB9, 0x9E, 0x2E, 0xFB, 0x28,
+    0x47, 0x16, 0x05, 0xD8, 0xF0, 0x17, 0x76, 0x1F, 0xDA, 0xF5, 0xD6, 0x94, 0x32, 0x91, 0x93, 0x9C,
+];
+
+#[test]
+fn digest_is_of_all_that_can_be_written(rt: HostRuntime) -> Result<(), Fail> {
+    let alloc = rt.alloc();
+    let image = image(alloc)?;
+    let space = written(&rt, alloc, &image, &[])?;
+    assert!(rt; digest(&space) == LOADED);
+    let writes = [(0x20027, 0xFF), (0x20028, 0xAB), (0xFFFEFFFF, 1)];
+    let space = written(&rt, alloc, &image, &writes)?;
+    assert!(rt; digest(&space) == CHANGED);
+    Ok(())
+}
+
+/// Checks the report of the workload.
+fn expect_self(
+    rt: &impl Abort,
+    alloc: Global,
+    n: u32,
+    mul: bool,
+    run: &(Ending, u32, &[u8]),
+    sum: &[u8; 32],
+    text: &[u8],
+) -> Result<(), Fail> {
+    let (ending, tasks, output) = run;
+    let mut out = MemSink::new(alloc, 1024)?;
+    let put = write_self(
+        &mut out,
+        n,
+        mul,
+        ending,
+        *tasks,
+        output,
+        sum,
+        &HI,
+        &machine(),
+    );
+    assert!(rt; put.is_ok());
+    assert!(rt; out.bytes() == text);
+    Ok(())
+}
+
+#[test]
+fn workload_is_told_by_its_digest(rt: HostRuntime) -> Result<(), Fail> {
+    let alloc = rt.alloc();
+    expect_self(
+        &rt,
+        alloc,
+        12,
+        false,
+        &(Ending::Exit(0), 376, b""),
+        &LOADED,
+        b"self 12\nend exit 0\ntasks 376\noutput 0\n\ndigest aa3bf84ba7ee24a156700b654c88a8d0d5858741794af0704dd2866b396d3d6d\nevents 21\npeak messages 2 of 135\npeak slots 1 of 8\npeak ready 1 of 8\npeak workers 1 of 3\npeak entries 1 of 16\npeak versions 1 of 16\npeak buffers 0 of 7\n",
+    )?;
+    expect_self(
+        &rt,
+        alloc,
+        40,
+        true,
+        &(Ending::Refused(3, 0x10034), 1, b"ab"),
+        &CHANGED,
+        b"self 40 mul\nend refused 3 00010034\ntasks 1\noutput 2\nab\ndigest 4b16e60e0f2ff9eb93695fb99e2efb28471605d8f017761fdaf5d6943291939c\nevents 21\npeak messages 2 of 135\npeak slots 1 of 8\npeak ready 1 of 8\npeak workers 1 of 3\npeak entries 1 of 16\npeak versions 1 of 16\npeak buffers 0 of 7\n",
+    )
+}
+
+#[test]
+fn task_that_trapped_has_no_digest(rt: HostRuntime) -> Result<(), Fail> {
+    let trap = Trap {
+        pc: 0x10144,
+        cause: 3,
+        value: 0x10144,
+    };
+    expect_self(
+        &rt,
+        rt.alloc(),
+        1,
+        false,
+        &(Ending::TaskTrap(2, trap), 2, b"a"),
+        &LOADED,
+        b"self 1\nend task-trap 2 00010144 3 00010144\ntasks 2\noutput 1\na\nevents 21\npeak messages 2 of 135\npeak slots 1 of 8\npeak ready 1 of 8\npeak workers 1 of 3\npeak entries 1 of 16\npeak versions 1 of 16\npeak buffers 0 of 7\n",
+    )
 }

@@ -4,6 +4,7 @@ use Rattle.std.proofs.lemmas.List.{append-nil}
 use Rattle.tss_base.specs.declared.ending.Ending.{Ending}
 use Rattle.tss_base.specs.declared.ending.Ending.TheVariants as ending
 use Rattle.tss_model.specs.InOrder.{in_order}
+use Rattle.tss_self.specs.SelfAnswer.{self_result}
 use Rattle.tss_outside.specs.Outside.{Held, AppendsTo}
 use Rattle.tss_run.specs.declared.outcome.Refusal.{Refusal}
 use Rattle.tss_run.specs.declared.outcome.Refusal.TheVariants as refusal
@@ -36,6 +37,8 @@ ending_below (ending.Refused n pc) = omega arith
 -- a report's status is below those of refusals
 report_below : (r : Report) → report_status r < 3
 report_below (report.Ran run) = ending_below (in_order run.image run.machine.limits).ending
+report_below (report.Stopped s) = omega arith
+report_below (report.Workload w) = ending_below (self_result w).ending
 report_below (report.InOrder run) = ending_below run.reference.ending
 report_below (report.Migrated lines) = omega arith
 

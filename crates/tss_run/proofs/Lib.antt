@@ -4,3 +4,4 @@ mod OutcomeLemmas
 mod CallLemmas
 mod ReportLemmas
 mod NumberLemmas
+mod StateLemmas

@@ -17,6 +17,8 @@ use Rattle.tss_run.specs.declared.outcome.Report.{Report}
 use Rattle.tss_run.specs.declared.outcome.Report.TheVariants as report
 use Rattle.tss_run.specs.declared.statuses.TheConstants.{EXITED, TRAPPED, REFUSED, BAD_IMAGE, BAD_MACHINE, BAD_SCHEDULE, BAD_WORDS, READ_FAILED, WRITE_FAILED, NO_MEMORY}
 use Rattle.tss_run.specs.Work.{Outcome}
+use Rattle.tss_self.specs.SelfAnswer.{self_result, self_report}
+use Rattle.tss_state_lines.specs.StateText.{state_text}
 use Rattle.tss_unit_runs.specs.Finished.{FinishedRunState}
 use Rattle.tss_unit_runs.specs.declared.faults.LineFault.{LineFault}
 use Rattle.tss_unit_runs.specs.declared.faults.LineFault.TheVariants as line
@@ -33,6 +35,8 @@ ending_status (ending.Refused n pc) = REFUSED
 -- the status of a report, and of a refusal
 abbrev pub report_status : Report → ℕ
 report_status (report.Ran run) = ending_status (in_order run.image run.machine.limits).ending
+report_status (report.Stopped s) = EXITED
+report_status (report.Workload w) = ending_status (self_result w).ending
 report_status (report.InOrder run) = ending_status run.reference.ending
 report_status (report.Migrated lines) = EXITED
 
@@ -84,7 +88,7 @@ schedule_line fault =
 
 -- the text of a refusal
 abbrev pub refusal_text : Refusal → List ℕ
-refusal_text refusal.Usage = codes "usage: run IMAGE MACHINE seed N [log FILE] | run IMAGE MACHINE given FILE | inorder IMAGE MACHINE | migrate FILE NEW\n"
+refusal_text refusal.Usage = codes "usage: run IMAGE MACHINE seed N [log FILE] | run IMAGE MACHINE given FILE | state IMAGE MACHINE given FILE | inorder IMAGE MACHINE | self N | migrate FILE NEW | self N mul\n"
 refusal_text (refusal.ReadFault which) = joined (codes "read " ∷ input_name which ∷ codes "\n" ∷ [])
 refusal_text (refusal.TooLong which) = joined (codes "long " ∷ input_name which ∷ codes "\n" ∷ [])
 refusal_text (refusal.Machine bad) = machine_line bad.number bad.key
@@ -109,6 +113,8 @@ migrated_text lines = joined (codes "migrated " ∷ decimal lines ∷ codes "\n"
 -- the text of a report
 abbrev pub text_of_report : Report → List ℕ
 text_of_report (report.Ran run) = finished_text run
+text_of_report (report.Stopped s) = state_text (loaded s.image) s.pipeline.machine s.pipeline.state
+text_of_report (report.Workload w) = self_report w
 text_of_report (report.InOrder run) = run_text run
 text_of_report (report.Migrated lines) = migrated_text lines
 

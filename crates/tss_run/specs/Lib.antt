@@ -1,4 +1,5 @@
 pub mod Words
+pub mod Sizes
 pub mod MachineCheck
 pub mod Reading
 pub mod Work

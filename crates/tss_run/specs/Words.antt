@@ -1,8 +1,12 @@
 -- The words of the program, and the commands that they are.
-use Rattle.std.specs.Prelude.{ℕ, ◌^◌, nat_lt, ◌&&◌, if◌then◌else◌, List, [], ◌∷◌, map, Option, Some, None, option_map, codes, decimal, string_bytes}
+use Rattle.std.specs.Prelude.{ℕ, ◌^◌, nat_lt, ◌&&◌, ◌||◌, if◌then◌else◌, List, [], ◌∷◌, map, Option, Some, None, option_map, codes, decimal, string_bytes}
 use Rattle.std.specs.Str.{bytes_eq}
 use Rattle.std.proofs.Common.{String, Global}
+use Rattle.std.specs.Option.{option_and_then}
+use Rattle.tss_gen.specs.declared.form.Form.{Form}
+use Rattle.tss_gen.specs.declared.form.Form.TheVariants.{Shifts, Products}
 use Rattle.tss_protocol.specs.Text.{number_in}
+use Rattle.tss_self.specs.SelfAnswer.{SelfWork}
 use Rattle.tss_run.specs.declared.command.Command as declared
 use Rattle.tss_run.specs.declared.command.Command.TheVariants as form
 
@@ -32,7 +36,9 @@ pub data Command : Type 0 where
   RunSeeded : Names → ℕ → Command
   RunLogged : Names → ℕ → List ℕ → Command
   RunGiven : Names → List ℕ → Command
+  StateGiven : Names → List ℕ → Command
   InOrder : Names → Command
+  Workload : SelfWork → Command
   Migrate : LogNames → Command
 
 -- that of a command of the code
@@ -42,16 +48,31 @@ command_meant (form.RunLogged image machine seed log) =
     RunLogged (record { image = image.now; machine = machine.now }) seed log.now
 command_meant (form.RunGiven image machine schedule) =
     RunGiven (record { image = image.now; machine = machine.now }) schedule.now
+command_meant (form.StateGiven image machine schedule) =
+    StateGiven (record { image = image.now; machine = machine.now }) schedule.now
+command_meant (form.Workload n kind) = Workload (record { n = n; form = kind })
 command_meant (form.InOrder image machine) = InOrder (record { image = image.now; machine = machine.now })
 command_meant (form.Migrate log new_log) = Migrate (record { log = log.now; new_log = new_log.now })
 
 -- ---- the forms
 
--- `FORM FIRST SECOND`: `inorder IMAGE MACHINE`, or `migrate FILE NEW`
+-- the workload with n blocks a side, from 1 to 40
+abbrev pub workload_with : Form → ℕ → Option Command
+workload_with form n = if nat_lt n 1 || nat_lt 40 n then None else Some (Workload (record { n = n; form = form }))
+
+abbrev pub workload_command : Form → List ℕ → Option Command
+workload_command form word = option_and_then (workload_with form) (number_of word)
+
+-- `self N`
+abbrev pub command_of_one : List ℕ → List ℕ → Option Command
+command_of_one form first = if bytes_eq form (codes "self") then workload_command Shifts first else None
+
+-- `FORM FIRST SECOND`: `inorder IMAGE MACHINE`, `migrate FILE NEW`, or `self N mul`
 abbrev pub command_of_two : List ℕ → List ℕ → List ℕ → Option Command
 command_of_two form first second =
     if bytes_eq form (codes "inorder") then Some (InOrder (record { image = first; machine = second }))
     else if bytes_eq form (codes "migrate") then Some (Migrate (record { log = first; new_log = second }))
+    else if bytes_eq form (codes "self") && bytes_eq second (codes "mul") then workload_command Products first
     else None
 
 -- `run IMAGE MACHINE HOW WHAT`: `seed N`, or `given FILE`
@@ -61,6 +82,13 @@ run_command names how what =
     else if bytes_eq how (codes "given") then Some (RunGiven names what)
     else None
 
+-- `FORM IMAGE MACHINE HOW WHAT`: a run, or `state IMAGE MACHINE given FILE`
+abbrev pub command_of_four : List ℕ → Names → List ℕ → List ℕ → Option Command
+command_of_four form names how what =
+    if bytes_eq form (codes "run") then run_command names how what
+    else if bytes_eq form (codes "state") && bytes_eq how (codes "given") then Some (StateGiven names what)
+    else None
+
 -- `run IMAGE MACHINE HOW WHAT AND_LOG LOG`: `seed N log FILE`
 abbrev pub logged_command : Names → List ℕ → List ℕ → List ℕ → List ℕ → Option Command
 logged_command names how what and_log log =
@@ -68,13 +96,20 @@ logged_command names how what and_log log =
     then option_map (λ seed. RunLogged names seed log) (number_of what)
     else None
 
+abbrev pub command_of_six : List ℕ → Names → List ℕ → List ℕ → List ℕ → List ℕ → Option Command
+command_of_six form names how what and_log log =
+    if bytes_eq form (codes "run") then logged_command names how what and_log log else None
+
+-- the command of three words or more
+abbrev pub longer_command : List (List ℕ) → Option Command
+longer_command (form ∷ first ∷ second ∷ []) = command_of_two form first second
+longer_command (form ∷ image ∷ machine ∷ how ∷ what ∷ []) =
+    command_of_four form (record { image = image; machine = machine }) how what
+longer_command (form ∷ image ∷ machine ∷ how ∷ what ∷ and_log ∷ log ∷ []) =
+    command_of_six form (record { image = image; machine = machine }) how what and_log log
+longer_command words = None
+
 -- the command that words are, and none of other words
 abbrev pub command_of : List (List ℕ) → Option Command
-command_of (form ∷ first ∷ second ∷ []) = command_of_two form first second
-command_of (form ∷ image ∷ machine ∷ how ∷ what ∷ []) =
-    if bytes_eq form (codes "run") then run_command (record { image = image; machine = machine }) how what else None
-command_of (form ∷ image ∷ machine ∷ how ∷ what ∷ and_log ∷ log ∷ []) =
-    if bytes_eq form (codes "run")
-    then logged_command (record { image = image; machine = machine }) how what and_log log
-    else None
-command_of words = None
+command_of (form ∷ first ∷ []) = command_of_one form first
+command_of words = longer_command words

@@ -1,5 +1,5 @@
 -- What each command does: the order in which it reads, what it finds, what it appends to a file, and what it reports.
-use Rattle.std.specs.Prelude.{◌≡◌, ℕ, List, length, Option, Some, None, Result, Ok, Err}
+use Rattle.std.specs.Prelude.{◌≡◌, ℕ, List, [], ◌∷◌, length, Option, Some, None, Result, Ok, Err}
 use Rattle.tss_base.specs.declared.bounds.TheConstants.{MACHINE_FILE_BYTES, IMAGE_FILE_BYTES, SCHEDULE_FILE_BYTES}
 use Rattle.tss_base.specs.declared.machine.Machine.{Machine}
 use Rattle.tss_base.specs.Image.{ImageState}
@@ -12,6 +12,9 @@ use Rattle.tss_base.specs.declared.event.Event.{Event}
 use Rattle.tss_protocol.specs.Migration.{migrated}
 use Rattle.tss_protocol.specs.Schedule.{LogFault, BadLine, NotEnabled, Short, Long, judged, seeded_events}
 use Rattle.tss_protocol.specs.Text.{lines_of, log_text}
+use Rattle.tss_protocol.specs.State.{State, initial_state}
+use Rattle.tss_protocol.specs.UnitMachine.{after_event}
+use Rattle.tss_self.specs.SelfAnswer.{SelfWork}
 use Rattle.tss_unit_runs.specs.Runs.{run_of}
 use Rattle.tss_unit_runs.specs.declared.faults.LineFault.{LineFault}
 use Rattle.tss_unit_runs.specs.declared.faults.LineFault.TheVariants as line
@@ -23,7 +26,7 @@ use Rattle.tss_run.specs.declared.outcome.Report.TheVariants as report
 use Rattle.tss_run.specs.declared.outcome.Program.{Program}
 use Rattle.tss_run.specs.MachineCheck.{BadMachineState, bad_machine_of}
 use Rattle.tss_run.specs.Reading.{Reading, Found, with_found, file_reading, within}
-use Rattle.tss_run.specs.Words.{Names, LogNames, Command, RunSeeded, RunLogged, RunGiven, InOrder, Migrate}
+use Rattle.tss_run.specs.Words.{Names, LogNames, Command, RunSeeded, RunLogged, RunGiven, StateGiven, InOrder, Workload, Migrate}
 
 -- ---- what the bytes of a file come to
 
@@ -146,6 +149,43 @@ given_found p bytes =
 abbrev pub given_under : List ℕ → Program → Reading Deed
 given_under schedule p = with_found (given_found p) (schedule_reading schedule)
 
+-- ---- `state`
+
+-- the state that events leave one after another
+unfoldable pub state_after : Machine → State → List Event → State
+state_after m S [] = S
+state_after m S (e ∷ es) = state_after m (after_event m S e) es
+
+-- it is told, whether the run is over or not
+abbrev pub state_deed : Program → List Event → Deed
+state_deed p es = record {
+  appended = None;
+  report = report.Stopped (record {
+    image = p.image;
+    pipeline = record { machine = p.machine; state = state_after p.machine (initial_state p.image) es };
+  });
+}
+
+-- unless the schedule has another fault
+abbrev pub state_answer : Program → List Event → Option LogFault → Result Deed Refusal
+state_answer p es None = Ok (state_deed p es)
+state_answer p es (Some (Short n)) = Ok (state_deed p es)
+state_answer p es (Some (BadLine n)) = Err (refusal.Schedule (line.BadLine n))
+state_answer p es (Some (NotEnabled n)) = Err (refusal.Schedule (line.NotEnabled n))
+state_answer p es (Some (Long n)) = Err (refusal.Schedule (line.Long n))
+
+abbrev pub state_found : Program → List ℕ → Reading Deed
+state_found p bytes =
+    Found (state_answer p (judged p.machine p.image bytes).events (judged p.machine p.image bytes).fault)
+
+abbrev pub state_under : List ℕ → Program → Reading Deed
+state_under schedule p = with_found (state_found p) (schedule_reading schedule)
+
+-- ---- `self`
+
+abbrev pub workload_deed : SelfWork → Deed
+workload_deed w = record { appended = None; report = report.Workload w }
+
 -- ---- `migrate`
 
 -- the log in the present format, or the first line that is no event's text
@@ -173,6 +213,8 @@ abbrev pub work_of : Command → Reading Deed
 work_of (RunSeeded names seed) = with_found (seeded_found seed) (program_reading names)
 work_of (RunLogged names seed log) = with_found (logged_found seed log) (program_reading names)
 work_of (RunGiven names schedule) = with_found (given_under schedule) (program_reading names)
+work_of (StateGiven names schedule) = with_found (state_under schedule) (program_reading names)
+work_of (Workload w) = Found (Ok (workload_deed w))
 work_of (InOrder names) = with_found in_order_found (program_reading names)
 work_of (Migrate names) = with_found (log_judged names.new_log) (schedule_reading names.log)
 
@@ -195,5 +237,7 @@ appended_by (Err e) = None
 -- the memory of a run has the ranges of its image
 abbrev pub HasItsRanges : Report → Type 0
 HasItsRanges (report.Ran run) = Unit {0}
+HasItsRanges (report.Stopped s) = s.pipeline.state.home.ranges ≡ (loaded s.image).ranges
+HasItsRanges (report.Workload w) = Unit {0}
 HasItsRanges (report.InOrder run) = run.reference.memory.ranges ≡ (loaded run.image).ranges
 HasItsRanges (report.Migrated lines) = Unit {0}

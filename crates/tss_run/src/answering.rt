@@ -9,7 +9,7 @@ use crate::command::{Command, parse};
 use crate::inputs::program_in;
 use crate::migration::migrate;
 use crate::outcome::{Refusal, Report, Run};
-use crate::runs::{run_given, run_logged, run_seeded};
+use crate::runs::{run_given, run_logged, run_seeded, state_given, workload};
 use crate::statuses::WRITE_FAILED;
 use crate::texts::{status, write_outcome};
 use std::alloc::Global;
@@ -66,6 +66,14 @@ fn outcome<F: Files>(alloc: Global, words: &[String], files: &mut F) -> Result<R
                 schedule,
             },
         ) => run_given(alloc, image, machine, schedule, files),
+        Some(
+            Command::StateGiven {
+                image,
+                machine,
+                schedule,
+            },
+        ) => state_given(alloc, image, machine, schedule, files),
+        Some(Command::Workload { n, form }) => workload(alloc, n, form),
         Some(Command::InOrder { image, machine }) => in_order(alloc, image, machine, files),
         Some(Command::Migrate { log, new_log }) => migrate(alloc, log, new_log, files),
     }

@@ -8,6 +8,8 @@ use std::marker::Model;
 use tss_base::{Image, Machine, NoMemory};
 use tss_inorder::Reference;
 use tss_machine::MachineFault;
+use tss_pipeline::Pipeline;
+use tss_self::SelfRun;
 use tss_unit_runs::{FinishedRun, LineFault};
 
 /// A file that a command reads, by what it is to the command.
@@ -107,10 +109,20 @@ pub struct Run {
     pub reference: Reference,
 }
 
+/// A unit machine that has done the events of a schedule, and the image that runs on it.
+pub struct Stopped {
+    pub image: Image,
+    pub pipeline: Pipeline,
+}
+
 /// What a command that isn't refused has to tell. It must be closed.
 pub enum Report {
     /// A run of the unit machine.
     Ran(FinishedRun),
+    /// The state of a unit machine.
+    Stopped(Stopped),
+    /// A run of the workload.
+    Workload(SelfRun),
     /// The execution in program order.
     InOrder(Run),
     /// A log that was put into the present format: how many lines it had.
@@ -122,6 +134,8 @@ impl Report {
     pub fn close(self) {
         match self {
             Report::Ran(run) => run.close(),
+            Report::Stopped(Stopped { image: _, pipeline }) => pipeline.close(),
+            Report::Workload(run) => run.close(),
             Report::InOrder(_) | Report::Migrated(_) => {}
         }
     }

@@ -1,13 +1,14 @@
 // Runs of the unit machine.
-ghost use Rattle.std.specs.Prelude.{◌≡◌, Some, IfOk, IfErr};
-ghost use Rattle.tss_base.specs.Machine.{IsAdmissible};
-ghost use Rattle.tss_run.specs.Outcomes.{files_seen, IsDueTo};
-ghost use Rattle.tss_run.specs.Words.{RunSeeded, RunLogged, RunGiven};
+ghost use Rattle.std.specs.Prelude.{◌≤◌, Some, IfOk};
+ghost use Rattle.tss_run.specs.Outcomes.{FilesSeen, files_seen, IsDueTo};
+ghost use Rattle.tss_run.specs.Words.{RunSeeded, RunLogged, RunGiven, StateGiven, Workload};
+ghost use Rattle.tss_run.specs.Work.{HasItsRanges};
 
 use crate::inputs::{program_in, schedule_in};
-use crate::outcome::{Refusal, Report};
+use crate::outcome::{Refusal, Report, Stopped};
 use std::alloc::Global;
 use tss_outside::Files;
+use tss_self::{Form, SelfRun};
 use tss_unit_runs::{GivenFault, LoggedFault};
 
 /// Runs a program by the events that a seed draws. No file is changed.
@@ -64,4 +65,39 @@ pub fn run_given<F: Files>(
         Err(GivenFault::NoMemory) => Err(Refusal::NoMemory),
         Err(GivenFault::Line(fault)) => Err(Refusal::Schedule(fault)),
     }
+}
+
+/// Shows the state of the unit machine after the events that a file gives. No file is changed.
+pub fn state_given<F: Files>(
+    alloc: Global,
+    image: &str,
+    machine: &str,
+    schedule: &str,
+    files: &mut F,
+) -> Result<Report, Refusal>
+    ensures due { IsDueTo (Some (StateGiven (record { image = image.now; machine = machine.now }) schedule.now))
+        (files_seen F.Files files.old) (files_seen F.Files files.new) result }
+    ensures ranges { IfOk result HasItsRanges }
+{
+    let program = program_in(alloc, files, image, machine)?;
+    let bytes = schedule_in(alloc, files, schedule)?;
+    match tss_unit_runs::state_given(alloc, &program.machine, &program.image, bytes.as_slice()) {
+        Ok(pipeline) => Ok(Report::Stopped(Stopped {
+            image: program.image,
+            pipeline,
+        })),
+        Err(GivenFault::NoMemory) => Err(Refusal::NoMemory),
+        Err(GivenFault::Line(fault)) => Err(Refusal::Schedule(fault)),
+    }
+}
+
+/// Runs the workload with n blocks a side.
+pub fn workload(alloc: Global, n: u32, form: Form) -> Result<Report, Refusal>
+    requires low { 1 ≤ n }
+    requires high { n ≤ 40 }
+    ensures due { (s : FilesSeen) → IsDueTo (Some (Workload (record { n = n; form = form }))) s s result }
+    ensures ranges { IfOk result HasItsRanges }
+{
+    let run = SelfRun::new(alloc, n, form)?;
+    Ok(Report::Workload(run))
 }

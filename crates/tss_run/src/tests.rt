@@ -5,6 +5,7 @@ mod outside;
 mod process;
 mod programs;
 mod runs;
+mod states;
 mod usage;
 
 use crate::answering::tss_main;
@@ -15,7 +16,7 @@ use tss_outside::{HonestFiles, MemSink};
 
 /// The forms of the words.
 const USAGE: &[u8] =
-    b"usage: run IMAGE MACHINE seed N [log FILE] | run IMAGE MACHINE given FILE | inorder IMAGE MACHINE | migrate FILE NEW\n";
+    b"usage: run IMAGE MACHINE seed N [log FILE] | run IMAGE MACHINE given FILE | state IMAGE MACHINE given FILE | inorder IMAGE MACHINE | self N | migrate FILE NEW | self N mul\n";
 
 /// The words of a command.
 fn words(alloc: Global, texts: &[&str]) -> Result<Vec<String>, AllocError> {

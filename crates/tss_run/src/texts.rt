@@ -14,11 +14,12 @@ use itoa::Buffer;
 use tss_base::Ending;
 use tss_outside::{Failed, Sink};
 use tss_report::{PieceWriter, write_report};
+use tss_state_text::write_state;
 use tss_unit_runs::{FinishedRun, LineFault};
 
 /// The forms of the words.
 const USAGE: &[u8] = b"usage: run IMAGE MACHINE seed N [log FILE] | run IMAGE MACHINE given FILE | \
-    inorder IMAGE MACHINE | migrate FILE NEW\n";
+    state IMAGE MACHINE given FILE | inorder IMAGE MACHINE | self N | migrate FILE NEW | self N mul\n";
 
 /// What a file is called in a text.
 fn input_name(input: Input) -> &'static [u8]
@@ -166,6 +167,8 @@ fn write_text_of_report<K: Sink>(out: &mut K, report: &Report) -> Result<(), Fai
 {
     match report {
         Report::Ran(run) => write_finished(out, run),
+        Report::Stopped(stopped) => write_state(out, &stopped.pipeline, &stopped.image),
+        Report::Workload(run) => run.write(out),
         Report::InOrder(run) => write_run(out, run),
         Report::Migrated(lines) => write_migrated(out, *lines),
     }
@@ -199,6 +202,8 @@ fn report_status(report: &Report) -> u8
 {
     match report {
         Report::Ran(run) => ending_status(run.ending()),
+        Report::Stopped(_) => EXITED,
+        Report::Workload(run) => ending_status(run.ending()),
         Report::InOrder(run) => ending_status(run.reference.ending()),
         Report::Migrated(_) => EXITED,
     }

@@ -17,6 +17,9 @@ fn other_words_show_the_usage(rt: HostRuntime) -> Result<(), Fail> {
         &["Inorder", "image", "machine"],
         &["migrate", "log"],
         &["migrate", "log", "new", "more"],
+        &["run", "image", "machine", "seed"],
+        &["run", "image", "machine", "given", "log", "log", "more"],
+        &["state", "image", "machine", "seed", "7"],
     ] {
         let words = words(alloc, texts)?;
         let mut files = HonestFiles::new(alloc);

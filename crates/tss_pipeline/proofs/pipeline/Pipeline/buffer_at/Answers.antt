@@ -8,10 +8,10 @@ pub returns-in-Some : goal.returns-in-Some
 returns-in-Some c =
     ap (option_map (λ (b : OpName × ℕ). b.0)) c.buffer_at.ensures
     ∙ name_under c.in-Some.bank.now.renaming.buffers c.args.i
-    ∙ seen_buffers c.self.inside.units c.self.invariant c.args.self.now c.self.view_is
+    ∙ seen_buffers c.self.inside.units c.self.invariant.fit c.args.self.now c.self.view_is
     c.deref.result.now c.deref.ensures.value c.args.bank c.in-Some.bank.now c.in-Some.ensures c.args.i
 
 pub returns-in-None : goal.returns-in-None
 returns-in-None c =
-    seen_no_buffer c.self.inside.units c.self.invariant c.args.self.now c.self.view_is
+    seen_no_buffer c.self.inside.units c.self.invariant.fit c.args.self.now c.self.view_is
     c.deref.result.now c.deref.ensures.value c.args.bank c.in-None.ensures c.args.i

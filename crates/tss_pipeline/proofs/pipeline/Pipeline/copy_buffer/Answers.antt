@@ -7,11 +7,11 @@ use Rattle.tss_pipeline.proofs.pipeline.Pipeline.copy_buffer.Goals as goal
 pub returns-in-Some : goal.returns-in-Some
 returns-in-Some c =
     c.copied_buffer.ensures
-    ∙ seen_copied_from c.self.inside.units c.self.invariant c.args.self.now c.self.view_is
+    ∙ seen_copied_from c.self.inside.units c.self.invariant.fit c.args.self.now c.self.view_is
     c.deref.result.now c.deref.ensures.value c.args.bank c.in-Some.bank.now c.in-Some.ensures
 
 pub returns-in-None : goal.returns-in-None
 returns-in-None c =
     ap (option_map (λ (c : CopyState). c.buffer))
-    (seen_no_copy c.self.inside.units c.self.invariant c.args.self.now c.self.view_is
+    (seen_no_copy c.self.inside.units c.self.invariant.fit c.args.self.now c.self.view_is
     c.deref.result.now c.deref.ensures.value c.args.bank c.in-None.ensures)

@@ -8,10 +8,10 @@ pub returns-in-Some : goal.returns-in-Some
 returns-in-Some c =
     c.entry.ensures
     ∙ ap (λ m. get m c.args.base)
-    (seen_entries c.self.inside.units c.self.invariant c.args.self.now c.self.view_is
+    (seen_entries c.self.inside.units c.self.invariant.fit c.args.self.now c.self.view_is
     c.deref.result.now c.deref.ensures.value c.args.bank c.in-Some.bank.now c.in-Some.ensures)
 
 pub returns-in-None : goal.returns-in-None
 returns-in-None c =
-    seen_no_entry c.self.inside.units c.self.invariant c.args.self.now c.self.view_is
+    seen_no_entry c.self.inside.units c.self.invariant.fit c.args.self.now c.self.view_is
     c.deref.result.now c.deref.ensures.value c.args.bank c.in-None.ensures c.args.base

@@ -5,5 +5,5 @@ use Rattle.tss_pipeline.proofs.pipeline.Pipeline.reached.Goals as goal
 
 pub returns : goal.returns
 returns c = record {
-  reached = subst (λ (p : PipelineState). IsReached p.machine p.state) c.self.view_is c.self.invariant.reached;
+  reached = subst (λ (p : PipelineState). IsReached p.machine p.state) c.self.view_is c.self.invariant.fit.reached;
 }

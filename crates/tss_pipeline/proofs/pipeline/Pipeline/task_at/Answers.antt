@@ -19,5 +19,5 @@ pub returns-clause-number : goal.returns-clause-number
 returns-clause-number c =
     number_told c.args.self.now.state.flight
     (number_reached c.args.self.now
-    (subst (λ (p : PipelineState). IsReached p.machine p.state) c.self.view_is c.self.invariant.reached))
+    (subst (λ (p : PipelineState). IsReached p.machine p.state) c.self.view_is c.self.invariant.fit.reached))
     c.args.i c.task_at.result (returns-clause-task c)

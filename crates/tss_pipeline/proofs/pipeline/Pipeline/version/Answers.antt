@@ -12,12 +12,12 @@ returns-in-Some-clause-version c =
     ap (option_map version_shown) c.version.ensures
     ∙ version_told c.in-Some.bank.now.versions.versions c.args.v
     ∙ ap (λ m. get m c.args.v)
-    (seen_versions c.self.inside.units c.self.invariant c.args.self.now c.self.view_is
+    (seen_versions c.self.inside.units c.self.invariant.fit c.args.self.now c.self.view_is
     c.deref.result.now c.deref.ensures.value c.args.bank c.in-Some.bank.now c.in-Some.ensures)
 
 pub returns-in-None-clause-version : goal.returns-in-None-clause-version
 returns-in-None-clause-version c =
-    seen_no_version c.self.inside.units c.self.invariant c.args.self.now c.self.view_is
+    seen_no_version c.self.inside.units c.self.invariant.fit c.args.self.now c.self.view_is
     c.deref.result.now c.deref.ensures.value c.args.bank c.in-None.ensures c.args.v
 
 pub returns-in-Some-clause-name : goal.returns-in-Some-clause-name
@@ -25,11 +25,11 @@ returns-in-Some-clause-name c =
     ap (option_map (λ (x : VersionView). x.name)) c.version.ensures
     ∙ version_named c.in-Some.bank.now.versions.versions c.args.v
     ∙ ap (λ m. option_map (λ (x : Version). c.args.v) (get m c.args.v))
-    (seen_versions c.self.inside.units c.self.invariant c.args.self.now c.self.view_is
+    (seen_versions c.self.inside.units c.self.invariant.fit c.args.self.now c.self.view_is
     c.deref.result.now c.deref.ensures.value c.args.bank c.in-Some.bank.now c.in-Some.ensures)
 
 pub returns-in-None-clause-name : goal.returns-in-None-clause-name
 returns-in-None-clause-name c =
     ap (option_map (λ (x : Version). c.args.v))
-    (seen_no_version c.self.inside.units c.self.invariant c.args.self.now c.self.view_is
+    (seen_no_version c.self.inside.units c.self.invariant.fit c.args.self.now c.self.view_is
     c.deref.result.now c.deref.ensures.value c.args.bank c.in-None.ensures c.args.v)

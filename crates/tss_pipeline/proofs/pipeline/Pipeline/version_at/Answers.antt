@@ -11,7 +11,7 @@ returns-in-Some-clause-version c =
     ap (option_map version_shown) c.version_at.ensures
     ∙ version_told_at c.in-Some.bank.now.versions.versions c.args.i
     ∙ ap (λ m. value_at m c.args.i)
-    (seen_versions c.self.inside.units c.self.invariant c.args.self.now c.self.view_is
+    (seen_versions c.self.inside.units c.self.invariant.fit c.args.self.now c.self.view_is
     c.deref.result.now c.deref.ensures.value c.args.bank c.in-Some.bank.now c.in-Some.ensures)
 
 pub returns-in-Some-clause-name : goal.returns-in-Some-clause-name
@@ -19,15 +19,15 @@ returns-in-Some-clause-name c =
     ap (option_map (λ (x : VersionView). x.name)) c.version_at.ensures
     ∙ version_named_at c.in-Some.bank.now.versions.versions c.args.i
     ∙ ap (λ m. key_at m c.args.i)
-    (seen_versions c.self.inside.units c.self.invariant c.args.self.now c.self.view_is
+    (seen_versions c.self.inside.units c.self.invariant.fit c.args.self.now c.self.view_is
     c.deref.result.now c.deref.ensures.value c.args.bank c.in-Some.bank.now c.in-Some.ensures)
 
 pub returns-in-None-clause-version : goal.returns-in-None-clause-version
 returns-in-None-clause-version c =
-    seen_no_version_at c.self.inside.units c.self.invariant c.args.self.now c.self.view_is
+    seen_no_version_at c.self.inside.units c.self.invariant.fit c.args.self.now c.self.view_is
     c.deref.result.now c.deref.ensures.value c.args.bank c.in-None.ensures c.args.i
 
 pub returns-in-None-clause-name : goal.returns-in-None-clause-name
 returns-in-None-clause-name c =
-    seen_no_name_at c.self.inside.units c.self.invariant c.args.self.now c.self.view_is
+    seen_no_name_at c.self.inside.units c.self.invariant.fit c.args.self.now c.self.view_is
     c.deref.result.now c.deref.ensures.value c.args.bank c.in-None.ensures c.args.i

@@ -1,0 +1,2 @@
+mod WorkloadLemmas
+mod ReportLemmas

@@ -1,0 +1,4 @@
+pub mod Sequences
+pub mod Ranges
+mod WordLemmas
+mod EventTexts

@@ -1,0 +1,11 @@
+mod ItemLemmas
+mod BankLemmas
+mod TaskLemmas
+mod NextEntries
+mod EarlierVersions
+mod VersionLines
+mod ShownTexts
+mod FirstObjects
+mod BankVersions
+mod WorkerLemmas
+mod ReachedStates
