@@ -1,6 +1,8 @@
 #!/bin/sh
 # Compares each program with itself: the image on the simulator, in program order, and the plain form under
 # qemu-riscv32. Both must print the same bytes and exit with the same status, of which Linux keeps eight bits.
+# Then the image on the unit machine, under several seeds and machines: but for its events and peaks each report must be
+# that of program order.
 # It ends with 0 where all programs agree, 1 where one doesn't, and 2 where a package isn't there or a build fails.
 # The simulator is ../tss, or the program that TSS names.
 cd "$(dirname "$0")" || exit 2
@@ -16,6 +18,20 @@ need riscv64-unknown-elf-gcc gcc-riscv64-unknown-elf
 need qemu-riscv32 qemu-user
 [ $missing = 0 ] || exit 2
 make -s plain || { echo "building the plain forms failed"; exit 2; }
+sed 's/^window .*/window = 8/' big.toml >out/window.toml
+
+# runs_alike IMAGE: whether each run on the unit machine has the status and the report of program order, without peaks.
+runs_alike() {
+    for machine in small.toml big.toml out/window.toml; do
+        "$tss" inorder "$1" "$machine" >out/one.report
+        wanted=$?
+        for seed in 0 1 7 99; do
+            "$tss" run "$1" "$machine" seed $seed >out/two.report
+            [ $? = $wanted ] || return 1
+            grep -av '^events \|^peak ' out/two.report | cmp -s out/one.report - || return 1
+        done
+    done
+}
 
 differs=0
 for plain in out/*.plain; do
@@ -34,6 +50,7 @@ for plain in out/*.plain; do
     *) what="the ending is '$ending'" ;;
     esac
     cmp -s "out/$name.expected" "out/$name.printed" || what="$what${what:+; }the output"
+    runs_alike "$image" || what="$what${what:+; }a run on $machine under seed $seed"
     if [ -z "$what" ]; then
         echo "$name: OK, status $status, $length bytes"
     else

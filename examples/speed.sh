@@ -1,7 +1,7 @@
 #!/bin/sh
-# Prints what a simulated instruction costs the host, in instructions of the host, by callgrind; and what many tiny
-# tasks and many named objects cost. Each program of speed/ runs with two counts of turns, so that what a run costs
-# before its loop doesn't count.
+# Prints what a simulated instruction costs the host, in instructions of the host, by callgrind; what many tiny tasks
+# and many named objects cost; and what the workload costs on the unit machine. Each program of speed/ runs with two
+# counts of turns, so that what a run costs before its loop doesn't count.
 # The simulator is the program that ./tss builds, or the one that TSS names. It ends with 0, or with 2 where a package
 # isn't there or a build fails.
 cd "$(dirname "$0")" || exit 2
@@ -83,3 +83,10 @@ build names 65534 rising 1
 echo "| 65,534 objects named at rising addresses | $(host rising) | $(seconds rising) |"
 build names 65534 falling 0
 echo "| 65,534 objects named at falling addresses | $(host falling) | $(seconds falling) |"
+echo
+echo '| on the unit machine | host instructions |'
+echo '|---|---|'
+events=$("$tss" self 40 | sed -n 's/^events //p')
+counted=$(valgrind --tool=callgrind --callgrind-out-file=/dev/null "$tss" self 40 2>&1 >/dev/null |
+    sed -n 's/.*Collected : //p')
+echo "| self 40, $events events | $counted |"
