@@ -21,7 +21,7 @@ use Rattle.tss_locality.specs.Scopes.{Scope, beyond, ChangesOnly, VersionIn, Are
 use Rattle.tss_locality.proofs.Agreements.{IsOther, other_none, other_some, same_for, same_for_inserted, same_for_removed, agree_removed}
 use Rattle.tss_locality.proofs.States.{state_home, state_versions, state_copies}
 use Rattle.tss_locality.proofs.Sending.{changes_none, changes_taken, changes_sent}
-use Rattle.tss_locality.proofs.Stores.{IsWrittenIn, home_written}
+use Rattle.tss_locality.proofs.stores.Stores.{IsWrittenIn, home_written}
 
 -- a piece ends with its object at the latest
 piece_ends : (base len moved left n a : ℕ) → n ≡ min (min 64 (len - moved)) left → base + moved ≤ a →

@@ -20,7 +20,7 @@ use Rattle.tss_protocol.specs.MainEvent.{has_no_task, has_no_object, is_drained}
 use Rattle.tss_locality.specs.Agreement.{operand_in}
 use Rattle.tss_locality.specs.Objects.{Objects, object_scope, Every, LinksStay, IsNamed, IsWithinObjects}
 use Rattle.tss_locality.proofs.Flights.{record_in}
-use Rattle.tss_locality.proofs.FamilyScopes.{closed_family}
+use Rattle.tss_locality.proofs.closed.FamilyScopes.{closed_family}
 
 module _ (f g : Objects) (fewer : (o : OpName) (x : Range) → g o ≡ Some x → f o ≡ Some x)
     (whole : (o q : OpName) (x : Range) → g o ≡ Some x → f q ≡ Some x → g q ≡ Some x) where

@@ -9,7 +9,7 @@ use Rattle.tss_protocol.specs.State.{State}
 use Rattle.tss_locality.specs.Agreement.{ClosedAt}
 use Rattle.tss_locality.specs.Scopes.{Scope, IsBase, SourceIn, VersionIn, OpeningIn, GoingIn, Closed}
 use Rattle.tss_locality.specs.Objects.{Objects, object_scope, Every, HasObject, AreNamed, IsNamed, IsWithinObjects}
-use Rattle.tss_locality.proofs.FamilyScopes.{LiesWithin, storage_more, source_more, base_more, version_more, record_more, opening_more, going_more, copy_more}
+use Rattle.tss_locality.proofs.closed.FamilyScopes.{LiesWithin, storage_more, source_more, base_more, version_more, record_more, opening_more, going_more, copy_more}
 
 module _ (f g : Objects) (grows : (o : OpName) (x : Range) → f o ≡ Some x → g o ≡ Some x) where
   has_more : (o : OpName) → HasObject f o → HasObject g o

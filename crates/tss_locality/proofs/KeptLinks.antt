@@ -19,9 +19,9 @@ use Rattle.tss_locality.specs.Concerns.{FindsOwn}
 use Rattle.tss_locality.specs.Objects.{Objects, object_scope, Every, LinksStay, HasObject, SpawnsWith, StandNumbered, EntriesNamed}
 use Rattle.tss_locality.proofs.EachEvent.{ChangesOnly-after_event}
 use Rattle.tss_locality.proofs.LeftFields.{Leaves-after_event}
-use Rattle.tss_locality.proofs.ClosedObjectEvents.{Closed-decode, Closed-open, Closed-use, Closed-ready, Closed-link, Closed-release, Closed-idle, Closed-nack, Closed-retire, Closed-copy, Closed-gone}
-use Rattle.tss_locality.proofs.ClosedTaskEvents.{Closed-main, Closed-take, Closed-ack, Closed-start, Closed-exec, Closed-finish, Closed-bye}
-use Rattle.tss_locality.proofs.ApartScopes.{AreApart, OthersWere, closed_apart}
+use Rattle.tss_locality.proofs.closed.ClosedObjectEvents.{Closed-decode, Closed-open, Closed-use, Closed-ready, Closed-link, Closed-release, Closed-idle, Closed-nack, Closed-retire, Closed-copy, Closed-gone}
+use Rattle.tss_locality.proofs.closed.ClosedTaskEvents.{Closed-main, Closed-take, Closed-ack, Closed-start, Closed-exec, Closed-finish, Closed-bye}
+use Rattle.tss_locality.proofs.closed.ApartScopes.{AreApart, OthersWere, closed_apart}
 use Rattle.tss_locality.proofs.EntryChanges.{object_found, decoded_object, entries_decoded, entries_idle, entries_gone}
 use Rattle.tss_locality.proofs.SeparateObjects.{decide_range}
 

@@ -14,7 +14,7 @@ use Rattle.tss_locality.specs.Concerns.{ConcernsTask, ConcernsMain}
 use Rattle.tss_locality.proofs.States.{InboxOn, state_main, state_home, state_inbox}
 use Rattle.tss_locality.proofs.Sending.{changes_none}
 use Rattle.tss_locality.proofs.TakeEvent.{inbox_arrived}
-use Rattle.tss_locality.proofs.MainStores.{main_stretch_only}
+use Rattle.tss_locality.proofs.stores.MainStores.{main_stretch_only}
 use Rattle.tss_protocol.proofs.DrainedStates.{none_from_test}
 
 module _ (c : Scope) (m : Machine) (S : State) (p : ConcernsMain c m S) where

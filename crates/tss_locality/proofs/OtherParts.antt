@@ -14,7 +14,7 @@ use Rattle.tss_locality.specs.Concerns.{Concerns}
 use Rattle.tss_locality.specs.Objects.{Objects, object_scope, Every}
 use Rattle.tss_locality.proofs.Parts.{same_object, same_task}
 use Rattle.tss_locality.proofs.EachEvent.{ChangesOnly-after_event}
-use Rattle.tss_locality.proofs.FamilyScopes.{closed_family}
+use Rattle.tss_locality.proofs.closed.FamilyScopes.{closed_family}
 
 module _ (c : Scope) (m : Machine) (S : State) (closed : Closed c S) (e : Event) (on : IsEnabled m S e)
     (concerns : Concerns c m S e) where

@@ -21,7 +21,7 @@ use Rattle.tss_locality.specs.Extents.{SameOn, object_part, task_part}
 use Rattle.tss_locality.specs.Scopes.{ChangesOnly}
 use Rattle.tss_locality.specs.Objects.{HasObject, subject, OperandsNamed, object_scope, operands_scope, task_scope}
 use Rattle.tss_locality.specs.Rounds.{object_or, object_in, IsTaskOf, IsRounded}
-use Rattle.tss_locality.proofs.NamedRows.{known}
+use Rattle.tss_locality.proofs.named.NamedRows.{known}
 use Rattle.tss_locality.proofs.TakeEvent.{own_arrival}
 use Rattle.tss_locality.proofs.Subjects.{other_object-subject, other_task-subject, ChangesOnly-subject, arrival_task, ChangesOnly-taking, ChangesOnly-starting, ChangesOnly-executing}
 use Rattle.tss_locality.proofs.RoundObjects.{finds_own, found_in_round}

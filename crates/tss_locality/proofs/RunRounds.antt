@@ -41,7 +41,7 @@ use Rattle.tss_locality.specs.Rounds.{object_in, IsIn, AreSeparate, IsTaskOf, Is
 use Rattle.tss_protocol.proofs.FrontLemmas.{Front, is_of_front, KeepsFront-after_event}
 use Rattle.tss_locality.proofs.MainCalls.{SameCalls, calls_stretch, calls_print}
 use Rattle.tss_locality.proofs.LeftFields.{Leaves-after_event}
-use Rattle.tss_locality.proofs.NamedEvents.{IsWithinObjects-initial_state, IsWithinObjects-after_event}
+use Rattle.tss_locality.proofs.named.NamedEvents.{IsWithinObjects-initial_state, IsWithinObjects-after_event}
 use Rattle.tss_locality.proofs.GrownObjects.{IsWithinObjects-grown}
 use Rattle.tss_locality.proofs.FewerObjects.{nothing_there, empty_drained, none_decodes, IsWithinObjects-drained}
 use Rattle.tss_locality.proofs.EntryChanges.{object_found, decoded_object, entries_decoded, entries_idle, entries_gone}

@@ -31,7 +31,7 @@ use Rattle.tss_locality.proofs.Tasks.{other_number}
 use Rattle.tss_locality.proofs.TakeEvent.{ChangesOnly-take}
 use Rattle.tss_locality.proofs.MainEventLemmas.{ChangesOnly-main}
 use Rattle.tss_locality.proofs.WorkerEvents.{ChangesOnly-start, ChangesOnly-exec, ChangesOnly-finish}
-use Rattle.tss_locality.proofs.FamilyScopes.{closed_family}
+use Rattle.tss_locality.proofs.closed.FamilyScopes.{closed_family}
 use Rattle.tss_locality.proofs.OtherParts.{closed_tasks, apart_object}
 
 same_head : (t u : ℕ) (ts us : List ℕ) → t ∷ ts ≡ u ∷ us → t ≡ u

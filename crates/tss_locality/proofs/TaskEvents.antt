@@ -15,7 +15,7 @@ use Rattle.tss_locality.proofs.Messages.{named_from_all_in}
 use Rattle.tss_locality.proofs.States.{state_home, state_flight, state_queue, state_contents}
 use Rattle.tss_locality.proofs.Sending.{changes_taken, changes_sent}
 use Rattle.tss_locality.proofs.Tasks.{times_queued, ready_only, link_only, bye_only}
-use Rattle.tss_locality.proofs.Stores.{StoresOnly}
+use Rattle.tss_locality.proofs.stores.Stores.{StoresOnly}
 
 module _ (c : Scope) (S : State) where
   -- storages are written after other changes

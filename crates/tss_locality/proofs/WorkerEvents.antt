@@ -25,8 +25,8 @@ use Rattle.tss_locality.proofs.States.{state_flight, state_queue, state_workers,
 use Rattle.tss_locality.proofs.Flights.{record_in, keeps_records, flight_inserted}
 use Rattle.tss_locality.proofs.Sending.{changes_none, changes_sent}
 use Rattle.tss_locality.proofs.Tasks.{times_in_front, finish_only, finish_sent}
-use Rattle.tss_locality.proofs.Stores.{stores_same, PlacedIn, outputs_only}
-use Rattle.tss_locality.proofs.Stretches.{stretch_only}
+use Rattle.tss_locality.proofs.stores.Stores.{stores_same, PlacedIn, outputs_only}
+use Rattle.tss_locality.proofs.stores.Stretches.{stretch_only}
 use Rattle.tss_locality.proofs.TaskEvents.{changes_stores}
 
 module _ (c : Scope) where

@@ -22,9 +22,9 @@ use Rattle.tss_protocol.specs.UnitMachine.{tables_of, without, with_sent, with_v
 use Rattle.tss_locality.specs.Concerns.{FindsOwn}
 use Rattle.tss_locality.specs.Scopes.{Scope, IsOwn, MaybeStorageIn, VersionIn, ClosedEntries, ClosedCopies, CopyIn, Closed}
 use Rattle.tss_locality.proofs.Agreements.{closed_removed}
-use Rattle.tss_locality.proofs.ClosedMessages.{KeepAllIn, closed_taken, closed_posted_all, keep_all_from_in}
-use Rattle.tss_locality.proofs.ClosedStates.{closed_by, closed_mail, closed_versions, closed_flight, closed_entries}
-use Rattle.tss_locality.proofs.ClosedFlights.{closed_ready, closed_link}
+use Rattle.tss_locality.proofs.closed.ClosedMessages.{KeepAllIn, closed_taken, closed_posted_all, keep_all_from_in}
+use Rattle.tss_locality.proofs.closed.ClosedStates.{closed_by, closed_mail, closed_versions, closed_flight, closed_entries}
+use Rattle.tss_locality.proofs.closed.ClosedFlights.{closed_ready, closed_link}
 use Rattle.tss_locality.proofs.Tasks.{ready_only, link_only}
 use Rattle.tss_locality.proofs.VersionChanges.{StaysIn}
 use Rattle.tss_locality.proofs.VersionEvents.{stays_open, stays_use, stays_release, stays_nack}

@@ -19,8 +19,8 @@ use Rattle.tss_protocol.specs.Mail.{StorageName, Home, Buffer}
 use Rattle.tss_protocol.specs.Workers.{Stores, Placed, placed_in, placed_at, storage_write, write_in, worker_write}
 use Rattle.tss_protocol.specs.Buffers.{buffer_bytes}
 use Rattle.tss_locality.specs.Scopes.{Scope, IsInside, StorageIn}
-use Rattle.tss_locality.proofs.Stores.{IsWrittenIn, StoresOnly, stores_home, stores_buffer, PlacedIn, placed_rest}
-use Rattle.tss_locality.proofs.StoreSteps.{MayWrite, StoresWithin, core_step_within}
+use Rattle.tss_locality.proofs.stores.Stores.{IsWrittenIn, StoresOnly, stores_home, stores_buffer, PlacedIn, placed_rest}
+use Rattle.tss_locality.proofs.stores.StoreSteps.{MayWrite, StoresWithin, core_step_within}
 
 false_true : false ≡ true → ⊥
 false_true e = cc

@@ -32,10 +32,10 @@ use Rattle.tss_locality.proofs.Messages.{mail_same, mail_posted_all}
 use Rattle.tss_locality.proofs.Flights.{record_in, from_mapped, keeps_records, flight_inserted}
 use Rattle.tss_locality.proofs.Tasks.{from_zero, decodes_sent}
 use Rattle.tss_locality.proofs.TakeEvent.{own_arrival}
-use Rattle.tss_locality.proofs.ApartScopes.{OthersWere}
+use Rattle.tss_locality.proofs.closed.ApartScopes.{OthersWere}
 use Rattle.tss_locality.proofs.SeparateObjects.{decide_range}
 use Rattle.tss_locality.proofs.KeptLinks.{IsKnown}
-use Rattle.tss_locality.proofs.NamedStates.{named_agree, records_named, mail_named}
+use Rattle.tss_locality.proofs.named.NamedStates.{named_agree, records_named, mail_named}
 
 module _ (f : Objects) (m : Machine) (S : State) (named : IsNamed f S) where
   -- ---- the event's operand or version has an object

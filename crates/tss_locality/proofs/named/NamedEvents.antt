@@ -17,10 +17,10 @@ use Rattle.tss_locality.specs.Objects.{Objects, object_scope, Every, LinksStay, 
 use Rattle.tss_locality.proofs.WorkerEvents.{ChangesOnly-finish}
 use Rattle.tss_locality.proofs.EachEvent.{ChangesOnly-after_event}
 use Rattle.tss_locality.proofs.LeftFields.{Leaves-after_event}
-use Rattle.tss_locality.proofs.ApartScopes.{OthersWere}
+use Rattle.tss_locality.proofs.closed.ApartScopes.{OthersWere}
 use Rattle.tss_locality.proofs.KeptLinks.{LinksStay-initial_state, LinksStay-after_event, others_left, others_decoded, others_idle, others_gone}
-use Rattle.tss_locality.proofs.NamedStates.{IsNamed-initial_state}
-use Rattle.tss_locality.proofs.NamedRows.{known, named_after, workers_same, entries_after, copies_same, all_named, take_named, start_named, exec_named, finish_workers, main_named, retire_version_copies, copy_copies}
+use Rattle.tss_locality.proofs.named.NamedStates.{IsNamed-initial_state}
+use Rattle.tss_locality.proofs.named.NamedRows.{known, named_after, workers_same, entries_after, copies_same, all_named, take_named, start_named, exec_named, finish_workers, main_named, retire_version_copies, copy_copies}
 
 module _ (f : Objects) (m : Machine) (S : State) (within : IsWithinObjects f S) where
   -- the scope of an object that is named

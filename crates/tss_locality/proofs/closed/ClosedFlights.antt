@@ -19,7 +19,7 @@ use Rattle.tss_protocol.specs.Stations.{is_gone, remaining_tasks, new_operand, w
 use Rattle.tss_locality.specs.Scopes.{Scope, MaybeSourceIn, SourceIn, LinkIn, RecordIn, ClosedFlight}
 use Rattle.tss_locality.proofs.Flights.{record_in, from_set, from_mapped}
 use Rattle.tss_locality.proofs.Tasks.{shifted, from_zero}
-use Rattle.tss_locality.proofs.ClosedMessages.{KeepAllIn}
+use Rattle.tss_locality.proofs.closed.ClosedMessages.{KeepAllIn}
 
 -- the records of a task under a number are of the scope
 abbrev pub TaskIn : Scope → ℕ → Flying → Type 0

@@ -15,8 +15,8 @@ use Rattle.tss_base.specs.declared.refusals.TheConstants.{MAIN_BUDGET_SPENT}
 use Rattle.tss_model.specs.MainStep.{Flat, main_refused, has_spent, main_on, main_core, main_step, main_stretch}
 use Rattle.tss_locality.specs.Scopes.{Scope, IsInside, beyond}
 use Rattle.tss_locality.proofs.States.{HomeOn}
-use Rattle.tss_locality.proofs.Stores.{IsWrittenIn, home_written}
-use Rattle.tss_locality.proofs.StoreSteps.{MayWrite, StoresWithin, core_step_within}
+use Rattle.tss_locality.proofs.stores.Stores.{IsWrittenIn, home_written}
+use Rattle.tss_locality.proofs.stores.StoreSteps.{MayWrite, StoresWithin, core_step_within}
 
 false_true : false ≡ true → ⊥
 false_true e = cc

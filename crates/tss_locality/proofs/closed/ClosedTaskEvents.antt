@@ -26,11 +26,11 @@ use Rattle.tss_locality.specs.Agreement.{operand_in}
 use Rattle.tss_locality.specs.Scopes.{Scope, StorageIn, MaybeSourceIn, ClosedWorker, ClosedWorkers, Closed}
 use Rattle.tss_locality.proofs.Flights.{from_mapped}
 use Rattle.tss_locality.proofs.Tasks.{shifted, from_zero}
-use Rattle.tss_locality.proofs.ClosedMessages.{KeepAllIn}
-use Rattle.tss_locality.proofs.ClosedStates.{ClosedInbox, closed_by}
-use Rattle.tss_locality.proofs.ClosedFlights.{task_in, closed_flight_put, closed_bye, closed_finish, finish_keeps, closed_entered}
+use Rattle.tss_locality.proofs.closed.ClosedMessages.{KeepAllIn}
+use Rattle.tss_locality.proofs.closed.ClosedStates.{ClosedInbox, closed_by}
+use Rattle.tss_locality.proofs.closed.ClosedFlights.{task_in, closed_flight_put, closed_bye, closed_finish, finish_keeps, closed_entered}
 use Rattle.tss_locality.proofs.TakeEvent.{own_arrival}
-use Rattle.tss_locality.proofs.ClosedObjectEvents.{closed_without, closed_sent}
+use Rattle.tss_locality.proofs.closed.ClosedObjectEvents.{closed_without, closed_sent}
 
 module _ (c : Scope) (m : Machine) (S : State) (closed : Closed c S) where
   -- ---- ack, bye

@@ -1,0 +1,3 @@
+pub mod NamedStates
+pub mod NamedRows
+pub mod NamedEvents

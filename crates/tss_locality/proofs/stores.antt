@@ -1,0 +1,4 @@
+pub mod Stores
+pub mod StoreSteps
+pub mod Stretches
+pub mod MainStores
