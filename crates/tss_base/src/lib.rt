@@ -2,7 +2,7 @@
 //! the machine with its limits and sizes, and the events of the unit machine. A contract sees these types as they
 //! stand, but a segment and an image, whose fields are private: a segment as its base, bytes and flags, an image as
 //! its entry and its segments in address order. What an accepted image and an admissible machine are stands here too.
-//! Each fixed number stands here once: causes of traps, main's refusals and calls, addresses, and bounds. Code takes
+//! Each fixed number stands here once: causes of traps, main's refusals and calls, operand lists, addresses, and bounds. Code takes
 //! it from its module, and a definition cites the same constant.
 #![tactic(auto)]
 
@@ -14,6 +14,7 @@ mod counts;
 mod ending;
 mod event;
 mod image;
+pub mod lists;
 mod machine;
 mod marks;
 mod operand;

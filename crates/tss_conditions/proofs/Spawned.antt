@@ -3,6 +3,7 @@ use Rattle.std.proofs.Common.{◌≡◌, ℕ, zero, suc, ◌≤◌, Bool, true, 
 use Rattle.std.specs.Prelude.{◌+◌, ◌-◌, ◌==◌, ◌&&◌, nat_lt, nat_le, cond}
 use Rattle.std.proofs.lemmas.Bool.{ltb-false}
 use Rattle.std.proofs.lemmas.Option.{none-some, same_Some}
+use Rattle.tss_base.specs.declared.lists.TheConstants.{ENTRY_BYTES}
 use Rattle.tss_base.specs.declared.range.Range.{Range}
 use Rattle.tss_base.specs.declared.operand.Operand.{Operand}
 use Rattle.tss_base.specs.declared.operand.Task.{Task}
@@ -62,7 +63,7 @@ many_checked limits m named (e ∷ es) os h =
 
 many_at : (m : Memory) (at n : ℕ) → length (entries_at m at n) ≡ n
 many_at m at zero = refl
-many_at m at (suc n) = ap suc (many_at m (at + 12) n)
+many_at m at (suc n) = ap suc (many_at m (at + ENTRY_BYTES) n)
 
 module _ (call : SpawnCall) (m : Memory) (named : List Range) (limits : Limits) (spawned : ℕ) (t : Task) where
   task_counts : call.count ≤ limits.max_operands → (r : Result (List Operand) ℕ)

@@ -1,6 +1,7 @@
 -- The image of the workload, in either form, with n blocks a side.
 use Rattle.std.specs.Prelude.{ℕ, ◌+◌, ◌*◌, ◌-◌, ◌/◌, List, [], ◌∷◌, ◌++◌, length, map, flat_map}
 use Rattle.std.specs.List.{range_with_len}
+use Rattle.tss_base.specs.declared.lists.TheConstants.{INPUT, OUTPUT, INOUT}
 use Rattle.tss_isa.specs.declared.instr.Instr.{Instr}
 use Rattle.tss_isa.specs.declared.instr.Instr.TheVariants.{Lui, OpImm}
 use Rattle.tss_isa.specs.declared.instr.ImmOp.TheVariants.{Addi}
@@ -33,13 +34,13 @@ last_number n = n * (n + 1) / 2
 -- a record of the table: a task's address, how many operands it has, its argument, and a list of three operands of which
 -- those that it has come first
 abbrev pub input : ℕ → List ℕ
-input base = base ∷ block_len ∷ 1 ∷ []
+input base = base ∷ block_len ∷ INPUT ∷ []
 
 abbrev pub output : ℕ → List ℕ
-output base = base ∷ block_len ∷ 2 ∷ []
+output base = base ∷ block_len ∷ OUTPUT ∷ []
 
 abbrev pub inout : ℕ → List ℕ
-inout base = base ∷ block_len ∷ 3 ∷ []
+inout base = base ∷ block_len ∷ INOUT ∷ []
 
 abbrev pub nothing : List ℕ
 nothing = 0 ∷ 0 ∷ 0 ∷ []

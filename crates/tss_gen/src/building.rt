@@ -15,6 +15,7 @@ use crate::tasks::{MAIN_LOOP, tasks};
 use std::alloc::Global;
 use tss_asm::{AsmFault, Label, Program};
 use tss_base::NoMemory;
+use tss_base::lists::{INOUT, INPUT, OUTPUT};
 use tss_isa::Instr;
 
 /// Where the text begins, and where the blocks do.
@@ -33,13 +34,6 @@ const UPDATE: u32 = TEXT + 4 * 27;
 
 /// How many bytes a block has.
 const BLOCK_LEN: u32 = 64;
-
-/// Modes of operands.
-const INPUT: u32 = 1;
-
-const OUTPUT: u32 = 2;
-
-const INOUT: u32 = 3;
 
 /// The address of the block of a number.
 fn numbered_block(m: u32) -> u32

@@ -3,6 +3,7 @@
 use Rattle.std.specs.Prelude.{ℕ, zero, suc, ◌+◌, ◌-◌, ◌*◌, ◌%◌, ◌==◌, Bool, true, ◌&&◌, ◌||◌, not, nat_lt, nat_le, if◌then◌else◌, List, [], ◌∷◌, ◌++◌, map, length, filter, replicate, Option, Some, None, is_none, Result, Ok, Err}
 use Rattle.std.specs.List.{find, list_any, list_all}
 use Rattle.tss_base.specs.declared.bounds.TheConstants.{MAX_OPERANDS}
+use Rattle.tss_base.specs.declared.lists.TheConstants.{ENTRY_BYTES, INPUT, OUTPUT, INOUT}
 use Rattle.tss_base.specs.declared.range.Range.{Range}
 use Rattle.tss_base.specs.declared.operand.Mode.{Mode}
 use Rattle.tss_base.specs.declared.operand.Mode.TheVariants.{Input, Output, Inout}
@@ -63,21 +64,21 @@ word_at m at = number_at (byte_at m) at 4
 abbrev pub entry_at : Memory → ℕ → Entry
 entry_at m at = record { object = record { base = word_at m at; len = word_at m (at + 4) }; mode = word_at m (at + 8) }
 
--- so many entries from an address on, 12 bytes each
+-- so many entries from an address on, one after the other
 abbrev pub entries_at : Memory → ℕ → ℕ → List Entry
 entries_at m at zero = []
-entries_at m at (suc n) = entry_at m at ∷ entries_at m (at + 12) n
+entries_at m at (suc n) = entry_at m at ∷ entries_at m (at + ENTRY_BYTES) n
 
 -- where the list lies
 abbrev pub list_range : SpawnCall → Range
-list_range call = record { base = call.list; len = 12 * call.count }
+list_range call = record { base = call.list; len = ENTRY_BYTES * call.count }
 
--- a mode by its number, none where that isn't 1, 2 or 3
+-- a mode by its number, none where no mode has that number
 abbrev pub mode_of : ℕ → Option Mode
 mode_of n =
-    if n == 1 then Some Input
-    else if n == 2 then Some Output
-    else if n == 3 then Some Inout
+    if n == INPUT then Some Input
+    else if n == OUTPUT then Some Output
+    else if n == INOUT then Some Inout
     else None
 
 -- ---- the checks of one entry

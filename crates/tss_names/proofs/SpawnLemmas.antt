@@ -4,6 +4,7 @@ use Rattle.std.specs.Prelude.{nat_lt, nat_le, ◌==◌, ◌-◌}
 use Rattle.std.specs.List.{list_any}
 use Rattle.std.proofs.lemmas.Bool.{and_parts, leb-false, ltb-false}
 use Rattle.std.proofs.lemmas.List.{length-map, length_push}
+use Rattle.tss_base.specs.declared.lists.TheConstants.{ENTRY_BYTES}
 use Rattle.tss_base.specs.declared.range.Range.{Range}
 use Rattle.tss_base.specs.declared.operand.Operand.{Operand}
 use Rattle.tss_base.specs.declared.operand.Task.{Task}
@@ -60,7 +61,7 @@ length-entries_checked limits m named (e ∷ es) os h =
 
 length-entries_at : (m : Memory) (at n : ℕ) → length (entries_at m at n) ≡ n
 length-entries_at m at zero = refl
-length-entries_at m at (suc n) = ap suc (length-entries_at m (at + 12) n)
+length-entries_at m at (suc n) = ap suc (length-entries_at m (at + ENTRY_BYTES) n)
 
 -- no more merged operands than listed ones
 few_named : (named : List Range) (r : Range) → length (name_object named r) ≤ length named + 1

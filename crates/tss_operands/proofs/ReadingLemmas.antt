@@ -1,6 +1,7 @@
 -- The entries of an operand list, one after the other.
 use Rattle.std.proofs.Common.{◌≡◌, ℕ, suc, ◌+◌, ◌-◌, ◌*◌, ◌<◌, ◌&&◌, if◌then◌else◌, nat_lt, List, [], ◌∷◌, ◌++◌, Result, Ok, Err, refl, sym, ap, ◌∙◌, arith}
 use Rattle.std.proofs.lemmas.List.{append_assoc, append-nil, map_push}
+use Rattle.tss_base.specs.declared.lists.TheConstants.{ENTRY_BYTES}
 use Rattle.tss_base.specs.declared.range.Range.{Range}
 use Rattle.tss_base.specs.declared.operand.Operand.{Operand}
 use Rattle.tss_base.specs.declared.machine.Limits.{Limits}
@@ -44,13 +45,13 @@ module _ (limits : Limits) (m : Memory) (named : List Range) where
   -- an entry that passes its checks adds its operand
   rest_checked-next : (os : List Operand) (at n : ℕ) (o : Operand)
       → entry_checked limits m (named ++ objects_of os) (entry_at m at) ≡ Ok o
-      → rest_checked os at (suc n) ≡ rest_checked (os ++ o ∷ []) (at + 12) n
+      → rest_checked os at (suc n) ≡ rest_checked (os ++ o ∷ []) (at + ENTRY_BYTES) n
   unfolding entries_checked
   rest_checked-next os at n o passes =
       ap (λ r. joined os (with_rest r (λ p. entries_checked limits m ((named ++ objects_of os) ++ p.object ∷ [])
-      (entries_at m (at + 12) n)))) passes
+      (entries_at m (at + ENTRY_BYTES) n)))) passes
       ∙ joined-after_first os o _
-      ∙ ap (λ xs. joined (os ++ o ∷ []) (entries_checked limits m xs (entries_at m (at + 12) n)))
+      ∙ ap (λ xs. joined (os ++ o ∷ []) (entries_checked limits m xs (entries_at m (at + ENTRY_BYTES) n)))
       (append_assoc named (objects_of os) (o.object ∷ []) ∙ ap (λ xs. named ++ xs) (sym (map_push (λ p. p.object) os o)))
 
   -- and one that fails one is the end
@@ -60,7 +61,7 @@ module _ (limits : Limits) (m : Memory) (named : List Range) where
   unfolding entries_checked
   rest_checked-fails os at n k fails =
       ap (λ r. joined os (with_rest r (λ p. entries_checked limits m ((named ++ objects_of os) ++ p.object ∷ [])
-      (entries_at m (at + 12) n)))) fails
+      (entries_at m (at + ENTRY_BYTES) n)))) fails
 
   module _ (list count i : ℕ) (os : List Operand) (more : i < count) where
     left : count - i ≡ suc (count - (i + 1))
@@ -68,21 +69,21 @@ module _ (limits : Limits) (m : Memory) (named : List Range) where
 
     -- the same at the place in the list
     pub rest_checked-more : (o : Operand)
-        → entry_checked limits m (named ++ objects_of os) (entry_at m (list + 12 * i)) ≡ Ok o
-        → rest_checked os (list + 12 * i) (count - i)
-        ≡ rest_checked (os ++ o ∷ []) (list + 12 * (i + 1)) (count - (i + 1))
+        → entry_checked limits m (named ++ objects_of os) (entry_at m (list + ENTRY_BYTES * i)) ≡ Ok o
+        → rest_checked os (list + ENTRY_BYTES * i) (count - i)
+        ≡ rest_checked (os ++ o ∷ []) (list + ENTRY_BYTES * (i + 1)) (count - (i + 1))
     rest_checked-more o passes =
-        let next : (list + 12 * i) + 12 ≡ list + 12 * (i + 1) = omega arith in
-        ap (rest_checked os (list + 12 * i)) left
-        ∙ rest_checked-next os (list + 12 * i) (count - (i + 1)) o passes
+        let next : (list + ENTRY_BYTES * i) + ENTRY_BYTES ≡ list + ENTRY_BYTES * (i + 1) = omega arith in
+        ap (rest_checked os (list + ENTRY_BYTES * i)) left
+        ∙ rest_checked-next os (list + ENTRY_BYTES * i) (count - (i + 1)) o passes
         ∙ ap (λ at. rest_checked (os ++ o ∷ []) at (count - (i + 1))) next
 
     pub rest_checked-over : (k : ℕ)
-        → entry_checked limits m (named ++ objects_of os) (entry_at m (list + 12 * i)) ≡ Err k
-        → rest_checked os (list + 12 * i) (count - i) ≡ Err k
+        → entry_checked limits m (named ++ objects_of os) (entry_at m (list + ENTRY_BYTES * i)) ≡ Err k
+        → rest_checked os (list + ENTRY_BYTES * i) (count - i) ≡ Err k
     rest_checked-over k fails =
-        ap (rest_checked os (list + 12 * i)) left
-        ∙ rest_checked-fails os (list + 12 * i) (count - (i + 1)) k fails
+        ap (rest_checked os (list + ENTRY_BYTES * i)) left
+        ∙ rest_checked-fails os (list + ENTRY_BYTES * i) (count - (i + 1)) k fails
 
 -- an empty list passes
 pub list_checked-none : (call : SpawnCall) (m : Memory) (named : List Range) (limits : Limits) → call.count ≡ 0

@@ -6,6 +6,7 @@ use Rattle.std.proofs.lemmas.Bool.{and_right, cases_eq, cond-true, cond-false, e
 use Rattle.std.proofs.lemmas.List.{append_assoc, length-map}
 use Rattle.std.proofs.lemmas.List.Elements.{All-cons, All-nil, All-weaker}
 use Rattle.std.proofs.lemmas.List.Folds.{list_any-append, list_any_none}
+use Rattle.tss_base.specs.declared.lists.TheConstants.{ENTRY_BYTES}
 use Rattle.tss_base.specs.declared.range.Range.{Range}
 use Rattle.tss_base.specs.declared.operand.Mode.{Mode}
 use Rattle.tss_base.specs.declared.operand.Operand.{Operand}
@@ -148,7 +149,7 @@ entries_pass limits m named (e ∷ es) os h =
 -- so many entries
 length-entries_at : (m : Memory) (at n : ℕ) → length (entries_at m at n) ≡ n
 length-entries_at m at zero = refl
-length-entries_at m at (suc n) = ap suc (length-entries_at m (at + 12) n)
+length-entries_at m at (suc n) = ap suc (length-entries_at m (at + ENTRY_BYTES) n)
 
 -- ---- objects that lie apart
 

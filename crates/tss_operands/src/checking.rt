@@ -8,6 +8,7 @@ ghost use Rattle.tss_operands.specs.Spawning.{numbered};
 
 use crate::epoch::Epoch;
 use crate::spawn::SpawnFault;
+use tss_base::lists::{INOUT, INPUT, OUTPUT};
 use tss_base::refusals::{BAD_BASE, BAD_LENGTH, BAD_MODE, OBJECT_OUTSIDE, OVERLAP};
 use tss_base::{Limits, Mode, Operand, Range};
 use tss_memory::Space;
@@ -63,9 +64,9 @@ fn mode_of(number: u32) -> Option<Mode>
     ensures { result ≡ mode_of number }
 {
     match number {
-        1 => Some(Mode::Input),
-        2 => Some(Mode::Output),
-        3 => Some(Mode::Inout),
+        INPUT => Some(Mode::Input),
+        OUTPUT => Some(Mode::Output),
+        INOUT => Some(Mode::Inout),
         _ => None,
     }
 }

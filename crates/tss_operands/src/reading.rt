@@ -1,6 +1,7 @@
 // Operand lists in memory.
 ghost use Rattle.std.specs.Prelude.{◌≡◌, ◌+◌, ◌*◌, ◌≤◌, ◌++◌};
 ghost use Rattle.tss_base.specs.declared.bounds.TheConstants.{MAX_OPERANDS};
+ghost use Rattle.tss_base.specs.declared.lists.TheConstants.{ENTRY_BYTES};
 ghost use Rattle.tss_model.specs.Spawn.{entries_at, entries_checked, entry_at, entry_checked, list_range, objects_of, word_at};
 ghost use Rattle.tss_memory.specs.Ranges.{IsFound, memory_end};
 ghost use Rattle.tss_operands.specs.Spawning.{call_of, list_checked, numbered};
@@ -9,12 +10,10 @@ use crate::checking::checked_entry;
 use crate::epoch::Epoch;
 use crate::listing::Listing;
 use crate::spawn::{SpawnFault, SpawnWords};
+use tss_base::lists::ENTRY_BYTES;
 use tss_base::refusals::{LIST_PLACE, MAIN_TOUCH};
 use tss_base::{Limits, Operand, Range};
 use tss_memory::{Found, Space};
-
-/// How many bytes an entry has.
-const ENTRY_BYTES: u32 = 12;
 
 /// The operands that are listed, or the first check of the list and its entries that fails.
 pub(crate) fn listed(
@@ -55,7 +54,7 @@ fn checked_entries(
 ) -> Result<Listing, SpawnFault>
     requires few { words.now.count ≤ MAX_OPERANDS }
     requires found { IsFound space.now.ranges found (list_range (call_of words.now)) }
-    requires end { words.now.list + 12 * words.now.count ≤ memory_end }
+    requires end { words.now.list + ENTRY_BYTES * words.now.count ≤ memory_end }
     ensures { numbered result ≡ entries_checked limits.now space.now epoch.now.objects (entries_at space.now words.now.list words.now.count) }
 {
     let mut listed = Listing::new();
@@ -77,8 +76,8 @@ fn operand_at(
     epoch: &Epoch,
     limits: &Limits,
 ) -> Result<Operand, SpawnFault>
-    requires found { IsFound space.now.ranges found (record { base = at; len = 12 }) }
-    requires end { at + 12 ≤ memory_end }
+    requires found { IsFound space.now.ranges found (record { base = at; len = ENTRY_BYTES }) }
+    requires end { at + ENTRY_BYTES ≤ memory_end }
     ensures { numbered result ≡ entry_checked limits.now space.now (epoch.now.objects ++ objects_of earlier.now) (entry_at space.now at) }
 {
     let object = Range {

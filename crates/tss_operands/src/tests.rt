@@ -6,6 +6,7 @@ use crate::{Epoch, SpawnFault, SpawnWords, read_spawn};
 use std::alloc::Global;
 use std::process::Abort;
 use std::test::Fail;
+use tss_base::lists::ENTRY_BYTES;
 use tss_base::{Image, Limits, Mode, Operand, Range, Segment, Task};
 use tss_memory::Space;
 
@@ -61,7 +62,7 @@ fn spawn(
 ) -> Result<Task, SpawnFault> {
     assert!(rt; entries.len() <= 8 && limits.max_operands <= 7);
     for (i, entry) in entries.iter().enumerate() {
-        let at = LIST + 12 * i as u32;
+        let at = LIST + ENTRY_BYTES * i as u32;
         put(rt, space, at, entry.0);
         put(rt, space, at + 4, entry.1);
         put(rt, space, at + 8, entry.2);

@@ -3,6 +3,7 @@
 use Rattle.std.proofs.Common.{◌≡◌, ℕ, zero, suc, ◌+◌, ◌*◌, ◌<◌, ◌≤◌, Bool, true, false, Option, Some, None, Result, Err, List, [], ◌∷◌, ◌++◌, length, refl, ap, ◌∙◌, arith}
 use Rattle.std.specs.Prelude.{cond, if◌then◌else◌, ◌==◌, ◌%◌, ◌&&◌, ◌||◌, not, is_none, nat_lt}
 use Rattle.std.proofs.lemmas.Bool.{or_parts, lt-ltb}
+use Rattle.tss_base.specs.declared.lists.TheConstants.{ENTRY_BYTES}
 use Rattle.tss_base.specs.declared.range.Range.{Range}
 use Rattle.tss_base.specs.declared.operand.Mode.{Mode}
 use Rattle.tss_base.specs.declared.operand.Task.{Task}
@@ -26,14 +27,14 @@ some_from None e = absurd (cc)
 
 -- the entries of two memories that agree on their bytes
 pub entries_at-same : (h m : Memory) (at n : ℕ)
-    → ((a : ℕ) → at ≤ a → a < at + 12 * n → byte_at h a ≡ byte_at m a)
+    → ((a : ℕ) → at ≤ a → a < at + ENTRY_BYTES * n → byte_at h a ≡ byte_at m a)
     → entries_at h at n ≡ entries_at m at n
 entries_at-same h m at zero same = refl
 entries_at-same h m at (suc n) same =
     let base = same_number (byte_at h) (byte_at m) at 4 (λ a low high. same a (omega arith) (omega arith)) in
     let len = same_number (byte_at h) (byte_at m) (at + 4) 4 (λ a low high. same a (omega arith) (omega arith)) in
     let mode = same_number (byte_at h) (byte_at m) (at + 8) 4 (λ a low high. same a (omega arith) (omega arith)) in
-    let rest = entries_at-same h m (at + 12) n (λ a low high. same a (omega arith) (omega arith)) in
+    let rest = entries_at-same h m (at + ENTRY_BYTES) n (λ a low high. same a (omega arith) (omega arith)) in
     λ i. record { object = record { base = base i; len = len i }; mode = mode i } ∷ rest i
 
 -- the checks of a spawn before those of its entries

@@ -3,6 +3,7 @@ use crate::code::Code;
 use std::alloc::Global;
 use tss_asm::{AsmFault, Label, Program};
 use tss_base::calls::{AWAIT, BARRIER, EXIT, PRINT, SPAWN};
+use tss_base::lists::{INOUT, INPUT, OUTPUT};
 use tss_isa::{ImmOp, Instr, Test};
 
 /// Where the text begins, which is entered there, and where the data does.
@@ -12,13 +13,6 @@ const DATA: u32 = 0x20000;
 
 /// How many bytes of zeros the data has.
 const DATA_LEN: u32 = 0x1000;
-
-/// Modes of operands in a list.
-const INPUT: u32 = 1;
-
-const OUTPUT: u32 = 2;
-
-const INOUT: u32 = 3;
 
 /// An operand as a list has it.
 #[derive(Clone, Copy, Debug, PartialEq, Eq)]
