@@ -52,7 +52,7 @@ fn token(rt: &impl Abort, alloc: Global, number: u32, place: u8) -> Token
 {
     let ended = pool(rt, alloc, number).end();
     let mut pool = pool(rt, alloc, number);
-    for _ in 0..place {
+    for _k in 0..place {
         match pool.take() {
             Some(token) => token.end(&ended),
             None => rt.abort(),
