@@ -1,6 +1,7 @@
 -- What the tests check of a bank before a call is what the call asks.
-use Rattle.std.proofs.Common.{◌≡◌, ◌<◌, ℕ, true, false, Option, Some, None, refl, sym, ap, subst, ◌∙◌, option_map}
-use Rattle.std.specs.Prelude.{is_some}
+use Rattle.std.proofs.Common.{◌≡◌, ◌<◌, ◌+◌, ℕ, Bool, true, false, Option, Some, None, refl, sym, ap, subst, ◌∙◌, ◌⊎◌, inl, inr, arith, option_map}
+use Rattle.std.specs.Prelude.{is_some, not, nat_lt}
+use Rattle.std.proofs.lemmas.Bool.Decides.{nat_tests}
 use Rattle.std.specs.FinMap.{get, len}
 use Rattle.std.proofs.lemmas.Option.{none-some, same_Some}
 use Rattle.tss_base.specs.declared.operand.OpName.{OpName}
@@ -15,6 +16,7 @@ use Rattle.tss_protocol.specs.Versions.{may_die, may_ask}
 use Rattle.tss_protocol.specs.Settled.{IsSettled}
 use Rattle.tss_events.specs.Events.{storage_name}
 use Rattle.tss_versions.specs.declared.kept.Kept.{Kept}
+use Rattle.tss_versions.specs.declared.kept.Store.{Store}
 use Rattle.tss_versions.specs.declared.status.Next.{Next}
 use Rattle.tss_versions.specs.declared.status.Site.{Site}
 use Rattle.tss_versions.specs.declared.status.Status.{Status}
@@ -22,6 +24,16 @@ use Rattle.tss_versions.specs.Known.{follow_of, storage_in, version_by, version_
 use Rattle.tss_versions.specs.Conditions.{AreChained, IsBefore, IsChainedAt, IsNext}
 use Rattle.tss_versions.proofs.RowLemmas.{version_there}
 use Rattle.tss_versions.proofs.SettleLemmas.{kept_there}
+
+-- ---- tests
+
+pub below : (m n : ℕ) → nat_lt m n ≡ true → m < n
+below m n e = grind (arith, nat_tests)
+
+pub unset : (s : Option Store) (r : Bool) → is_some s ≡ not r → r ≡ true → s ≡ None
+unset None r e t = refl
+unset (Some x) true e t = absurd (cc)
+unset (Some x) false e t = absurd (cc)
 
 -- ---- a version is settled
 
@@ -87,7 +99,7 @@ chained_absent vs v none = record {
 }
   where
     missing : {A : Type 0} (y : Version) → get (versions_of vs) v ≡ Some y → A
-    missing y e = let k = kept_there vs v y e in absurd (none-some k.0 (sym none ∙ k.1.0))
+    missing y e = let k = kept_there vs v y e in absurd (none-some k.0 (sym none ∙ k.1))
 
 pub chained_here : (vs : Named Kept) (v : OpName) (x : Kept) → get vs v ≡ Some x → IsSettled (version_by None x.status) →
     ((s : Site) → x.status.predecessor ≡ Some s → IsBefore (versions_of vs) v s.name) →
@@ -97,16 +109,28 @@ chained_here vs v x there settled before after = record {
   settled = λ y e. subst IsSettled (is y e) (record { dies = settled.dies; asks = settled.asks });
   before = λ q y e to.
       let s = named_before x.status.predecessor q (ap (λ (y : Version). y.predecessor) (is y e) ∙ to) in
-      subst (IsBefore (versions_of vs) v) s.1.1 (before s.0 s.1.0);
+      subst (IsBefore (versions_of vs) v) s.2 (before s.0 s.1);
   after = λ y f e to.
       let n = next_after x.status.successor f (ap (λ (y : Version). y.successor) (is y e) ∙ to) in
-      subst (IsNext (versions_of vs) v) n.1.1 (after n.0 n.1.0);
+      subst (IsNext (versions_of vs) v) n.2 (after n.0 n.1);
 }
   where
     is : (y : Version) → get (versions_of vs) v ≡ Some y → version_of x ≡ y
     is y e = same_Some (version_of x) y (sym (version_there vs v x there) ∙ e)
 
 -- ---- all versions, by their names in order
+
+last_or_before : (i j : ℕ) → j < i + 1 → (j < i) ⊎ (j ≡ i)
+last_or_before i j below = grind arith
+
+-- one name more
+pub one_more : (vs : Named Kept) (P : OpName → Type 0) (i : ℕ) →
+    ((j : ℕ) (v : OpName) → j < i → key_at vs j ≡ Some v → P v) → ((v : OpName) → key_at vs i ≡ Some v → P v) →
+    (j : ℕ) (v : OpName) → j < i + 1 → key_at vs j ≡ Some v → P v
+one_more vs P i before here j v below at = elim (last_or_before i j below) [
+  | inl less ↦ before j v less at
+  | inr same ↦ here v (ap (λ k. key_at vs k) (sym same) ∙ at)
+]
 
 pub each_name : (vs : Named Kept) (P : OpName → Type 0) →
     ((i : ℕ) (v : OpName) → i < len vs → key_at vs i ≡ Some v → P v) →
@@ -125,4 +149,4 @@ chained_each vs all = record {
 }
   where
     here : (v : OpName) (y : Version) → get (versions_of vs) v ≡ Some y → IsChainedAt (versions_of vs) v
-    here v y e = let k = kept_there vs v y e in each_name vs (IsChainedAt (versions_of vs)) all v k.0 k.1.0
+    here v y e = let k = kept_there vs v y e in each_name vs (IsChainedAt (versions_of vs)) all v k.0 k.1
