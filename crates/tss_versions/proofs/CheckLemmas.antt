@@ -1,5 +1,5 @@
 -- What the tests check of a bank before a call is what the call asks.
-use Rattle.std.proofs.Common.{◌≡◌, ◌<◌, ◌+◌, ℕ, Bool, true, false, Option, Some, None, refl, sym, ap, subst, ◌∙◌, ◌⊎◌, inl, inr, arith, option_map}
+use Rattle.std.proofs.Common.{◌≡◌, ◌<◌, ◌+◌, ℕ, Bool, List, true, false, Option, Some, None, refl, sym, ap, subst, ◌∙◌, ◌⊎◌, inl, inr, arith, option_map}
 use Rattle.std.specs.Prelude.{is_some, not, nat_lt}
 use Rattle.std.proofs.lemmas.Bool.Decides.{nat_tests}
 use Rattle.std.specs.FinMap.{get, len}
@@ -15,6 +15,7 @@ use Rattle.tss_protocol.specs.State.{Version}
 use Rattle.tss_protocol.specs.Versions.{may_die, may_ask}
 use Rattle.tss_protocol.specs.Settled.{IsSettled}
 use Rattle.tss_events.specs.Events.{storage_name}
+use Rattle.tss_events.specs.declared.message.Message.{Message}
 use Rattle.tss_versions.specs.declared.kept.Kept.{Kept}
 use Rattle.tss_versions.specs.declared.kept.Store.{Store}
 use Rattle.tss_versions.specs.declared.status.Next.{Next}
@@ -22,6 +23,7 @@ use Rattle.tss_versions.specs.declared.status.Site.{Site}
 use Rattle.tss_versions.specs.declared.status.Status.{Status}
 use Rattle.tss_versions.specs.Known.{follow_of, storage_in, version_by, version_of, versions_of}
 use Rattle.tss_versions.specs.Conditions.{AreChained, IsBefore, IsChainedAt, IsNext}
+use Rattle.tss_versions.specs.Numbers.{AreSentNumbered}
 use Rattle.tss_versions.proofs.RowLemmas.{version_there}
 use Rattle.tss_versions.proofs.SettleLemmas.{kept_there}
 
@@ -150,3 +152,10 @@ chained_each vs all = record {
   where
     here : (v : OpName) (y : Version) → get (versions_of vs) v ≡ Some y → IsChainedAt (versions_of vs) v
     here v y e = let k = kept_there vs v y e in each_name vs (IsChainedAt (versions_of vs)) all v k.0 k.1
+
+-- ---- numbers of pools
+
+pub sent_by : (places buffers : ℕ) (ms : List Message) → places ≡ 0 → buffers ≡ 1 → AreSentNumbered 0 1 ms →
+    AreSentNumbered places buffers ms
+sent_by places buffers ms zero one sent =
+    subst (λ p. AreSentNumbered p buffers ms) (sym zero) (subst (λ b. AreSentNumbered 0 b ms) (sym one) sent)
