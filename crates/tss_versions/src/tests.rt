@@ -104,10 +104,22 @@ fn opened_bank_has_no_version(rt: HostRuntime) -> Result<(), Fail> {
 fn version_asks_again_after_one_more_reader(rt: HostRuntime) -> Result<(), Fail> {
     let mut bench = Bench::open(&rt, rt.alloc(), 16);
     bench.opens(&rt, rt.alloc(), first(1, Mode::Input, 0), &[ready(1, 1)]);
-    bench.releases(&rt, name(1, 0), name(1, 0), false, &[bye(1, false), idle(1, 1)]);
+    bench.releases(
+        &rt,
+        name(1, 0),
+        name(1, 0),
+        false,
+        &[bye(1, false), idle(1, 1)],
+    );
     bench.refuses(&rt, name(1, 0), &[]);
     bench.uses(&rt, name(2, 0), name(1, 0), &[ready(2, 1)]);
-    bench.releases(&rt, name(2, 0), name(1, 0), false, &[bye(2, false), idle(1, 2)]);
+    bench.releases(
+        &rt,
+        name(2, 0),
+        name(1, 0),
+        false,
+        &[bye(2, false), idle(1, 2)],
+    );
     bench.retires(&rt, name(1, 0), retired(1, 0, None));
     assert_eq!(rt; bench.count(), 0);
     bench.close();
@@ -128,12 +140,23 @@ fn full_bank_has_room_once_a_version_retired(rt: HostRuntime) -> Result<(), Fail
     let mut bench = Bench::open(&rt, rt.alloc(), 7);
     for i in 0..7u8 {
         let plan = input(i);
-        bench.opens(&rt, rt.alloc(), plan, &[Told::Ready(plan.o, plan.o, Storage::Home)]);
+        bench.opens(
+            &rt,
+            rt.alloc(),
+            plan,
+            &[Told::Ready(plan.o, plan.o, Storage::Home)],
+        );
     }
     for i in 0..7u8 {
         let plan = input(i);
         let idle = Told::Idle(plan.o, plan.operand.object.base, 1);
-        bench.releases(&rt, plan.o, plan.o, false, &[Told::Bye(plan.o, false), idle]);
+        bench.releases(
+            &rt,
+            plan.o,
+            plan.o,
+            false,
+            &[Told::Bye(plan.o, false), idle],
+        );
     }
     assert_eq!(rt; bench.count(), 7);
     bench.retires(&rt, name(1, 0), retired(1, 0, None));
@@ -156,7 +179,12 @@ fn readers_are_chained_as_they_register(rt: HostRuntime) -> Result<(), Fail> {
     bench.opens(&rt, rt.alloc(), first(1, Mode::Output, 3), &[ready(1, 1)]);
     bench.uses(&rt, name(10, 0), version, &[]);
     for task in (2..10).rev() {
-        bench.uses(&rt, name(task, 0), version, &[Told::Link(name(task + 1, 0), name(task, 0))]);
+        bench.uses(
+            &rt,
+            name(task, 0),
+            version,
+            &[Told::Link(name(task + 1, 0), name(task, 0))],
+        );
     }
     let seen = VersionView {
         name: version,
@@ -178,10 +206,22 @@ fn readers_are_chained_as_they_register(rt: HostRuntime) -> Result<(), Fail> {
     for task in 3..10 {
         bench.releases(&rt, name(task, 0), version, false, &[bye(task, true)]);
     }
-    bench.releases(&rt, name(10, 0), version, false, &[bye(10, true), idle(1, 9)]);
+    bench.releases(
+        &rt,
+        name(10, 0),
+        version,
+        false,
+        &[bye(10, true), idle(1, 9)],
+    );
     bench.uses(&rt, name(11, 0), version, &[ready(11, 1)]);
     bench.refuses(&rt, version, &[]);
-    bench.releases(&rt, name(11, 0), version, false, &[bye(11, false), idle(1, 10)]);
+    bench.releases(
+        &rt,
+        name(11, 0),
+        version,
+        false,
+        &[bye(11, false), idle(1, 10)],
+    );
     bench.retires(&rt, version, retired(1, 3, None));
     bench.close();
     Ok(())
@@ -205,7 +245,13 @@ fn middle_version_goes_before_an_older_one(rt: HostRuntime) -> Result<(), Fail> 
     assert_eq!(rt; oldest.successor, beside(5, 5, 1, 0, 0).follows);
     assert_eq!(rt; latest.predecessor, Some(name(1, 0)));
     bench.releases(&rt, name(5, 0), name(5, 0), true, &[bye(5, false)]);
-    bench.releases(&rt, name(1, 0), name(1, 0), true, &[ready(2, 1), bye(1, false)]);
+    bench.releases(
+        &rt,
+        name(1, 0),
+        name(1, 0),
+        true,
+        &[ready(2, 1), bye(1, false)],
+    );
     let last = [bye(2, false), died(1, 4, None), idle(5, 0)];
     bench.releases(&rt, name(2, 0), name(1, 0), false, &last);
     bench.retires(&rt, name(5, 0), retired(5, 15, Some(buffer(6, 5))));
@@ -219,7 +265,13 @@ fn inouts_have_the_storage_of_the_version_before(rt: HostRuntime) -> Result<(), 
     bench.opens(&rt, rt.alloc(), first(1, Mode::Inout, 0), &[ready(1, 1)]);
     bench.uses(&rt, name(2, 0), name(1, 0), &[]);
     bench.opens(&rt, rt.alloc(), over(3, 1, 1, 1), &[]);
-    bench.releases(&rt, name(1, 0), name(1, 0), true, &[ready(2, 1), bye(1, false)]);
+    bench.releases(
+        &rt,
+        name(1, 0),
+        name(1, 0),
+        true,
+        &[ready(2, 1), bye(1, false)],
+    );
     let last = [bye(2, false), died(1, 0, None), ready(3, 3)];
     bench.releases(&rt, name(2, 0), name(1, 0), false, &last);
     let fourth = Told::Ready(name(4, 0), name(4, 0), buffer(6, 4));
@@ -228,8 +280,20 @@ fn inouts_have_the_storage_of_the_version_before(rt: HostRuntime) -> Result<(), 
     let fifth = Told::Ready(name(5, 0), name(5, 0), buffer(6, 4));
     let last = [bye(4, false), died(4, 0, None), fifth];
     bench.releases(&rt, name(4, 0), name(4, 0), true, &last);
-    bench.releases(&rt, name(3, 0), name(3, 0), true, &[bye(3, false), died(3, 1, None)]);
-    bench.releases(&rt, name(5, 0), name(5, 0), true, &[bye(5, false), idle(5, 0)]);
+    bench.releases(
+        &rt,
+        name(3, 0),
+        name(3, 0),
+        true,
+        &[bye(3, false), died(3, 1, None)],
+    );
+    bench.releases(
+        &rt,
+        name(5, 0),
+        name(5, 0),
+        true,
+        &[bye(5, false), idle(5, 0)],
+    );
     bench.retires(&rt, name(5, 0), retired(5, 2, Some(buffer(6, 4))));
     bench.close();
     Ok(())
@@ -250,14 +314,29 @@ fn full_bank_is_emptied_and_filled_anew(rt: HostRuntime) -> Result<(), Fail> {
     for turned in [0, 0x5a] {
         for i in 0..=255u8 {
             let plan = alone(i, i ^ turned);
-            bench.opens(&rt, rt.alloc(), plan, &[Told::Ready(plan.o, plan.o, Storage::Home)]);
+            bench.opens(
+                &rt,
+                rt.alloc(),
+                plan,
+                &[Told::Ready(plan.o, plan.o, Storage::Home)],
+            );
         }
         assert_eq!(rt; bench.count(), 256);
         for i in 0..=255u8 {
             let plan = alone(i, i ^ turned);
             let idle = Told::Idle(plan.o, plan.operand.object.base, 1);
-            bench.releases(&rt, plan.o, plan.o, false, &[Told::Bye(plan.o, false), idle]);
-            bench.retires(&rt, plan.o, Told::Gone(plan.o, u32::from(plan.place), None, true));
+            bench.releases(
+                &rt,
+                plan.o,
+                plan.o,
+                false,
+                &[Told::Bye(plan.o, false), idle],
+            );
+            bench.retires(
+                &rt,
+                plan.o,
+                Told::Gone(plan.o, u32::from(plan.place), None, true),
+            );
         }
         assert_eq!(rt; bench.count(), 0);
     }

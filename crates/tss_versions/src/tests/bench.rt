@@ -160,7 +160,10 @@ fn are_told(rt: &impl Abort, sent: Sent, places: &Ended, buffers: &Ended, expect
     }
     match sent.pop() {
         None => sent.end(),
-        Some(m) => panic!(rt; "one message more: {:?}", read_message(rt, m, places, buffers)),
+        Some(m) => panic!(rt;
+            "one message more: {:?}",
+            read_message(rt, m, places, buffers)
+        ),
     }
 }
 

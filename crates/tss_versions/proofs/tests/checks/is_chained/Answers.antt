@@ -22,6 +22,6 @@ pub returns : goal.returns
 returns c = λ t.
     chained_each c.args.bank.now.versions
     (λ i v less at.
-        let many = c.count-i-end.ensures in
-        let past = c.loop-i-test.false in
-        c.loop-i.invariant i v (omega (arith, less, many, past)) at)
+    let many = c.count-i-end.ensures in
+    let past = c.loop-i-test.false in
+    c.loop-i.invariant i v (omega (arith, less, many, past)) at)

@@ -11,7 +11,7 @@ returns c = λ t w x there.
     let vs = c.args.bank.now.versions in
     each_name vs (λ (v : OpName). (x : Kept) → get vs v ≡ Some x → x.place.place ≢ c.args.place)
     (λ i v less at.
-        let many = c.count-i-end.ensures in
-        let past = c.loop-i-test.false in
-        c.loop-i.invariant i v (omega (arith, less, many, past)) at)
+    let many = c.count-i-end.ensures in
+    let past = c.loop-i-test.false in
+    c.loop-i.invariant i v (omega (arith, less, many, past)) at)
     w x there x there

@@ -9,6 +9,6 @@ invariant_of-result g c = (
   c.end.ensures ∙ c.pool.ensures,
   (
     c.end-in-Ok.ensures ∙ c.pool-in-Ok.ensures,
-    none_numbered c.in-Ok.bank.versions (ap (λ (s : VersionsState). s.versions) c.in-Ok.ensures) 0 1
-  )
+    none_numbered c.in-Ok.bank.versions (ap (λ (s : VersionsState). s.versions) c.in-Ok.ensures) 0 1,
+  ),
 )

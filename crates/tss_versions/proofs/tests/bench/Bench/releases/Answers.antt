@@ -10,5 +10,5 @@ are_told-requires g c =
 pub invariant_of-self : goal.invariant_of-self
 invariant_of-self g c = (
   c.self.invariant.0,
-  (c.self.invariant.1.0, (c.release-sent.ensures.numbers 0 1 c.self.invariant.1.1).0)
+  (c.self.invariant.1.0, (c.release-sent.ensures.numbers 0 1 c.self.invariant.1.1).0),
 )
