@@ -19,7 +19,7 @@ use Rattle.tss_protocol.specs.Workers.{Placed}
 use Rattle.tss_steps.specs.Placing.{IsGround, beside_scratch, is_placed}
 use Rattle.tss_buffers.specs.Contents.{BuffersState}
 use Rattle.tss_workers.specs.Seats.{AreApart, AreSeated, AreSet, FitsIn, placed_by}
-use Rattle.tss_workers.specs.Spots.{AreSpotsOf, AreWorkable, operand_at, placed_of, placed_spot, storage_at}
+use Rattle.tss_workers.specs.Spots.{AreSpotsOf, AreWorkable, operand_at, placed_of, storage_at}
 use Rattle.tss_workers.specs.Seen.{CanWork}
 use Rattle.tss_workers.specs.declared.spots.Spot.{Spot}
 use Rattle.tss_workers.proofs.SpotLemmas.{spot_there}
