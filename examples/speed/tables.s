@@ -1,4 +1,4 @@
-# COUNT tasks of seven operands, each on the next seven of 1,792 objects of a word: they fill the tables of a machine
+# COUNT tasks of seven operands, each on the next seven of 3,584 words 128 bytes apart: they fill tables of a machine
 # whose workers don't keep up.
     .section .text.start, "ax"
     .globl _start
@@ -14,7 +14,7 @@ _start:
 1:  mv t0, s2
     li t1, 7
 2:  sw s1, 0(t0)
-    addi s1, s1, 64
+    addi s1, s1, 128
     addi t0, t0, 12
     addi t1, t1, -1
     bnez t1, 2b
@@ -46,5 +46,5 @@ list:
     .bss
     .balign 64
 objects:
-    .space 1792 * 64
+    .space 3584 * 128
 end:
