@@ -5,3 +5,4 @@ mod CallLemmas
 mod ReportLemmas
 mod NumberLemmas
 mod StateLemmas
+mod RunStateLemmas

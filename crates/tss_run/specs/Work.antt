@@ -14,7 +14,7 @@ use Rattle.tss_protocol.specs.Schedule.{LogFault, BadLine, NotEnabled, Short, Lo
 use Rattle.tss_protocol.specs.Text.{lines_of, log_text}
 use Rattle.tss_protocol.specs.State.{State, initial_state}
 use Rattle.tss_protocol.specs.UnitMachine.{after_event}
-use Rattle.tss_self.specs.SelfAnswer.{SelfWork}
+use Rattle.tss_self.specs.SelfAnswer.{SelfWork, HasWholeRun}
 use Rattle.tss_unit_runs.specs.Runs.{run_of}
 use Rattle.tss_unit_runs.specs.declared.faults.LineFault.{LineFault}
 use Rattle.tss_unit_runs.specs.declared.faults.LineFault.TheVariants as line
@@ -234,10 +234,10 @@ abbrev pub appended_by : Result Deed Refusal → Option Addition
 appended_by (Ok d) = d.appended
 appended_by (Err e) = None
 
--- the memory of a run has the ranges of its image
-abbrev pub HasItsRanges : Report → Type 0
-HasItsRanges (report.Ran run) = Unit {0}
-HasItsRanges (report.Stopped s) = s.pipeline.state.home.ranges ≡ (loaded s.image).ranges
-HasItsRanges (report.Workload w) = Unit {0}
-HasItsRanges (report.InOrder run) = run.reference.memory.ranges ≡ (loaded run.image).ranges
-HasItsRanges (report.Migrated lines) = Unit {0}
+-- what a report is known to be: the memory of a run has the ranges of its image, and the workload was run to its end
+abbrev pub IsSoundReport : Report → Type 0
+IsSoundReport (report.Ran run) = Unit {0}
+IsSoundReport (report.Stopped s) = s.pipeline.state.home.ranges ≡ (loaded s.image).ranges
+IsSoundReport (report.Workload w) = HasWholeRun w
+IsSoundReport (report.InOrder run) = run.reference.memory.ranges ≡ (loaded run.image).ranges
+IsSoundReport (report.Migrated lines) = Unit {0}

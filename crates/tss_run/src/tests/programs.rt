@@ -1,20 +1,19 @@
 // Programs with names, whose ending, tasks, output and rows the rules give.
-use super::words;
-use crate::answering::tss_main;
+use super::{IN_ORDER, files_with, text};
 use std::alloc::Global;
 use std::process::Abort;
 use std::test::Fail;
 use tss_asm::AsmFault;
 use tss_base::Key;
 use tss_isa::{Instr, StoreKind};
-use tss_outside::{HonestFiles, MemSink};
 use tss_programs::{
     Source, await_first, await_second, await_third, description, exit_seven, full_tables, hi,
     idle_race, late_trap, main_touch, main_touch_after_barrier, many_readers, merged_operands,
     no_instruction, no_operands, output_alone, partial_overlap, renamed_output, spinning_reader,
 };
 
-/// Checks the report of a program by its run in program order, on the small machine with some changes.
+/// Checks the report of a program on the small machine with some changes: by its run in program order, and by runs of
+/// the unit machine, each of which tells the same and then this.
 fn expect(
     rt: &impl Abort,
     alloc: Global,
@@ -22,16 +21,18 @@ fn expect(
     program: Vec<u8>,
     changes: &[(Key, &str)],
     status: u8,
-    text: &[u8],
+    report: &[u8],
+    events: &[u8],
 ) -> Result<(), Fail> {
-    let mut files = HonestFiles::new(alloc);
-    files.put("machine", description(alloc, changes)?.as_str().as_bytes())?;
-    files.put("image", program.as_slice())?;
-    let words = words(alloc, &["inorder", "image", "machine"])?;
-    let mut out = MemSink::new(alloc, 8192)?;
-    let answered = tss_main(alloc, words.as_slice(), &mut files, &mut out);
-    assert_eq!(rt; answered, status, "{name}");
-    assert!(rt; out.bytes() == text, "{name}");
+    let mut files = files_with(alloc, program.as_slice(), changes, b"")?;
+    let alone = text(rt, alloc, &mut files, IN_ORDER, status)?;
+    assert!(rt; alone.bytes() == report, "{name}");
+    for seed in ["0", "1", "2", "99"] {
+        let texts = ["run", "image", "machine", "seed", seed];
+        let run = text(rt, alloc, &mut files, &texts, status)?;
+        let rest = run.bytes().strip_prefix(report).unwrap_or(&[]);
+        assert!(rt; rest.starts_with(events), "{name}, seed {seed}");
+    }
     Ok(())
 }
 
@@ -54,16 +55,16 @@ fn stack(alloc: Global) -> Result<Vec<u8>, AsmFault> {
 fn main_alone(rt: HostRuntime) -> Result<(), Fail> {
     let alloc = rt.alloc();
     let seven = b"end exit 7\ntasks 0\noutput 0\n\n";
-    expect(&rt, alloc, "exit 7", exit_seven(alloc)?, &[], 0, seven)?;
+    expect(&rt, alloc, "exit 7", exit_seven(alloc)?, &[], 0, seven, b"events 2\n")?;
     let row = b"end exit 1\ntasks 0\noutput 0\n\nrow fffefff0 ab000000000000000000000000000000\n";
-    expect(&rt, alloc, "stack", stack(alloc)?, &[], 0, row)
+    expect(&rt, alloc, "stack", stack(alloc)?, &[], 0, row, b"events 2\n")
 }
 
 #[test]
 fn tasks_without_operands(rt: HostRuntime) -> Result<(), Fail> {
     let alloc = rt.alloc();
     let five = b"end exit 5\ntasks 1\noutput 0\n\n";
-    expect(&rt, alloc, "one task", no_operands(alloc, 0)?, &[], 0, five)?;
+    expect(&rt, alloc, "one task", no_operands(alloc, 0)?, &[], 0, five, b"events 10\n")?;
     let trap = b"end task-trap 1 0001004c 2 00000000\ntasks 1\noutput 0\n\n";
     expect(
         &rt,
@@ -72,8 +73,7 @@ fn tasks_without_operands(rt: HostRuntime) -> Result<(), Fail> {
         no_instruction(alloc)?,
         &[],
         1,
-        trap,
-    )?;
+        trap, b"events ")?;
     let refused = b"end refused 1 00010028\ntasks 0\noutput 0\n\n";
     expect(
         &rt,
@@ -82,8 +82,7 @@ fn tasks_without_operands(rt: HostRuntime) -> Result<(), Fail> {
         no_operands(alloc, 8)?,
         &[],
         2,
-        refused,
-    )
+        refused, b"events ")
 }
 
 #[test]
@@ -98,8 +97,7 @@ fn outputs_are_renamed_and_read(rt: HostRuntime) -> Result<(), Fail> {
         renamed_output(alloc)?,
         &[],
         0,
-        renamed,
-    )?;
+        renamed, b"events ")?;
     let read = b"end exit 0\ntasks 9\noutput 1\nb\nrow 00020000 62000000000000000000000000000000\n";
     let two = [(Key::Stations, "2")];
     expect(
@@ -109,8 +107,7 @@ fn outputs_are_renamed_and_read(rt: HostRuntime) -> Result<(), Fail> {
         many_readers(alloc)?,
         &two,
         0,
-        read,
-    )?;
+        read, b"events ")?;
     let seven = [(Key::Entries, "7")];
     let full = b"end exit 0\ntasks 2\noutput 0\n\n";
     expect(
@@ -120,9 +117,8 @@ fn outputs_are_renamed_and_read(rt: HostRuntime) -> Result<(), Fail> {
         full_tables(alloc)?,
         &seven,
         0,
-        full,
-    )?;
-    expect(&rt, alloc, "idle race", idle_race(alloc)?, &[], 0, full)
+        full, b"events ")?;
+    expect(&rt, alloc, "idle race", idle_race(alloc)?, &[], 0, full, b"events ")
 }
 
 #[test]
@@ -130,7 +126,7 @@ fn task_budgets(rt: HostRuntime) -> Result<(), Fail> {
     let alloc = rt.alloc();
     let text =
         b"end exit 0\ntasks 1\noutput 4\nHi!?\nrow 00020000 4869213f000000000000000000000000\n";
-    expect(&rt, alloc, "hi", hi(alloc)?, &[], 0, text)?;
+    expect(&rt, alloc, "hi", hi(alloc)?, &[], 0, text, b"events 21\n")?;
     expect(
         &rt,
         alloc,
@@ -138,8 +134,7 @@ fn task_budgets(rt: HostRuntime) -> Result<(), Fail> {
         hi(alloc)?,
         &[(Key::TaskBudget, "2")],
         0,
-        text,
-    )?;
+        text, b"events 21\n")?;
     let spent = b"end task-trap 1 0001006c 9 00000000\ntasks 1\noutput 0\n\n";
     expect(
         &rt,
@@ -148,15 +143,14 @@ fn task_budgets(rt: HostRuntime) -> Result<(), Fail> {
         hi(alloc)?,
         &[(Key::TaskBudget, "1")],
         1,
-        spent,
-    )
+        spent, b"events ")
 }
 
 #[test]
 fn the_first_trap_in_program_order(rt: HostRuntime) -> Result<(), Fail> {
     let alloc = rt.alloc();
     let late = b"end task-trap 2 00010144 3 00010144\ntasks 2\noutput 1\na\n";
-    expect(&rt, alloc, "late trap", late_trap(alloc)?, &[], 1, late)?;
+    expect(&rt, alloc, "late trap", late_trap(alloc)?, &[], 1, late, b"events ")?;
     let spinning = b"end task-trap 1 00010078 3 00010078\ntasks 1\noutput 0\n\n";
     expect(
         &rt,
@@ -165,8 +159,7 @@ fn the_first_trap_in_program_order(rt: HostRuntime) -> Result<(), Fail> {
         spinning_reader(alloc)?,
         &[],
         1,
-        spinning,
-    )
+        spinning, b"events ")
 }
 
 #[test]
@@ -180,8 +173,7 @@ fn objects_overlap_or_touch(rt: HostRuntime) -> Result<(), Fail> {
         partial_overlap(alloc, 5)?,
         &[],
         2,
-        refused,
-    )?;
+        refused, b"events ")?;
     let apart = b"end exit 0\ntasks 1\noutput 0\n\n";
     expect(
         &rt,
@@ -190,8 +182,7 @@ fn objects_overlap_or_touch(rt: HostRuntime) -> Result<(), Fail> {
         partial_overlap(alloc, 4)?,
         &[],
         0,
-        apart,
-    )
+        apart, b"events ")
 }
 
 #[test]
@@ -199,7 +190,7 @@ fn main_touches_what_it_named(rt: HostRuntime) -> Result<(), Fail> {
     let alloc = rt.alloc();
     let touch =
         b"end refused 3 00010034\ntasks 1\noutput 0\n\nrow 00020000 61000000000000000000000000000000\n";
-    expect(&rt, alloc, "main touch", main_touch(alloc)?, &[], 2, touch)?;
+    expect(&rt, alloc, "main touch", main_touch(alloc)?, &[], 2, touch, b"events ")?;
     let after = b"end exit 0\ntasks 1\noutput 0\n\nrow 00020000 61000000000000000000000000000000\n";
     expect(
         &rt,
@@ -208,8 +199,7 @@ fn main_touches_what_it_named(rt: HostRuntime) -> Result<(), Fail> {
         main_touch_after_barrier(alloc)?,
         &[],
         0,
-        after,
-    )
+        after, b"events ")
 }
 
 #[test]
@@ -223,8 +213,7 @@ fn main_awaits_an_object(rt: HostRuntime) -> Result<(), Fail> {
         await_first(alloc)?,
         &[],
         0,
-        first,
-    )?;
+        first, b"events 19\n")?;
     let second =
         b"end refused 13 0001003c\ntasks 1\noutput 0\n\nrow 00020000 61000000000000000000000000000000\n";
     expect(
@@ -234,8 +223,7 @@ fn main_awaits_an_object(rt: HostRuntime) -> Result<(), Fail> {
         await_second(alloc)?,
         &[],
         2,
-        second,
-    )?;
+        second, b"events ")?;
     let third =
         b"end exit 0\ntasks 2\noutput 0\n\nrow 00020000 61000000000000000000000000000000\nrow 00020040 62000000000000000000000000000000\n";
     expect(
@@ -245,8 +233,7 @@ fn main_awaits_an_object(rt: HostRuntime) -> Result<(), Fail> {
         await_third(alloc)?,
         &[],
         0,
-        third,
-    )
+        third, b"events ")
 }
 
 #[test]
@@ -261,8 +248,7 @@ fn equal_operands_are_merged(rt: HostRuntime) -> Result<(), Fail> {
         merged_operands(alloc)?,
         &[],
         0,
-        merged,
-    )?;
+        merged, b"events ")?;
     let alone =
         b"end exit 0\ntasks 1\noutput 1\n\x01\nrow 00020000 01000000000000000000000000000000\n";
     expect(
@@ -272,6 +258,5 @@ fn equal_operands_are_merged(rt: HostRuntime) -> Result<(), Fail> {
         output_alone(alloc)?,
         &[],
         0,
-        alone,
-    )
+        alone, b"events ")
 }

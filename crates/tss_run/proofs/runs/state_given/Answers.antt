@@ -62,7 +62,7 @@ returns-in-Ok g c =
           (inr (subst (λ given. Ok d ≡ state_answer p (judged p.machine p.image given).events (judged p.machine p.image given).fault) c.as_slice.ensures.value answer))))
           (λ i. Ok (report.Stopped (record { image = p.image; pipeline = record { machine = c.in-Ok.ensures.machine i; state = state i } })))
           (only_reads_then b m a c.in_ok-program.ensures.only_reads c.in_ok-bytes.ensures.only_reads).held;
-      ranges = c.in-Ok.ensures.ranges;
+      sound = c.in-Ok.ensures.ranges;
     }
 
 pub returns-in-Err-NoMemory-clause-due : goal.returns-in-Err-NoMemory-clause-due
