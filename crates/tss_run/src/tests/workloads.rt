@@ -57,32 +57,20 @@ fn workloads_are_told_by_their_digests(rt: HostRuntime) -> Result<(), Fail> {
             b"self 12 mul\nend exit 0\ntasks 376\noutput 0\n\n\
               digest 9f89640da74933703fd1b95616852c5b74dacf90dc6bdb4816fc8077f555cb7b\nevents ",
         ),
+        (
+            &["self", "40"],
+            b"self 40\nend exit 0\ntasks 11520\noutput 0\n\n\
+              digest afedd5b07aeb9baef62b4893a9526177db5aafef17a8728e46ed5b0fa1ec7f30\nevents 367353\npeak ",
+        ),
+        (
+            &["self", "40", "mul"],
+            b"self 40 mul\nend exit 0\ntasks 11520\noutput 0\n\n\
+              digest f44f76301ea19cd225e4a2367a6055a190ea75cb2da47a994030bd8d07a03681\nevents ",
+        ),
     ] {
         let out = text(&rt, alloc, &mut files, texts, 0)?;
         assert!(rt; out.bytes().starts_with(begin));
     }
-    Ok(())
-}
-
-#[test]
-fn the_greatest_workload_is_told_by_its_digest(rt: HostRuntime) -> Result<(), Fail> {
-    let alloc = rt.alloc();
-    let mut files = MemFiles::new(alloc);
-    let shifts = text(&rt, alloc, &mut files, &["self", "40"], 0)?;
-    let begin = b"self 40\nend exit 0\ntasks 11520\noutput 0\n\n\
-        digest afedd5b07aeb9baef62b4893a9526177db5aafef17a8728e46ed5b0fa1ec7f30\nevents ";
-    assert!(rt; shifts.bytes().starts_with(begin));
-    Ok(())
-}
-
-#[test]
-fn the_greatest_workload_with_products_is_told_by_its_digest(rt: HostRuntime) -> Result<(), Fail> {
-    let alloc = rt.alloc();
-    let mut files = MemFiles::new(alloc);
-    let products = text(&rt, alloc, &mut files, &["self", "40", "mul"], 0)?;
-    let begin = b"self 40 mul\nend exit 0\ntasks 11520\noutput 0\n\n\
-        digest f44f76301ea19cd225e4a2367a6055a190ea75cb2da47a994030bd8d07a03681\nevents ";
-    assert!(rt; products.bytes().starts_with(begin));
     Ok(())
 }
 
