@@ -158,17 +158,23 @@ module _ (c : Call) where
       let failed = FailedToRead c.before.files c.after.files in
       let q = parts_found held failed (seeded_found seed) (program_reading names) d finds in
       let p = q.0 in
-      let fit = can_run c names p q.1 in
-      (p, inr q.1, tells_deed d status told p (drawn p seed) (seeded_whole p.machine p.image fit.image fit.machine seed)
-      (ap (λ (d : Deed). d.report) (ok_same q.2)))
+      let fit = can_run c names p q.1 in (
+        p,
+        inr q.1,
+        tells_deed d status told p (drawn p seed) (seeded_whole p.machine p.image fit.image fit.machine seed)
+            (ap (λ (d : Deed). d.report) (ok_same q.2)),
+      )
   tells_command (RunLogged names seed log) d finds sound status told =
       let held = c.before.files.held in
       let failed = FailedToRead c.before.files c.after.files in
       let q = parts_found held failed (logged_found seed log) (program_reading names) d finds in
       let p = q.0 in
-      let fit = can_run c names p q.1 in
-      (p, inr q.1, tells_deed d status told p (drawn p seed) (seeded_whole p.machine p.image fit.image fit.machine seed)
-      (ap (λ (d : Deed). d.report) (ok_same q.2)))
+      let fit = can_run c names p q.1 in (
+        p,
+        inr q.1,
+        tells_deed d status told p (drawn p seed) (seeded_whole p.machine p.image fit.image fit.machine seed)
+            (ap (λ (d : Deed). d.report) (ok_same q.2)),
+      )
   tells_command (RunGiven names schedule) d finds sound status told =
       let held = c.before.files.held in
       let failed = FailedToRead c.before.files c.after.files in
@@ -177,9 +183,14 @@ module _ (c : Call) where
       let s = parts_found held failed (given_found p) (schedule_reading schedule) d q.2 in
       let fit = can_run c names p q.1 in
       let es = (judged p.machine p.image s.0).events in
-      let is = given_is p es d (judged p.machine p.image s.0).fault s.2 in
-      (p, s.0, inr s.1, inr q.1, tells_deed d status told p es (given_whole p.machine p.image fit.image fit.machine s.0 is.0)
-      (ap (λ (d : Deed). d.report) is.1))
+      let is = given_is p es d (judged p.machine p.image s.0).fault s.2 in (
+        p,
+        s.0,
+        inr s.1,
+        inr q.1,
+        tells_deed d status told p es (given_whole p.machine p.image fit.image fit.machine s.0 is.0)
+            (ap (λ (d : Deed). d.report) is.1),
+      )
   tells_command (Workload w) d finds sound status told =
       let is = ap (λ (d : Deed). d.report) (ok_same finds) in
       tells_workload w (subst IsSoundReport is sound) (status ∙ ap report_status is)

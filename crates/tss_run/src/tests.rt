@@ -26,8 +26,11 @@ const USAGE: &[u8] =
     b"usage: run IMAGE MACHINE seed N [log FILE] | run IMAGE MACHINE given FILE | state IMAGE MACHINE given FILE | inorder IMAGE MACHINE | self N | migrate FILE NEW | self N mul\n";
 
 const IN_ORDER: &[&str] = &["inorder", "image", "machine"];
+
 const LOGGED: &[&str] = &["run", "image", "machine", "seed", "3", "log", "out"];
+
 const GIVEN: &[&str] = &["run", "image", "machine", "given", "schedule"];
+
 const STATE: &[&str] = &["state", "image", "machine", "given", "schedule"];
 
 /// The words of a command.

@@ -1,5 +1,5 @@
 // Images and machines that are refused.
-use super::{IN_ORDER, expect as expect_over, files_of};
+use super::{IN_ORDER, expect as expect_over, files_of, text as text_of};
 use std::alloc::Global;
 use std::process::Abort;
 use std::test::Fail;
@@ -39,8 +39,23 @@ fn linked_images_are_answered_by_their_first_fault(rt: HostRuntime) -> Result<()
             *byte = class;
         }
         image.truncate(len);
-        expect(&rt, alloc, machine.as_str().as_bytes(), &image, status, text)?;
+        expect(
+            &rt,
+            alloc,
+            machine.as_str().as_bytes(),
+            &image,
+            status,
+            text,
+        )?;
     }
+    let image = hex::decode(alloc, LINKED)?;
+    let mut files = files_of(alloc, &image, machine.as_str().as_bytes(), b"")?;
+    let seeded = ["run", "image", "machine", "seed", "0"];
+    let run = text_of(&rt, alloc, &mut files, &seeded, 0)?;
+    assert!(rt;
+        run.bytes()
+            .starts_with(b"end exit 7\ntasks 0\noutput 0\n\nevents 2\n")
+    );
     Ok(())
 }
 
@@ -110,7 +125,14 @@ fn images_of_one_header_are_answered(rt: HostRuntime) -> Result<(), Fail> {
         if let Some(byte) = image.get_mut(0) {
             *byte = first;
         }
-        expect(&rt, alloc, machine.as_str().as_bytes(), &image, status, text)?;
+        expect(
+            &rt,
+            alloc,
+            machine.as_str().as_bytes(),
+            &image,
+            status,
+            text,
+        )?;
     }
     Ok(())
 }
@@ -149,7 +171,14 @@ fn images_have_256_headers_at_most(rt: HostRuntime) -> Result<(), Fail> {
         (257, 3, b"image 9\n"),
     ] {
         let image = image_of_headers(alloc, count)?;
-        expect(&rt, alloc, machine.as_str().as_bytes(), &image, status, text)?;
+        expect(
+            &rt,
+            alloc,
+            machine.as_str().as_bytes(),
+            &image,
+            status,
+            text,
+        )?;
     }
     Ok(())
 }

@@ -8,9 +8,7 @@ use std::test::Fail;
 use tss_asm::AsmFault;
 use tss_base::Key;
 use tss_outside::{HonestFiles, HonestSink, MemSink, RealFiles};
-use tss_programs::{
-    RENAMED_OUTPUT_LOG, Source, description, exit_seven, renamed_output,
-};
+use tss_programs::{RENAMED_OUTPUT_LOG, Source, description, exit_seven, renamed_output};
 
 /// Main prints a page of zeros and exits.
 fn page(alloc: Global) -> Result<Vec<u8>, AsmFault> {

@@ -116,7 +116,15 @@ fn logs_give_their_runs(rt: HostRuntime) -> Result<(), Fail> {
     let log = RENAMED_OUTPUT_LOG;
     expect_given(&rt, alloc, image.as_slice(), &[], log, 0, RENAMED)?;
     let image = many_readers(alloc)?;
-    expect_given(&rt, alloc, image.as_slice(), &two, MANY_READERS_LOG, 0, READ)?;
+    expect_given(
+        &rt,
+        alloc,
+        image.as_slice(),
+        &two,
+        MANY_READERS_LOG,
+        0,
+        READ,
+    )?;
     let image = idle_race(alloc)?;
     expect_given(&rt, alloc, image.as_slice(), &[], IDLE_RACE_LOG, 0, RACE)?;
     let image = late_trap(alloc)?;

@@ -112,10 +112,7 @@ fn a_wait_ends_where_its_place_is_free(rt: HostRuntime) -> Result<(), Fail> {
     let image = await_third(alloc)?;
     let more = "gone 1.0\nmain\nmain\n";
     let mut files = files_after(alloc, image.as_slice(), &[], AWAIT_THIRD_LOG, more)?;
-    let parts = [
-        b"\ninbox 2".as_slice(),
-        b"\nepoch 00020040 4\n",
-    ];
+    let parts = [b"\ninbox 2".as_slice(), b"\nepoch 00020040 4\n"];
     expect_state(&rt, alloc, &mut files, 0, &parts, b"\n")
 }
 

@@ -87,7 +87,11 @@ fn a_workload_runs_from_its_image_too(rt: HostRuntime) -> Result<(), Fail> {
 
     // Its image, run by the same seed, has the same events, and its log gives them again.
     let logged = text(&rt, alloc, &mut files, SEED, 0)?;
-    assert!(rt; logged.bytes().starts_with(b"end exit 0\ntasks 376\noutput 0\n\nrow "));
+    assert!(rt;
+        logged
+            .bytes()
+            .starts_with(b"end exit 0\ntasks 376\noutput 0\n\nrow ")
+    );
     let peaks = from(own.bytes(), b"\nevents ");
     assert!(rt; from(logged.bytes(), b"\nevents ") == peaks);
     let again = ["run", "image", "machine", "given", "out"];
