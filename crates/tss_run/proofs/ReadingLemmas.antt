@@ -145,9 +145,9 @@ parts_found told failed next (Read which name more) y (inr found) =
     let rest = parts_found told failed next (more found.0) y found.2 in
     (rest.0, inr (found.0, found.1, rest.1), rest.2)
 
-not_long : {T : Type 0} {x : T} {e : Refusal} {r : Result T Refusal} (b : Bool) → Ok x ≡ cond b (Err e) r → r ≡ Ok x
-not_long true h = absurd (ok_err h)
-not_long false h = sym h
+not_long : {T : Type 0} (x : T) (e : Refusal) (r : Result T Refusal) (b : Bool) → Ok x ≡ cond b (Err e) r → r ≡ Ok x
+not_long x e r true h = absurd (ok_err h)
+not_long x e r false h = sym h
 
 -- what one file was found to be is what its bytes are
 pub file_found : {T : Type 0} (which : Input) (name : List ℕ) (limit : ℕ) (from : List ℕ → Result T Refusal) (told : Option Held)
@@ -155,4 +155,4 @@ pub file_found : {T : Type 0} (which : Input) (name : List ℕ) (limit : ℕ) (f
     → (bytes : List ℕ) × (from bytes ≡ Ok x)
 file_found which name limit from told failed x (inl fault) = absurd (ok_err fault.0)
 file_found which name limit from told failed x (inr found) =
-    (found.0, not_long (nat_lt limit (length found.0)) found.2)
+    (found.0, not_long x (refusal.TooLong which) (from found.0) (nat_lt limit (length found.0)) found.2)

@@ -1,19 +1,15 @@
 -- What is told of a run is the result of the state that its events leave.
 use Rattle.std.proofs.Common.{◌≡◌, inl, inr, ℕ, ◌<◌, List, Option, Some, None, IfOk, IfSome, Result, Ok, Err, refl, sym, ap, ◌∙◌, subst, arith, false}
-use Rattle.tss_base.specs.declared.bounds.TheConstants.{MACHINE_FILE_BYTES, IMAGE_FILE_BYTES}
+use Rattle.tss_base.specs.declared.bounds.TheConstants.{IMAGE_FILE_BYTES}
 use Rattle.tss_base.specs.declared.counts.Peaks.{Peaks}
 use Rattle.tss_base.specs.declared.ending.Ending.{Ending}
 use Rattle.tss_base.specs.declared.ending.Ending.TheVariants as ending
 use Rattle.tss_base.specs.declared.event.Event.{Event}
 use Rattle.tss_base.specs.declared.machine.Machine.{Machine}
 use Rattle.tss_base.specs.Image.{ImageState, IsAccepted}
-use Rattle.tss_base.specs.Machine.{IsAdmissible}
 use Rattle.tss_elf.specs.Elf.{Verdict, Refused, Accepted, IfAccepted, image_of}
 use Rattle.tss_elf.proofs.Verdicts.{image_is_accepted}
-use Rattle.tss_machine.specs.declared.fault.MachineFault.{MachineFault}
-use Rattle.tss_machine.specs.Description.{machine_of}
 use Rattle.tss_machine.specs.SelfMachine.{self_machine}
-use Rattle.tss_machine.proofs.Admissible.{machine_of-admissible}
 use Rattle.tss_model.specs.InOrder.{ReferenceState, in_order}
 use Rattle.tss_model.specs.Memory.{Memory, loaded}
 use Rattle.tss_outside.specs.Outside.{AppendsWhereTold}
@@ -38,7 +34,7 @@ use Rattle.tss_run.specs.Outcomes.{FailedToRead, IsDueTo}
 use Rattle.tss_run.specs.Reading.{Found, Finds, ComesTo}
 use Rattle.tss_run.specs.RunStates.{state_report, workload_report, TellsState, TellsItsState, IsOfItsState}
 use Rattle.tss_run.specs.Words.{Command, Names, RunSeeded, RunLogged, RunGiven, StateGiven, InOrder, Workload, Migrate, command_of}
-use Rattle.tss_run.specs.Work.{Deed, Outcome, machine_answer, described_machine, image_answer, accepted_image, program_of, machine_reading, image_reading, image_under, program_reading, schedule_reading, drawn, seeded_deed, seeded_found, logged_deed, logged_found, given_deed, given_answer, given_found, given_under, workload_deed, work_of, IsSoundReport}
+use Rattle.tss_run.specs.Work.{Deed, Outcome, image_answer, accepted_image, program_of, machine_reading, image_reading, image_under, program_reading, schedule_reading, drawn, seeded_deed, seeded_found, logged_deed, logged_found, given_deed, given_answer, given_found, given_under, workload_deed, work_of, IsSoundReport, HasMachine}
 use Rattle.tss_run.proofs.CallLemmas.{if_told, eight_above, not_below, refusal_above}
 use Rattle.tss_run.proofs.ReadingLemmas.{parts_found, file_found}
 use Rattle.tss_run.proofs.ReportLemmas.{same_report}
@@ -49,39 +45,26 @@ ok_err e = cc
 ok_same : {T : Type 0} {x y : T} → ◌≡◌ {A = Result T Refusal} (Ok x) (Ok y) → x ≡ y
 ok_same e = cc
 
--- ---- a program that was found can be run
-
-machine_by : (a : Result Machine MachineFault) (m : Machine) → machine_answer a ≡ Ok m → IfOk a IsAdmissible → IsAdmissible m
-machine_by (Ok k) m e fit = subst IsAdmissible (ok_same e) fit
-machine_by (Err f) m e fit = absurd (ok_err (sym e))
+-- ---- a program that was found
 
 image_by : (v : Verdict) (i : ImageState) → image_answer v ≡ Ok i → IfAccepted v IsAccepted → IsAccepted i
 image_by (Accepted j) i e fit = subst IsAccepted (ok_same e) fit
 image_by (Refused n) i e fit = absurd (ok_err (sym e))
 
-machine_fits : (bytes : List ℕ) (m : Machine) → described_machine bytes ≡ Ok m → IsAdmissible m
-unfolding described_machine
-machine_fits bytes m e = machine_by (machine_of bytes) m e (machine_of-admissible bytes)
-
 image_fits : (bytes : List ℕ) (i : ImageState) → accepted_image bytes ≡ Ok i → IsAccepted i
 unfolding accepted_image
 image_fits bytes i e = image_by (image_of bytes) i e (image_is_accepted bytes)
 
-record CanRun (p : Program) : Type 0 where
-  machine : IsAdmissible p.machine
-  image : IsAccepted p.image
-
-can_run : (c : Call) (names : Names) (p : Program)
-    → Finds c.before.files.held (FailedToRead c.before.files c.after.files) (program_reading names) (Ok p) → CanRun p
-can_run c names p finds =
+-- its image is accepted
+found_image : (c : Call) (names : Names) (p : Program)
+    → Finds c.before.files.held (FailedToRead c.before.files c.after.files) (program_reading names) (Ok p) → IsAccepted p.image
+found_image c names p finds =
     let told = c.before.files.held in
     let failed = FailedToRead c.before.files c.after.files in
     let m = parts_found told failed (image_under names.image) (machine_reading names.machine) p finds in
     let i = parts_found told failed (λ i. Found (Ok (program_of m.0 i))) (image_reading names.image) p m.2 in
-    let machine = file_found input.Machine names.machine MACHINE_FILE_BYTES described_machine told failed m.0 m.1 in
     let image = file_found input.Image names.image IMAGE_FILE_BYTES accepted_image told failed i.0 i.1 in
-    subst CanRun (sym (ok_same i.2))
-    (record { machine = machine_fits machine.0 m.0 machine.1; image = image_fits image.0 i.0 image.1 })
+    subst (λ (q : Program). IsAccepted q.image) (sym (ok_same i.2)) (image_fits image.0 i.0 image.1)
 
 -- ---- what is told of it
 
@@ -151,71 +134,72 @@ module _ (c : Call) where
 
   tells_command : (k : Command) (d : Deed)
       → Finds c.before.files.held (FailedToRead c.before.files c.after.files) (work_of k) (Ok d)
-      → IsSoundReport d.report → c.status ≡ report_status d.report
+      → IsSoundReport d.report → HasMachine d.report → c.status ≡ report_status d.report
       → AppendsWhereTold c.before.sink.written c.after.sink.written (text_of_report d.report) → TellsItsState c k
-  tells_command (RunSeeded names seed) d finds sound status told =
+  tells_command (RunSeeded names seed) d finds sound machine status told =
       let held = c.before.files.held in
       let failed = FailedToRead c.before.files c.after.files in
       let q = parts_found held failed (seeded_found seed) (program_reading names) d finds in
       let p = q.0 in
-      let fit = can_run c names p q.1 in (
+      let is = ap (λ (d : Deed). d.report) (ok_same q.2) in (
         p,
         inr q.1,
-        tells_deed d status told p (drawn p seed) (seeded_whole p.machine p.image fit.image fit.machine seed)
-            (ap (λ (d : Deed). d.report) (ok_same q.2)),
+        tells_deed d status told p (drawn p seed)
+            (seeded_whole p.machine p.image (found_image c names p q.1) (subst HasMachine is machine) seed) is,
       )
-  tells_command (RunLogged names seed log) d finds sound status told =
+  tells_command (RunLogged names seed log) d finds sound machine status told =
       let held = c.before.files.held in
       let failed = FailedToRead c.before.files c.after.files in
       let q = parts_found held failed (logged_found seed log) (program_reading names) d finds in
       let p = q.0 in
-      let fit = can_run c names p q.1 in (
+      let is = ap (λ (d : Deed). d.report) (ok_same q.2) in (
         p,
         inr q.1,
-        tells_deed d status told p (drawn p seed) (seeded_whole p.machine p.image fit.image fit.machine seed)
-            (ap (λ (d : Deed). d.report) (ok_same q.2)),
+        tells_deed d status told p (drawn p seed)
+            (seeded_whole p.machine p.image (found_image c names p q.1) (subst HasMachine is machine) seed) is,
       )
-  tells_command (RunGiven names schedule) d finds sound status told =
+  tells_command (RunGiven names schedule) d finds sound machine status told =
       let held = c.before.files.held in
       let failed = FailedToRead c.before.files c.after.files in
       let q = parts_found held failed (given_under schedule) (program_reading names) d finds in
       let p = q.0 in
       let s = parts_found held failed (given_found p) (schedule_reading schedule) d q.2 in
-      let fit = can_run c names p q.1 in
       let es = (judged p.machine p.image s.0).events in
-      let is = given_is p es d (judged p.machine p.image s.0).fault s.2 in (
+      let given = given_is p es d (judged p.machine p.image s.0).fault s.2 in
+      let is = ap (λ (d : Deed). d.report) given.1 in (
         p,
         s.0,
         inr s.1,
         inr q.1,
-        tells_deed d status told p es (given_whole p.machine p.image fit.image fit.machine s.0 is.0)
-            (ap (λ (d : Deed). d.report) is.1),
+        tells_deed d status told p es
+            (given_whole p.machine p.image (found_image c names p q.1) (subst HasMachine is machine) s.0 given.0) is,
       )
-  tells_command (Workload w) d finds sound status told =
+  tells_command (Workload w) d finds sound machine status told =
       let is = ap (λ (d : Deed). d.report) (ok_same finds) in
       tells_workload w (subst IsSoundReport is sound) (status ∙ ap report_status is)
       (subst (λ r. AppendsWhereTold c.before.sink.written c.after.sink.written (text_of_report r)) is told)
-  tells_command (StateGiven names schedule) d finds sound status told = tt
-  tells_command (InOrder names) d finds sound status told = tt
-  tells_command (Migrate names) d finds sound status told = tt
+  tells_command (StateGiven names schedule) d finds sound machine status told = tt
+  tells_command (InOrder names) d finds sound machine status told = tt
+  tells_command (Migrate names) d finds sound machine status told = tt
 
   -- ---- the call
 
-  module _ (o : Outcome) (sound : IfOk o IsSoundReport) (low : c.status < 3) where
+  module _ (o : Outcome) (sound : IfOk o IsSoundReport) (machine : IfOk o HasMachine) (low : c.status < 3) where
     tells_due : (k : Command) → IsDueTo (Some k) c.before.files c.after.files o → c.status ≡ status_of o
         → AppendsWhereTold c.before.sink.written c.after.sink.written (text_of o) → TellsItsState c k
     tells_due k (inl (e, same, comes, kept)) status told =
         absurd (not_below c.status _ (status ∙ ap status_of same) (refusal_above e) low)
     tells_due k (inr (d, inl ran_out, done)) status told = absurd (ok_err ran_out)
     tells_due k (inr (d, inr finds, inl done)) status told =
-        tells_command k d finds (subst (λ o. IfOk o IsSoundReport) done.0 sound) (status ∙ ap status_of done.0)
+        tells_command k d finds (subst (λ o. IfOk o IsSoundReport) done.0 sound)
+        (subst (λ o. IfOk o HasMachine) done.0 machine) (status ∙ ap status_of done.0)
         (subst (λ o. AppendsWhereTold c.before.sink.written c.after.sink.written (text_of o)) done.0 told)
     tells_due k (inr (d, inr finds, inr fault)) status told =
         absurd (not_below c.status _ (status ∙ ap status_of fault.0) (refusal_above refusal.WriteLog) low)
 
-pub is_of_its_state : (c : Call) (o : Outcome) → IfOk o IsSoundReport
+pub is_of_its_state : (c : Call) (o : Outcome) → IfOk o IsSoundReport → IfOk o HasMachine
     → IsDueTo (command_of c.words) c.before.files c.after.files o → Tells c.before.sink c.after.sink c.status o → IsOfItsState c
-is_of_its_state c o sound due tells = if_told (command_of c.words) _ (λ k is low. elim tells [
-  | inl whole ↦ tells_due c o sound low k (subst (λ k. IsDueTo k c.before.files c.after.files o) is due) whole.0 whole.1
+is_of_its_state c o sound machine due tells = if_told (command_of c.words) _ (λ k is low. elim tells [
+  | inl whole ↦ tells_due c o sound machine low k (subst (λ k. IsDueTo k c.before.files c.after.files o) is due) whole.0 whole.1
   | inr part ↦ absurd (eight_above c.status part.0 low)
 ])

@@ -3,6 +3,7 @@ use Rattle.std.specs.Prelude.{◌≡◌, ℕ, List, [], ◌∷◌, length, Optio
 use Rattle.tss_base.specs.declared.bounds.TheConstants.{MACHINE_FILE_BYTES, IMAGE_FILE_BYTES, SCHEDULE_FILE_BYTES}
 use Rattle.tss_base.specs.declared.machine.Machine.{Machine}
 use Rattle.tss_base.specs.Image.{ImageState}
+use Rattle.tss_base.specs.Machine.{IsAdmissible}
 use Rattle.tss_elf.specs.Elf.{Verdict, Refused, Accepted, image_of}
 use Rattle.tss_machine.specs.declared.fault.MachineFault.{MachineFault}
 use Rattle.tss_machine.specs.Description.{machine_of}
@@ -241,3 +242,11 @@ IsSoundReport (report.Stopped s) = s.pipeline.state.home.ranges ≡ (loaded s.im
 IsSoundReport (report.Workload w) = HasWholeRun w
 IsSoundReport (report.InOrder run) = run.reference.memory.ranges ≡ (loaded run.image).ranges
 IsSoundReport (report.Migrated lines) = Unit {0}
+
+-- the machine of a run is one that may run
+abbrev pub HasMachine : Report → Type 0
+HasMachine (report.Ran run) = IsAdmissible run.machine
+HasMachine (report.Stopped s) = Unit {0}
+HasMachine (report.Workload w) = Unit {0}
+HasMachine (report.InOrder run) = Unit {0}
+HasMachine (report.Migrated lines) = Unit {0}

@@ -4,7 +4,7 @@ ghost use Rattle.tss_run.specs.Call.{called, sink_seen, Tells, IsAnswered, IsCom
 ghost use Rattle.tss_run.specs.Outcomes.{files_seen, IsDueTo};
 ghost use Rattle.tss_run.specs.RunStates.{IsOfItsState};
 ghost use Rattle.tss_run.specs.Words.{words_of, command_of, InOrder};
-ghost use Rattle.tss_run.specs.Work.{IsSoundReport};
+ghost use Rattle.tss_run.specs.Work.{IsSoundReport, HasMachine};
 
 use crate::command::{Command, parse};
 use crate::inputs::program_in;
@@ -91,6 +91,28 @@ fn tell<K: Sink>(out: &mut K, outcome: &Result<Report, Refusal>) -> u8
     }
 }
 
+/// The machine of a run that is over is one that may run. Nothing is done.
+fn machine_of(report: &Report)
+    ensures { HasMachine report.now }
+{
+    match report {
+        Report::Ran(run) => {
+            let _machine = run.machine();
+        }
+        Report::Stopped(_) | Report::Workload(_) | Report::InOrder(_) | Report::Migrated(_) => {}
+    }
+}
+
+/// The same of an outcome.
+fn machine_behind(outcome: &Result<Report, Refusal>)
+    ensures { IfOk outcome.now HasMachine }
+{
+    match outcome {
+        Ok(report) => machine_of(report),
+        Err(_) => {}
+    }
+}
+
 /// Lets go of all that was run.
 fn close(outcome: Result<Report, Refusal>) {
     match outcome {
@@ -118,6 +140,7 @@ pub fn tss_main<F: Files, K: Sink>(
     ensures kept { ChangesNoFile (called F.Files K.Sink words.now files.old out.old files.new out.new result) }
 {
     let outcome = outcome(alloc, words, files);
+    machine_behind(&outcome);
     let status = tell(out, &outcome);
     close(outcome);
     status

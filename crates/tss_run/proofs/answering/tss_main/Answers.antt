@@ -11,7 +11,7 @@ returns g c =
     record {
       answered = is_answered this o c.outcome-outcome.ensures.due c.tell-status.ensures;
       complete = is_complete this o c.outcome-outcome.ensures.due c.tell-status.ensures;
-      of_state = is_of_its_state this o c.outcome-outcome.ensures.sound c.outcome-outcome.ensures.due c.tell-status.ensures;
+      of_state = is_of_its_state this o c.outcome-outcome.ensures.sound c.machine_behind.ensures c.outcome-outcome.ensures.due c.tell-status.ensures;
       appended = appends_expected this o c.outcome-outcome.ensures.due c.tell-status.ensures;
       appended_part = appends_partly this o c.outcome-outcome.ensures.due c.tell-status.ensures;
       kept = changes_no_file this o c.outcome-outcome.ensures.due c.tell-status.ensures;
