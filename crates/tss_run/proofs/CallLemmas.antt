@@ -22,7 +22,7 @@ some_same : {X : Type 0} {x y : X} → Some x ≡ Some y → x ≡ y
 some_same e = cc
 
 -- where something is told
-if_told : {X : Type 0} (x : Option X) (P : X → Type 0) → ((h : X) → x ≡ Some h → P h) → IfSome x P
+pub if_told : {X : Type 0} (x : Option X) (P : X → Type 0) → ((h : X) → x ≡ Some h → P h) → IfSome x P
 if_told None P f = tt
 if_told (Some h) P f = f h refl
 
@@ -42,7 +42,7 @@ report_below (report.Workload w) = ending_below (self_result w).ending
 report_below (report.InOrder run) = ending_below run.reference.ending
 report_below (report.Migrated lines) = omega arith
 
-refusal_above : (e : Refusal) → 3 ≤ refusal_status e
+pub refusal_above : (e : Refusal) → 3 ≤ refusal_status e
 refusal_above refusal.Usage = omega arith
 refusal_above (refusal.ReadFault which) = omega arith
 refusal_above (refusal.TooLong which) = omega arith
@@ -52,13 +52,13 @@ refusal_above (refusal.Schedule fault) = omega arith
 refusal_above refusal.WriteLog = omega arith
 refusal_above refusal.NoMemory = omega arith
 
-not_below : (s t : ℕ) → s ≡ t → 3 ≤ t → s < 3 → ⊥
+pub not_below : (s t : ℕ) → s ≡ t → 3 ≤ t → s < 3 → ⊥
 not_below s t e h k = omega (arith, e)
 
 not_above : (s t : ℕ) → s ≡ t → t < 3 → 3 ≤ s → ⊥
 not_above s t e h k = omega (arith, e)
 
-eight_above : (s : ℕ) → s ≡ 8 → s < 3 → ⊥
+pub eight_above : (s : ℕ) → s ≡ 8 → s < 3 → ⊥
 eight_above s e h = omega (arith, e)
 
 -- ---- what is appended

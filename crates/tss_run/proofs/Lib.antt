@@ -5,3 +5,5 @@ mod CallLemmas
 mod ReportLemmas
 mod NumberLemmas
 mod StateLemmas
+mod GivenLemmas
+mod RunStateLemmas

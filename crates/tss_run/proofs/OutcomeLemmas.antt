@@ -1,5 +1,5 @@
 -- Outcomes that are due, over files at three moments one after another.
-use Rattle.std.proofs.Common.{◌≡◌, ◌≢◌, Bool, true, false, cond, inl, inr, ℕ, ◌≤◌, List, [], ◌++◌, Option, Some, None, IfSome, unwrap_or, Result, Ok, Err, refl, sym, ap, ◌∙◌, subst, arith}
+use Rattle.std.proofs.Common.{◌≡◌, ◌≢◌, Bool, true, false, cond, inl, inr, ℕ, ◌≤◌, List, [], ◌++◌, Option, Some, None, IfSome, unwrap_or, option_map, Result, Ok, Err, refl, sym, ap, ◌∙◌, subst, arith}
 use Rattle.std.specs.Prelude.{bytes_eq}
 use Rattle.std.proofs.lemmas.List.{append-nil}
 use Rattle.std.proofs.lemmas.Slice.Eq.{bytes_eq-Decides}
@@ -7,8 +7,10 @@ use Rattle.tss_outside.specs.Outside.{Held, risen, IsPrefix, AppendsTo, HoldsPre
 use Rattle.tss_unit_runs.specs.Runs.{PutsPart}
 use Rattle.tss_run.specs.declared.outcome.Refusal.{Refusal}
 use Rattle.tss_run.specs.declared.outcome.Refusal.TheVariants as refusal
-use Rattle.tss_run.specs.Outcomes.{FilesSeen, KeepsFiles, FailedToRead, FailedToAppend, OnlyReads, FailedToAdd, AppendsAll, AppendsPart, AppendsPartTo, IsDone, IsOutcomeOf}
+use Rattle.tss_run.specs.declared.command.Command as declared
+use Rattle.tss_run.specs.Outcomes.{FilesSeen, KeepsFiles, FailedToRead, FailedToAppend, OnlyReads, FailedToAdd, AppendsAll, AppendsPart, AppendsPartTo, IsDone, IsOutcomeOf, IsDueTo}
 use Rattle.tss_run.specs.Reading.{Reading, ComesTo}
+use Rattle.tss_run.specs.Words.{Command, command_meant}
 use Rattle.tss_run.specs.Work.{Deed, Outcome}
 use Rattle.tss_run.proofs.ReadingLemmas.{weaker}
 
@@ -109,3 +111,11 @@ does b a w d o comes is all = inr (d, comes, inl (is, all))
 pub fails : (b a : FilesSeen) (w : Reading Deed) (d : Deed) (o : Outcome) → ComesTo b.held (FailedToRead b a) w (Ok d) → o ≡ Err refusal.WriteLog → FailedToAdd b a d.appended →
     AppendsPart b a d.appended → IsOutcomeOf b a w o
 fails b a w d o comes is fault part = inr (d, comes, inr (is, fault, part))
+
+-- what is due to the command that words were found to be is due to them
+pub due_to_words : (b a : FilesSeen) (o : Outcome) {parsed : Option declared.Command} {found command : declared.Command}
+    {meant : Option Command} → option_map command_meant parsed ≡ meant → parsed ≡ Some found → found ≡ command
+    → IsDueTo (Some (command_meant command)) b a o → IsDueTo meant b a o
+due_to_words b a o same is found_is due =
+    subst (λ k. IsDueTo k b a o)
+    (ap (λ x. option_map command_meant (Some x)) (sym found_is) ∙ ap (option_map command_meant) (sym is) ∙ same) due

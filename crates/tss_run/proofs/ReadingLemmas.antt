@@ -128,3 +128,31 @@ is_found held failed (Found y) x (inr is) = ap Some (sym is)
 is_found held failed (Read which name more) x (inr (inl fault)) = absurd (ok_err fault.0)
 is_found held failed (Read which name more) x (inr (inr found)) =
     ap (option_and_then (λ bytes. found_on held (more bytes))) found.1 ∙ is_found held failed (more found.0) x (inr found.2)
+
+-- ---- back from what was found
+
+ok_same : {T : Type 0} {x y : T} → ◌≡◌ {A = Result T Refusal} (Ok x) (Ok y) → x ≡ y
+ok_same e = cc
+
+-- a reading that went on has found what it went on with, and then the rest
+pub parts_found : {T U : Type 0} (told : Option Held) (failed : List ℕ → Type 0) (next : T → Reading U) (w : Reading T) (y : U)
+    → Finds told failed (with_found next w) (Ok y)
+    → (x : T) × Finds told failed w (Ok x) × Finds told failed (next x) (Ok y)
+parts_found told failed next (Found (Ok x)) y h = (x, refl, h)
+parts_found told failed next (Found (Err e)) y h = absurd (ok_err h)
+parts_found told failed next (Read which name more) y (inl fault) = absurd (ok_err fault.0)
+parts_found told failed next (Read which name more) y (inr found) =
+    let rest = parts_found told failed next (more found.0) y found.2 in
+    (rest.0, inr (found.0, found.1, rest.1), rest.2)
+
+not_long : {T : Type 0} (x : T) (e : Refusal) (r : Result T Refusal) (b : Bool) → Ok x ≡ cond b (Err e) r → r ≡ Ok x
+not_long x e r true h = absurd (ok_err h)
+not_long x e r false h = sym h
+
+-- what one file was found to be is what its bytes are
+pub file_found : {T : Type 0} (which : Input) (name : List ℕ) (limit : ℕ) (from : List ℕ → Result T Refusal) (told : Option Held)
+    (failed : List ℕ → Type 0) (x : T) → Finds told failed (file_reading which name (within which limit from)) (Ok x)
+    → (bytes : List ℕ) × (from bytes ≡ Ok x)
+file_found which name limit from told failed x (inl fault) = absurd (ok_err fault.0)
+file_found which name limit from told failed x (inr found) =
+    (found.0, not_long x (refusal.TooLong which) (from found.0) (nat_lt limit (length found.0)) found.2)

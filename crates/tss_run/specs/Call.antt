@@ -118,12 +118,3 @@ AppendsPartly c =
 -- with any other status no file is changed
 abbrev pub ChangesNoFile : Call → Type 0
 ChangesNoFile c = BAD_IMAGE ≤ c.status → c.status ≢ WRITE_FAILED → KeepsFiles c.before.files c.after.files
-
--- ---- all of it
-
-pub record IsProgramCall (c : Call) : Type 0 where
-  pub answered : IsAnswered c
-  pub complete : IsComplete c
-  pub appended : AppendsExpected c
-  pub appended_part : AppendsPartly c
-  pub kept : ChangesNoFile c

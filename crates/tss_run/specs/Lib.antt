@@ -6,3 +6,4 @@ pub mod Work
 pub mod Answer
 pub mod Outcomes
 pub mod Call
+pub mod RunStates

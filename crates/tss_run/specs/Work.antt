@@ -3,6 +3,7 @@ use Rattle.std.specs.Prelude.{◌≡◌, ℕ, List, [], ◌∷◌, length, Optio
 use Rattle.tss_base.specs.declared.bounds.TheConstants.{MACHINE_FILE_BYTES, IMAGE_FILE_BYTES, SCHEDULE_FILE_BYTES}
 use Rattle.tss_base.specs.declared.machine.Machine.{Machine}
 use Rattle.tss_base.specs.Image.{ImageState}
+use Rattle.tss_base.specs.Machine.{IsAdmissible}
 use Rattle.tss_elf.specs.Elf.{Verdict, Refused, Accepted, image_of}
 use Rattle.tss_machine.specs.declared.fault.MachineFault.{MachineFault}
 use Rattle.tss_machine.specs.Description.{machine_of}
@@ -14,7 +15,7 @@ use Rattle.tss_protocol.specs.Schedule.{LogFault, BadLine, NotEnabled, Short, Lo
 use Rattle.tss_protocol.specs.Text.{lines_of, log_text}
 use Rattle.tss_protocol.specs.State.{State, initial_state}
 use Rattle.tss_protocol.specs.UnitMachine.{after_event}
-use Rattle.tss_self.specs.SelfAnswer.{SelfWork}
+use Rattle.tss_self.specs.SelfAnswer.{SelfWork, HasWholeRun}
 use Rattle.tss_unit_runs.specs.Runs.{run_of}
 use Rattle.tss_unit_runs.specs.declared.faults.LineFault.{LineFault}
 use Rattle.tss_unit_runs.specs.declared.faults.LineFault.TheVariants as line
@@ -234,10 +235,18 @@ abbrev pub appended_by : Result Deed Refusal → Option Addition
 appended_by (Ok d) = d.appended
 appended_by (Err e) = None
 
--- the memory of a run has the ranges of its image
-abbrev pub HasItsRanges : Report → Type 0
-HasItsRanges (report.Ran run) = Unit {0}
-HasItsRanges (report.Stopped s) = s.pipeline.state.home.ranges ≡ (loaded s.image).ranges
-HasItsRanges (report.Workload w) = Unit {0}
-HasItsRanges (report.InOrder run) = run.reference.memory.ranges ≡ (loaded run.image).ranges
-HasItsRanges (report.Migrated lines) = Unit {0}
+-- what a report is known to be: the memory of a run has the ranges of its image, and the workload was run to its end
+abbrev pub IsSoundReport : Report → Type 0
+IsSoundReport (report.Ran run) = Unit {0}
+IsSoundReport (report.Stopped s) = s.pipeline.state.home.ranges ≡ (loaded s.image).ranges
+IsSoundReport (report.Workload w) = HasWholeRun w
+IsSoundReport (report.InOrder run) = run.reference.memory.ranges ≡ (loaded run.image).ranges
+IsSoundReport (report.Migrated lines) = Unit {0}
+
+-- the machine of a run is one that may run
+abbrev pub HasMachine : Report → Type 0
+HasMachine (report.Ran run) = IsAdmissible run.machine
+HasMachine (report.Stopped s) = Unit {0}
+HasMachine (report.Workload w) = Unit {0}
+HasMachine (report.InOrder run) = Unit {0}
+HasMachine (report.Migrated lines) = Unit {0}

@@ -2,8 +2,9 @@
 ghost use Rattle.std.specs.Prelude.{Some, All, IsTrue, IfOk, take};
 ghost use Rattle.tss_run.specs.Call.{called, sink_seen, Tells, IsAnswered, IsComplete, AppendsExpected, AppendsPartly, ChangesNoFile};
 ghost use Rattle.tss_run.specs.Outcomes.{files_seen, IsDueTo};
+ghost use Rattle.tss_run.specs.RunStates.{IsOfItsState};
 ghost use Rattle.tss_run.specs.Words.{words_of, command_of, InOrder};
-ghost use Rattle.tss_run.specs.Work.{HasItsRanges};
+ghost use Rattle.tss_run.specs.Work.{IsSoundReport, HasMachine};
 
 use crate::command::{Command, parse};
 use crate::inputs::program_in;
@@ -25,7 +26,7 @@ fn in_order<F: Files>(
 ) -> Result<Report, Refusal>
     ensures due { IsDueTo (Some (InOrder (record { image = image.now; machine = machine.now })))
         (files_seen F.Files files.old) (files_seen F.Files files.new) result }
-    ensures ranges { IfOk result HasItsRanges }
+    ensures sound { IfOk result IsSoundReport }
 {
     let program = program_in(alloc, files, image, machine)?;
     let reference = run_in_order(alloc, &program.image, &program.machine.limits)?;
@@ -40,7 +41,7 @@ fn in_order<F: Files>(
 fn outcome<F: Files>(alloc: Global, words: &[String], files: &mut F) -> Result<Report, Refusal>
     ensures due { IsDueTo (command_of (words_of words.now)) (files_seen F.Files files.old) (files_seen F.Files files.new)
         result }
-    ensures ranges { IfOk result HasItsRanges }
+    ensures sound { IfOk result IsSoundReport }
 {
     match parse(words) {
         None => Err(Refusal::Usage),
@@ -81,12 +82,34 @@ fn outcome<F: Files>(alloc: Global, words: &[String], files: &mut F) -> Result<R
 
 /// Writes the text of an outcome. It answers the outcome's status, or that of a write that failed.
 fn tell<K: Sink>(out: &mut K, outcome: &Result<Report, Refusal>) -> u8
-    requires { IfOk outcome.now HasItsRanges }
+    requires { IfOk outcome.now IsSoundReport }
     ensures { Tells (sink_seen K.Sink out.old) (sink_seen K.Sink out.new) result outcome.now }
 {
     match write_outcome(out, outcome) {
         Ok(()) => status(outcome),
         Err(Failed) => WRITE_FAILED,
+    }
+}
+
+/// The machine of a run that is over is one that may run. Nothing is done.
+fn machine_of(report: &Report)
+    ensures { HasMachine report.now }
+{
+    match report {
+        Report::Ran(run) => {
+            let _machine = run.machine();
+        }
+        Report::Stopped(_) | Report::Workload(_) | Report::InOrder(_) | Report::Migrated(_) => {}
+    }
+}
+
+/// The same of an outcome.
+fn machine_behind(outcome: &Result<Report, Refusal>)
+    ensures { IfOk outcome.now HasMachine }
+{
+    match outcome {
+        Ok(report) => machine_of(report),
+        Err(_) => {}
     }
 }
 
@@ -109,6 +132,7 @@ pub fn tss_main<F: Files, K: Sink>(
     requires { All (λ w. IsTrue (F.knows files.old w)) (take 8 (words_of words.now)) }
     ensures answered { IsAnswered (called F.Files K.Sink words.now files.old out.old files.new out.new result) }
     ensures complete { IsComplete (called F.Files K.Sink words.now files.old out.old files.new out.new result) }
+    ensures of_state { IsOfItsState (called F.Files K.Sink words.now files.old out.old files.new out.new result) }
 
     // What is appended, and that nothing else is changed.
     ensures appended { AppendsExpected (called F.Files K.Sink words.now files.old out.old files.new out.new result) }
@@ -116,6 +140,7 @@ pub fn tss_main<F: Files, K: Sink>(
     ensures kept { ChangesNoFile (called F.Files K.Sink words.now files.old out.old files.new out.new result) }
 {
     let outcome = outcome(alloc, words, files);
+    machine_behind(&outcome);
     let status = tell(out, &outcome);
     close(outcome);
     status

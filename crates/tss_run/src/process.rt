@@ -5,7 +5,8 @@ ghost use Rattle.std.specs.Process.{exit_status};
 ghost use Rattle.std.specs.Vec.Iter.{into_iter_items};
 ghost use Rattle.tss_run.specs.declared.statuses.TheConstants.{NO_MEMORY};
 ghost use Rattle.tss_run.specs.Words.{words_of};
-ghost use Rattle.tss_run.specs.Call.{called, IsProgramCall};
+ghost use Rattle.tss_run.specs.Call.{called};
+ghost use Rattle.tss_run.specs.RunStates.{IsProgramCall};
 
 use crate::answering::tss_main;
 use crate::statuses::NO_MEMORY;

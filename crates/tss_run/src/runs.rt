@@ -2,7 +2,7 @@
 ghost use Rattle.std.specs.Prelude.{◌≤◌, Some, IfOk};
 ghost use Rattle.tss_run.specs.Outcomes.{FilesSeen, files_seen, IsDueTo};
 ghost use Rattle.tss_run.specs.Words.{RunSeeded, RunLogged, RunGiven, StateGiven, Workload};
-ghost use Rattle.tss_run.specs.Work.{HasItsRanges};
+ghost use Rattle.tss_run.specs.Work.{IsSoundReport};
 
 use crate::inputs::{program_in, schedule_in};
 use crate::outcome::{Refusal, Report, Stopped};
@@ -77,7 +77,7 @@ pub fn state_given<F: Files>(
 ) -> Result<Report, Refusal>
     ensures due { IsDueTo (Some (StateGiven (record { image = image.now; machine = machine.now }) schedule.now))
         (files_seen F.Files files.old) (files_seen F.Files files.new) result }
-    ensures ranges { IfOk result HasItsRanges }
+    ensures sound { IfOk result IsSoundReport }
 {
     let program = program_in(alloc, files, image, machine)?;
     let bytes = schedule_in(alloc, files, schedule)?;
@@ -96,7 +96,7 @@ pub fn workload(alloc: Global, n: u32, form: Form) -> Result<Report, Refusal>
     requires low { 1 ≤ n }
     requires high { n ≤ 40 }
     ensures due { (s : FilesSeen) → IsDueTo (Some (Workload (record { n = n; form = form }))) s s result }
-    ensures ranges { IfOk result HasItsRanges }
+    ensures sound { IfOk result IsSoundReport }
 {
     let run = SelfRun::new(alloc, n, form)?;
     Ok(Report::Workload(run))

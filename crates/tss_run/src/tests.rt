@@ -1,4 +1,8 @@
 // What the program answers, through its top call.
+ghost use Rattle.std.specs.Prelude.{All, IsTrue, take};
+ghost use Rattle.tss_outside.specs.MemFiles.{is_known};
+ghost use Rattle.tss_run.specs.Words.{words_of};
+
 mod images;
 mod migration;
 mod outside;
@@ -7,16 +11,27 @@ mod programs;
 mod runs;
 mod states;
 mod usage;
+mod workloads;
 
 use crate::answering::tss_main;
 use std::alloc::{AllocError, Global};
 use std::process::Abort;
 use std::test::Fail;
-use tss_outside::{HonestFiles, MemSink};
+use tss_base::Key;
+use tss_outside::{MemFiles, MemSink};
+use tss_programs::description;
 
 /// The forms of the words.
 const USAGE: &[u8] =
     b"usage: run IMAGE MACHINE seed N [log FILE] | run IMAGE MACHINE given FILE | state IMAGE MACHINE given FILE | inorder IMAGE MACHINE | self N | migrate FILE NEW | self N mul\n";
+
+const IN_ORDER: &[&str] = &["inorder", "image", "machine"];
+
+const LOGGED: &[&str] = &["run", "image", "machine", "seed", "3", "log", "out"];
+
+const GIVEN: &[&str] = &["run", "image", "machine", "given", "schedule"];
+
+const STATE: &[&str] = &["state", "image", "machine", "given", "schedule"];
 
 /// The words of a command.
 fn words(alloc: Global, texts: &[&str]) -> Result<Vec<String>, AllocError> {
@@ -27,34 +42,96 @@ fn words(alloc: Global, texts: &[&str]) -> Result<Vec<String>, AllocError> {
     Ok(words)
 }
 
-/// Checks what `inorder image machine` answers where these files have these bytes.
+/// Whether the files know each word, as the top call asks.
+fn knows_words(files: &MemFiles, words: &[String]) -> bool
+    ensures { IsTrue result → All (λ w. IsTrue (is_known files.now w)) (take 8 (words_of words.now)) }
+{
+    for word in words {
+        if !files.knows(word.as_str()) {
+            return false;
+        }
+    }
+    true
+}
+
+/// The status that words come to over files in memory, which are made to know each word. No file is made by that.
+fn answer(
+    rt: &impl Abort,
+    alloc: Global,
+    files: &mut MemFiles,
+    texts: &[&str],
+    out: &mut MemSink,
+) -> Result<u8, Fail> {
+    for text in texts {
+        files.room(text, 0)?;
+    }
+    let texts = words(alloc, texts)?;
+    let words = texts.as_slice();
+    let known = knows_words(files, words);
+    assert!(rt; known);
+    Ok(tss_main(alloc, words, files, out))
+}
+
+/// What words write, which has this status.
+fn text(
+    rt: &impl Abort,
+    alloc: Global,
+    files: &mut MemFiles,
+    texts: &[&str],
+    status: u8,
+) -> Result<MemSink, Fail> {
+    let mut out = MemSink::new(alloc, 65_536)?;
+    let answered = answer(rt, alloc, files, texts, &mut out)?;
+    assert_eq!(rt; answered, status);
+    Ok(out)
+}
+
+/// Checks the status and the whole text.
 fn expect(
     rt: &impl Abort,
     alloc: Global,
-    machine: &[u8],
-    image: &[u8],
+    files: &mut MemFiles,
+    texts: &[&str],
     status: u8,
-    text: &[u8],
+    whole: &[u8],
 ) -> Result<(), Fail> {
-    let mut files = HonestFiles::new(alloc);
-    files.put("machine", machine)?;
-    files.put("image", image)?;
-    let words = words(alloc, &["inorder", "image", "machine"])?;
-    let mut out = MemSink::new(alloc, 8192)?;
-    let answered = tss_main(alloc, words.as_slice(), &mut files, &mut out);
-    assert_eq!(rt; answered, status);
-    assert!(rt; out.bytes() == text);
+    let out = text(rt, alloc, files, texts, status)?;
+    assert!(rt; out.bytes() == whole);
     Ok(())
 }
 
-/// The same of a description.
-fn expect_report(
-    rt: &impl Abort,
+/// Files with an image, the description of a machine, and a schedule. A log has room under `out`.
+fn files_of(
     alloc: Global,
-    machine: &String,
     image: &[u8],
-    status: u8,
-    text: &[u8],
-) -> Result<(), Fail> {
-    expect(rt, alloc, machine.as_str().as_bytes(), image, status, text)
+    machine: &[u8],
+    schedule: &[u8],
+) -> Result<MemFiles, Fail> {
+    let mut files = MemFiles::new(alloc);
+    files.put("image", image)?;
+    files.put("machine", machine)?;
+    files.put("schedule", schedule)?;
+    files.room("out", 262_144)?;
+    Ok(files)
+}
+
+/// The same on the small machine with some changes.
+fn files_with(
+    alloc: Global,
+    image: &[u8],
+    changes: &[(Key, &str)],
+    schedule: &[u8],
+) -> Result<MemFiles, Fail> {
+    let machine = description(alloc, changes)?;
+    files_of(alloc, image, machine.as_str().as_bytes(), schedule)
+}
+
+/// Where a part stands first in a text, and all that follows it. Nothing where it doesn't.
+fn from<'a>(text: &'a [u8], part: &[u8]) -> &'a [u8] {
+    for at in 0..text.len() {
+        if text[at..].starts_with(part) {
+            return &text[at..];
+        }
+    }
+    &[]
 }

@@ -3,7 +3,7 @@ ghost use Rattle.std.specs.Prelude.{◌≡◌, IfOk, option_map};
 ghost use Rattle.tss_report.specs.Pieces.{Emits, Writes};
 ghost use Rattle.tss_run.specs.Answer.{ending_status, report_status, refusal_status, status_of, input_name, machine_line, refusal_text, fault_name, fault_line, schedule_line, finished_text, migrated_text, run_text, text_of_report, text_of};
 ghost use Rattle.tss_model.specs.Memory.{loaded};
-ghost use Rattle.tss_run.specs.Work.{HasItsRanges};
+ghost use Rattle.tss_run.specs.Work.{IsSoundReport};
 
 use crate::outcome::{Input, Refusal, Report, Run};
 use crate::statuses::{
@@ -162,7 +162,7 @@ fn write_migrated<K: Sink>(out: &mut K, lines: u64) -> Result<(), Failed>
 
 /// Writes the text of a report.
 fn write_text_of_report<K: Sink>(out: &mut K, report: &Report) -> Result<(), Failed>
-    requires { HasItsRanges report.now }
+    requires { IsSoundReport report.now }
     ensures { Writes K.Sink out.old out.new result (text_of_report report.now) }
 {
     match report {
@@ -176,7 +176,7 @@ fn write_text_of_report<K: Sink>(out: &mut K, report: &Report) -> Result<(), Fai
 
 /// Writes the text of an outcome.
 pub fn write_outcome<K: Sink>(out: &mut K, outcome: &Result<Report, Refusal>) -> Result<(), Failed>
-    requires { IfOk outcome.now HasItsRanges }
+    requires { IfOk outcome.now IsSoundReport }
     ensures { Writes K.Sink out.old out.new result (text_of outcome.now) }
 {
     match outcome {

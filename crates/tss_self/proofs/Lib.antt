@@ -1,2 +1,2 @@
 mod WorkloadLemmas
-mod ReportLemmas
+pub mod ReportLemmas

@@ -1,5 +1,6 @@
 -- What the workload that comes with the program is, how it runs, and what is told of it.
 use Rattle.std.specs.Prelude.{◌≡◌, ℕ, Bool, true, false, List, []}
+use Rattle.tss_base.specs.declared.event.Event.{Event}
 use Rattle.tss_base.specs.Image.{ImageState}
 use Rattle.tss_elf.specs.Elf.{Verdict, Refused, Accepted, image_of}
 use Rattle.tss_gen.specs.declared.form.Form.{Form}
@@ -11,7 +12,7 @@ use Rattle.tss_protocol.specs.Counts.{sizes_of}
 use Rattle.tss_protocol.specs.Schedule.{seeded_events}
 use Rattle.tss_report.specs.MemoryDigest.{digest_of}
 use Rattle.tss_report.specs.SelfReport.{self_text}
-use Rattle.tss_unit_runs.specs.Finished.{FinishedRunState}
+use Rattle.tss_unit_runs.specs.Finished.{FinishedRunState, IsWholeRun}
 use Rattle.tss_unit_runs.specs.Runs.{run_of}
 
 -- what is asked for: how many blocks a side has, and the form of the workload
@@ -32,10 +33,17 @@ self_image form n = accepted (image_of (workload_bytes form n))
 unfoldable pub self_result : SelfWork → ReferenceState
 self_result w = in_order (self_image w.form w.n) self_machine.limits
 
--- the run of the seed n on that machine, and its peaks
+-- the events that the seed n draws on that machine
+abbrev pub self_events : SelfWork → List Event
+self_events w = seeded_events self_machine (self_image w.form w.n) w.n
+
+-- they are a run to its end
+abbrev pub HasWholeRun : SelfWork → Type 0
+HasWholeRun w = IsWholeRun self_machine (self_image w.form w.n) (self_events w)
+
+-- the run of these events, and its peaks
 unfoldable pub self_run : SelfWork → FinishedRunState
-self_run w =
-    run_of self_machine (self_image w.form w.n) (seeded_events self_machine (self_image w.form w.n) w.n)
+self_run w = run_of self_machine (self_image w.form w.n) (self_events w)
 
 -- whether the form is that with products
 abbrev pub has_products : Form → Bool

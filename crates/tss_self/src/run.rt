@@ -1,7 +1,7 @@
 // A run of the workload, and its report.
 ghost use Rattle.std.specs.Prelude.{◌≡◌, ◌≤◌, IfOk};
 ghost use Rattle.tss_report.specs.Pieces.{Writes};
-ghost use Rattle.tss_self.specs.SelfAnswer.{has_products, self_result, self_report};
+ghost use Rattle.tss_self.specs.SelfAnswer.{HasWholeRun, has_products, self_result, self_report};
 
 use crate::image::workload_image;
 use std::alloc::Global;
@@ -46,9 +46,11 @@ impl SelfRun {
     pub fn new(alloc: Global, n: u32, form: Form) -> Result<SelfRun, NoMemory>
         requires low { 1 ≤ n }
         requires high { n ≤ 40 }
-        ensures { IfOk result (λ r. r ≡ record { n = n; form = form }) }
+        ensures exact { IfOk result (λ r. r ≡ record { n = n; form = form }) }
+        ensures whole { IfOk result HasWholeRun }
     {
         let image = workload_image(alloc, n, form)?;
+        let _entry = image.entry();
         let run = run_seeded(alloc, self_machine(), image, u64::from(n))?;
         Ok(SelfRun { n, form, run })
     }

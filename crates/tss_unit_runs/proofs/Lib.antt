@@ -2,3 +2,4 @@ pub mod OverLemmas
 pub mod SeedLemmas
 pub mod LineLemmas
 pub mod LogFileLemmas
+pub mod WholeRuns

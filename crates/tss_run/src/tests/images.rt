@@ -1,9 +1,23 @@
 // Images and machines that are refused.
-use super::{expect, expect_report};
+use super::{IN_ORDER, expect as expect_over, files_of, text as text_of};
 use std::alloc::Global;
+use std::process::Abort;
 use std::test::Fail;
 use tss_base::Key;
 use tss_programs::{description, exit_seven};
+
+/// Checks what `inorder image machine` answers where these files have these bytes.
+fn expect(
+    rt: &impl Abort,
+    alloc: Global,
+    machine: &[u8],
+    image: &[u8],
+    status: u8,
+    text: &[u8],
+) -> Result<(), Fail> {
+    let mut files = files_of(alloc, image, machine, b"")?;
+    expect_over(rt, alloc, &mut files, IN_ORDER, status, text)
+}
 
 /// An image with four program headers, as a linker gives them, of which the first and the last are ignored.
 const LINKED: &str =
@@ -25,8 +39,23 @@ fn linked_images_are_answered_by_their_first_fault(rt: HostRuntime) -> Result<()
             *byte = class;
         }
         image.truncate(len);
-        expect_report(&rt, alloc, &machine, &image, status, text)?;
+        expect(
+            &rt,
+            alloc,
+            machine.as_str().as_bytes(),
+            &image,
+            status,
+            text,
+        )?;
     }
+    let image = hex::decode(alloc, LINKED)?;
+    let mut files = files_of(alloc, &image, machine.as_str().as_bytes(), b"")?;
+    let seeded = ["run", "image", "machine", "seed", "0"];
+    let run = text_of(&rt, alloc, &mut files, &seeded, 0)?;
+    assert!(rt;
+        run.bytes()
+            .starts_with(b"end exit 7\ntasks 0\noutput 0\n\nevents 2\n")
+    );
     Ok(())
 }
 
@@ -35,7 +64,8 @@ fn machines_are_answered_by_their_first_fault(rt: HostRuntime) -> Result<(), Fai
     let alloc = rt.alloc();
     let image = exit_seven(alloc)?;
     let report = b"end exit 7\ntasks 0\noutput 0\n\n";
-    expect_report(&rt, alloc, &description(alloc, &[])?, &image, 0, report)?;
+    let small = description(alloc, &[])?;
+    expect(&rt, alloc, small.as_str().as_bytes(), &image, 0, report)?;
     for (key, value, text) in [
         (Key::Buffers, "6", b"machine 6 buffers\n".as_slice()),
         (Key::Quantum, "", b"machine 2 quantum\n"),
@@ -47,7 +77,7 @@ fn machines_are_answered_by_their_first_fault(rt: HostRuntime) -> Result<(), Fai
         (Key::Slots, "8 9", b"machine 1\n"),
     ] {
         let machine = description(alloc, &[(key, value)])?;
-        expect_report(&rt, alloc, &machine, &image, 4, text)?;
+        expect(&rt, alloc, machine.as_str().as_bytes(), &image, 4, text)?;
     }
     Ok(())
 }
@@ -95,7 +125,14 @@ fn images_of_one_header_are_answered(rt: HostRuntime) -> Result<(), Fail> {
         if let Some(byte) = image.get_mut(0) {
             *byte = first;
         }
-        expect_report(&rt, alloc, &machine, &image, status, text)?;
+        expect(
+            &rt,
+            alloc,
+            machine.as_str().as_bytes(),
+            &image,
+            status,
+            text,
+        )?;
     }
     Ok(())
 }
@@ -134,7 +171,14 @@ fn images_have_256_headers_at_most(rt: HostRuntime) -> Result<(), Fail> {
         (257, 3, b"image 9\n"),
     ] {
         let image = image_of_headers(alloc, count)?;
-        expect_report(&rt, alloc, &machine, &image, status, text)?;
+        expect(
+            &rt,
+            alloc,
+            machine.as_str().as_bytes(),
+            &image,
+            status,
+            text,
+        )?;
     }
     Ok(())
 }

@@ -1,9 +1,5 @@
-// Files and sinks that fail.
-ghost use Rattle.std.specs.Prelude.{All, IsTrue, take};
-ghost use Rattle.tss_outside.specs.MemFiles.{is_known};
-ghost use Rattle.tss_run.specs.Words.{words_of};
-
-use super::{expect, words};
+// Files and sinks that fail, those that never do, and real files.
+use super::{GIVEN, IN_ORDER, LOGGED, answer, expect, files_of, files_with, words};
 use crate::answering::tss_main;
 use std::alloc::Global;
 use std::process::Abort;
@@ -11,8 +7,8 @@ use std::rt::Files;
 use std::test::Fail;
 use tss_asm::AsmFault;
 use tss_base::Key;
-use tss_outside::{HonestFiles, HonestSink, MemFiles, MemSink, RealFiles};
-use tss_programs::{Source, description, exit_seven};
+use tss_outside::{HonestFiles, HonestSink, MemSink, RealFiles};
+use tss_programs::{RENAMED_OUTPUT_LOG, Source, description, exit_seven, renamed_output};
 
 /// Main prints a page of zeros and exits.
 fn page(alloc: Global) -> Result<Vec<u8>, AsmFault> {
@@ -22,89 +18,68 @@ fn page(alloc: Global) -> Result<Vec<u8>, AsmFault> {
     main.image()
 }
 
-/// Whether the files know each word, as the top call asks.
-pub(super) fn knows_words(files: &MemFiles, words: &[String]) -> bool
-    ensures { IsTrue result → All (λ w. IsTrue (is_known files.now w)) (take 8 (words_of words.now)) }
-{
-    for word in words {
-        if !files.knows(word.as_str()) {
-            return false;
-        }
+#[test]
+fn a_read_that_fails_is_told(rt: HostRuntime) -> Result<(), Fail> {
+    let alloc = rt.alloc();
+    let image = renamed_output(alloc)?;
+    for (texts, number, text) in [
+        (IN_ORDER, 1, b"read machine\n".as_slice()),
+        (IN_ORDER, 2, b"read image\n"),
+        (GIVEN, 1, b"read machine\n"),
+        (GIVEN, 2, b"read image\n"),
+        (GIVEN, 3, b"read schedule\n"),
+    ] {
+        let log = RENAMED_OUTPUT_LOG.as_bytes();
+        let mut files = files_with(alloc, image.as_slice(), &[], log)?;
+        files.fail_read(number)?;
+        expect(&rt, alloc, &mut files, texts, 7, text)?;
     }
-    true
-}
-
-/// Checks the answer where the read of this number fails.
-fn expect_read_fault(rt: &impl Abort, alloc: Global, number: u32, text: &[u8]) -> Result<(), Fail> {
-    let mut files = MemFiles::new(alloc);
-    files.put("inorder", &[])?;
-    files.put("image", exit_seven(alloc)?.as_slice())?;
-    files.put("machine", description(alloc, &[])?.as_str().as_bytes())?;
-    files.fail_read(number)?;
-    let texts = words(alloc, &["inorder", "image", "machine"])?;
-    let words = texts.as_slice();
-    let mut out = MemSink::new(alloc, 256)?;
-    let known = knows_words(&files, words);
-    assert!(rt; known);
-    assert_eq!(rt; tss_main(alloc, words, &mut files, &mut out), 7);
-    assert!(rt; out.bytes() == text);
     Ok(())
 }
 
 #[test]
-fn a_read_that_fails_is_told(rt: HostRuntime) -> Result<(), Fail> {
-    expect_read_fault(&rt, rt.alloc(), 1, b"read machine\n")?;
-    expect_read_fault(&rt, rt.alloc(), 2, b"read image\n")
+fn an_append_that_fails_is_told(rt: HostRuntime) -> Result<(), Fail> {
+    let alloc = rt.alloc();
+    let image = renamed_output(alloc)?;
+    let mut files = files_with(alloc, image.as_slice(), &[], b"")?;
+    files.fail_append(1)?;
+    expect(&rt, alloc, &mut files, LOGGED, 8, b"write log\n")?;
+    assert_eq!(rt; files.bytes("out").len(), 0);
+    Ok(())
+}
+
+#[test]
+fn the_image_is_judged_before_the_schedule_is_read(rt: HostRuntime) -> Result<(), Fail> {
+    let alloc = rt.alloc();
+    let mut files = files_with(alloc, b"", &[], b"Main\n")?;
+    files.fail_read(3)?;
+    expect(&rt, alloc, &mut files, GIVEN, 3, b"image 1\n")
 }
 
 #[test]
 fn files_of_one_byte_too_many_are_long(rt: HostRuntime) -> Result<(), Fail> {
     let alloc = rt.alloc();
     let long_machine = vec![in alloc; 0u8; 65_537]?;
-    let image = exit_seven(alloc)?;
-    expect(&rt, alloc, &long_machine, &image, 7, b"long machine\n")?;
-    let machine = description(alloc, &[])?;
+    let mut files = files_of(alloc, b"", &long_machine, b"")?;
+    expect(&rt, alloc, &mut files, IN_ORDER, 7, b"long machine\n")?;
     let long_image = vec![in alloc; 0u8; 33_554_433]?;
-    expect(
-        &rt,
-        alloc,
-        machine.as_str().as_bytes(),
-        &long_image,
-        7,
-        b"long image\n",
-    )
-}
-
-/// Checks the answer where the write of this number fails, and how many bytes were written before.
-fn expect_write_fault(
-    rt: &impl Abort,
-    alloc: Global,
-    image: &[u8],
-    number: u32,
-    written: usize,
-) -> Result<(), Fail> {
-    let mut files = HonestFiles::new(alloc);
-    files.put("image", image)?;
-    files.put(
-        "machine",
-        description(alloc, &[(Key::OutputBytes, "4096")])?
-            .as_str()
-            .as_bytes(),
-    )?;
-    let words = words(alloc, &["inorder", "image", "machine"])?;
-    let mut out = MemSink::new(alloc, 8192)?;
-    out.fail_write(number)?;
-    assert_eq!(rt; tss_main(alloc, words.as_slice(), &mut files, &mut out), 8);
-    assert_eq!(rt; out.bytes().len(), written);
-    Ok(())
+    let mut files = files_with(alloc, &long_image, &[], b"")?;
+    expect(&rt, alloc, &mut files, IN_ORDER, 7, b"long image\n")
 }
 
 #[test]
 fn a_write_that_fails_is_told(rt: HostRuntime) -> Result<(), Fail> {
     let alloc = rt.alloc();
-    expect_write_fault(&rt, alloc, &exit_seven(alloc)?, 1, 0)?;
-    expect_write_fault(&rt, alloc, &page(alloc)?, 1, 0)?;
-    expect_write_fault(&rt, alloc, &page(alloc)?, 2, 4096)
+    let image = page(alloc)?;
+    let roomy = [(Key::OutputBytes, "4096")];
+    for (number, written) in [(1, 0), (2, 4096)] {
+        let mut files = files_with(alloc, image.as_slice(), &roomy, b"")?;
+        let mut out = MemSink::new(alloc, 8192)?;
+        out.fail_write(number)?;
+        assert_eq!(rt; answer(&rt, alloc, &mut files, IN_ORDER, &mut out)?, 8);
+        assert_eq!(rt; out.bytes().len(), written);
+    }
+    Ok(())
 }
 
 #[test]
@@ -113,9 +88,12 @@ fn honest_files_and_an_honest_sink_have_no_faults(rt: HostRuntime) -> Result<(),
     let mut files = HonestFiles::new(alloc);
     files.put("image", exit_seven(alloc)?.as_slice())?;
     files.put("machine", description(alloc, &[])?.as_str().as_bytes())?;
-    let words = words(alloc, &["inorder", "image", "machine"])?;
-    let mut out = HonestSink::new();
-    assert_eq!(rt; tss_main(alloc, words.as_slice(), &mut files, &mut out), 0);
+    files.put("schedule", b"main\nmain\n")?;
+    for texts in [IN_ORDER, LOGGED, GIVEN] {
+        let words = words(alloc, texts)?;
+        let mut out = HonestSink::new();
+        assert_eq!(rt; tss_main(alloc, words.as_slice(), &mut files, &mut out), 0);
+    }
     Ok(())
 }
 

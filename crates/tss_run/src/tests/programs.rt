@@ -1,20 +1,20 @@
 // Programs with names, whose ending, tasks, output and rows the rules give.
-use super::words;
-use crate::answering::tss_main;
+use super::{IN_ORDER, files_with, text};
 use std::alloc::Global;
 use std::process::Abort;
 use std::test::Fail;
 use tss_asm::AsmFault;
 use tss_base::Key;
 use tss_isa::{Instr, StoreKind};
-use tss_outside::{HonestFiles, MemSink};
 use tss_programs::{
-    Source, await_first, await_second, await_third, description, exit_seven, full_tables, hi,
-    idle_race, late_trap, main_touch, main_touch_after_barrier, many_readers, merged_operands,
-    no_instruction, no_operands, output_alone, partial_overlap, renamed_output, spinning_reader,
+    Code, Entry, Source, await_first, await_second, await_third, exit_seven, full_tables, hi,
+    idle_race, input, late_trap, main_touch, main_touch_after_barrier, many_readers,
+    merged_operands, no_instruction, no_operands, output_alone, partial_overlap, renamed_output,
+    spinning_reader,
 };
 
-/// Checks the report of a program by its run in program order, on the small machine with some changes.
+/// Checks the report of a program on the small machine with some changes: by its run in program order, and by runs of
+/// the unit machine, each of which tells the same and then this.
 fn expect(
     rt: &impl Abort,
     alloc: Global,
@@ -22,16 +22,18 @@ fn expect(
     program: Vec<u8>,
     changes: &[(Key, &str)],
     status: u8,
-    text: &[u8],
+    report: &[u8],
+    events: &[u8],
 ) -> Result<(), Fail> {
-    let mut files = HonestFiles::new(alloc);
-    files.put("machine", description(alloc, changes)?.as_str().as_bytes())?;
-    files.put("image", program.as_slice())?;
-    let words = words(alloc, &["inorder", "image", "machine"])?;
-    let mut out = MemSink::new(alloc, 8192)?;
-    let answered = tss_main(alloc, words.as_slice(), &mut files, &mut out);
-    assert_eq!(rt; answered, status, "{name}");
-    assert!(rt; out.bytes() == text, "{name}");
+    let mut files = files_with(alloc, program.as_slice(), changes, b"")?;
+    let alone = text(rt, alloc, &mut files, IN_ORDER, status)?;
+    assert!(rt; alone.bytes() == report, "{name}");
+    for seed in ["0", "1", "2", "99"] {
+        let texts = ["run", "image", "machine", "seed", seed];
+        let run = text(rt, alloc, &mut files, &texts, status)?;
+        let rest = run.bytes().strip_prefix(report).unwrap_or(&[]);
+        assert!(rt; rest.starts_with(events), "{name}, seed {seed}");
+    }
     Ok(())
 }
 
@@ -50,20 +52,60 @@ fn stack(alloc: Global) -> Result<Vec<u8>, AsmFault> {
     main.image()
 }
 
+/// A task whose second object begins within its first one, with a mode of this number.
+fn second_object(alloc: Global, mode: u32) -> Result<Vec<u8>, AsmFault> {
+    let mut main = Source::open(alloc)?;
+    let second = Entry {
+        base: 0x20002,
+        len: 4,
+        mode,
+    };
+    main.spawn(Code::N, &[input(0x20000, 4), second], 0)?;
+    main.exit(0)?;
+    main.image()
+}
+
 #[test]
 fn main_alone(rt: HostRuntime) -> Result<(), Fail> {
     let alloc = rt.alloc();
     let seven = b"end exit 7\ntasks 0\noutput 0\n\n";
-    expect(&rt, alloc, "exit 7", exit_seven(alloc)?, &[], 0, seven)?;
+    expect(
+        &rt,
+        alloc,
+        "exit 7",
+        exit_seven(alloc)?,
+        &[],
+        0,
+        seven,
+        b"events 2\n",
+    )?;
     let row = b"end exit 1\ntasks 0\noutput 0\n\nrow fffefff0 ab000000000000000000000000000000\n";
-    expect(&rt, alloc, "stack", stack(alloc)?, &[], 0, row)
+    expect(
+        &rt,
+        alloc,
+        "stack",
+        stack(alloc)?,
+        &[],
+        0,
+        row,
+        b"events 2\n",
+    )
 }
 
 #[test]
 fn tasks_without_operands(rt: HostRuntime) -> Result<(), Fail> {
     let alloc = rt.alloc();
     let five = b"end exit 5\ntasks 1\noutput 0\n\n";
-    expect(&rt, alloc, "one task", no_operands(alloc, 0)?, &[], 0, five)?;
+    expect(
+        &rt,
+        alloc,
+        "one task",
+        no_operands(alloc, 0)?,
+        &[],
+        0,
+        five,
+        b"events 10\n",
+    )?;
     let trap = b"end task-trap 1 0001004c 2 00000000\ntasks 1\noutput 0\n\n";
     expect(
         &rt,
@@ -73,6 +115,7 @@ fn tasks_without_operands(rt: HostRuntime) -> Result<(), Fail> {
         &[],
         1,
         trap,
+        b"events ",
     )?;
     let refused = b"end refused 1 00010028\ntasks 0\noutput 0\n\n";
     expect(
@@ -83,6 +126,7 @@ fn tasks_without_operands(rt: HostRuntime) -> Result<(), Fail> {
         &[],
         2,
         refused,
+        b"events ",
     )
 }
 
@@ -99,6 +143,7 @@ fn outputs_are_renamed_and_read(rt: HostRuntime) -> Result<(), Fail> {
         &[],
         0,
         renamed,
+        b"events ",
     )?;
     let read = b"end exit 0\ntasks 9\noutput 1\nb\nrow 00020000 62000000000000000000000000000000\n";
     let two = [(Key::Stations, "2")];
@@ -110,6 +155,7 @@ fn outputs_are_renamed_and_read(rt: HostRuntime) -> Result<(), Fail> {
         &two,
         0,
         read,
+        b"events ",
     )?;
     let seven = [(Key::Entries, "7")];
     let full = b"end exit 0\ntasks 2\noutput 0\n\n";
@@ -121,8 +167,18 @@ fn outputs_are_renamed_and_read(rt: HostRuntime) -> Result<(), Fail> {
         &seven,
         0,
         full,
+        b"events ",
     )?;
-    expect(&rt, alloc, "idle race", idle_race(alloc)?, &[], 0, full)
+    expect(
+        &rt,
+        alloc,
+        "idle race",
+        idle_race(alloc)?,
+        &[],
+        0,
+        full,
+        b"events ",
+    )
 }
 
 #[test]
@@ -130,7 +186,7 @@ fn task_budgets(rt: HostRuntime) -> Result<(), Fail> {
     let alloc = rt.alloc();
     let text =
         b"end exit 0\ntasks 1\noutput 4\nHi!?\nrow 00020000 4869213f000000000000000000000000\n";
-    expect(&rt, alloc, "hi", hi(alloc)?, &[], 0, text)?;
+    expect(&rt, alloc, "hi", hi(alloc)?, &[], 0, text, b"events 21\n")?;
     expect(
         &rt,
         alloc,
@@ -139,6 +195,7 @@ fn task_budgets(rt: HostRuntime) -> Result<(), Fail> {
         &[(Key::TaskBudget, "2")],
         0,
         text,
+        b"events 21\n",
     )?;
     let spent = b"end task-trap 1 0001006c 9 00000000\ntasks 1\noutput 0\n\n";
     expect(
@@ -149,6 +206,7 @@ fn task_budgets(rt: HostRuntime) -> Result<(), Fail> {
         &[(Key::TaskBudget, "1")],
         1,
         spent,
+        b"events ",
     )
 }
 
@@ -156,7 +214,16 @@ fn task_budgets(rt: HostRuntime) -> Result<(), Fail> {
 fn the_first_trap_in_program_order(rt: HostRuntime) -> Result<(), Fail> {
     let alloc = rt.alloc();
     let late = b"end task-trap 2 00010144 3 00010144\ntasks 2\noutput 1\na\n";
-    expect(&rt, alloc, "late trap", late_trap(alloc)?, &[], 1, late)?;
+    expect(
+        &rt,
+        alloc,
+        "late trap",
+        late_trap(alloc)?,
+        &[],
+        1,
+        late,
+        b"events ",
+    )?;
     let spinning = b"end task-trap 1 00010078 3 00010078\ntasks 1\noutput 0\n\n";
     expect(
         &rt,
@@ -166,6 +233,7 @@ fn the_first_trap_in_program_order(rt: HostRuntime) -> Result<(), Fail> {
         &[],
         1,
         spinning,
+        b"events ",
     )
 }
 
@@ -181,6 +249,7 @@ fn objects_overlap_or_touch(rt: HostRuntime) -> Result<(), Fail> {
         &[],
         2,
         refused,
+        b"events ",
     )?;
     let apart = b"end exit 0\ntasks 1\noutput 0\n\n";
     expect(
@@ -191,7 +260,19 @@ fn objects_overlap_or_touch(rt: HostRuntime) -> Result<(), Fail> {
         &[],
         0,
         apart,
+        b"events ",
     )
+}
+
+#[test]
+fn entries_are_checked_one_after_another(rt: HostRuntime) -> Result<(), Fail> {
+    let alloc = rt.alloc();
+    let mode = b"end refused 4 00010028\ntasks 0\noutput 0\n\n";
+    let image = second_object(alloc, 9)?;
+    expect(&rt, alloc, "a bad mode", image, &[], 2, mode, b"events ")?;
+    let base = b"end refused 6 00010028\ntasks 0\noutput 0\n\n";
+    let image = second_object(alloc, 1)?;
+    expect(&rt, alloc, "a bad base", image, &[], 2, base, b"events ")
 }
 
 #[test]
@@ -199,7 +280,16 @@ fn main_touches_what_it_named(rt: HostRuntime) -> Result<(), Fail> {
     let alloc = rt.alloc();
     let touch =
         b"end refused 3 00010034\ntasks 1\noutput 0\n\nrow 00020000 61000000000000000000000000000000\n";
-    expect(&rt, alloc, "main touch", main_touch(alloc)?, &[], 2, touch)?;
+    expect(
+        &rt,
+        alloc,
+        "main touch",
+        main_touch(alloc)?,
+        &[],
+        2,
+        touch,
+        b"events ",
+    )?;
     let after = b"end exit 0\ntasks 1\noutput 0\n\nrow 00020000 61000000000000000000000000000000\n";
     expect(
         &rt,
@@ -209,6 +299,7 @@ fn main_touches_what_it_named(rt: HostRuntime) -> Result<(), Fail> {
         &[],
         0,
         after,
+        b"events ",
     )
 }
 
@@ -224,6 +315,7 @@ fn main_awaits_an_object(rt: HostRuntime) -> Result<(), Fail> {
         &[],
         0,
         first,
+        b"events 19\n",
     )?;
     let second =
         b"end refused 13 0001003c\ntasks 1\noutput 0\n\nrow 00020000 61000000000000000000000000000000\n";
@@ -235,6 +327,7 @@ fn main_awaits_an_object(rt: HostRuntime) -> Result<(), Fail> {
         &[],
         2,
         second,
+        b"events ",
     )?;
     let third =
         b"end exit 0\ntasks 2\noutput 0\n\nrow 00020000 61000000000000000000000000000000\nrow 00020040 62000000000000000000000000000000\n";
@@ -246,6 +339,7 @@ fn main_awaits_an_object(rt: HostRuntime) -> Result<(), Fail> {
         &[],
         0,
         third,
+        b"events ",
     )
 }
 
@@ -262,6 +356,7 @@ fn equal_operands_are_merged(rt: HostRuntime) -> Result<(), Fail> {
         &[],
         0,
         merged,
+        b"events ",
     )?;
     let alone =
         b"end exit 0\ntasks 1\noutput 1\n\x01\nrow 00020000 01000000000000000000000000000000\n";
@@ -273,5 +368,6 @@ fn equal_operands_are_merged(rt: HostRuntime) -> Result<(), Fail> {
         &[],
         0,
         alone,
+        b"events ",
     )
 }

@@ -1,9 +1,7 @@
 // Words that are no command.
-use super::{USAGE, words};
-use crate::answering::tss_main;
-use std::process::Abort;
+use super::{USAGE, expect};
 use std::test::Fail;
-use tss_outside::{HonestFiles, MemSink};
+use tss_outside::MemFiles;
 
 #[test]
 fn other_words_show_the_usage(rt: HostRuntime) -> Result<(), Fail> {
@@ -20,13 +18,22 @@ fn other_words_show_the_usage(rt: HostRuntime) -> Result<(), Fail> {
         &["run", "image", "machine", "seed"],
         &["run", "image", "machine", "given", "log", "log", "more"],
         &["state", "image", "machine", "seed", "7"],
+        &["self", "0"],
+        &["self", "41"],
+        &["self", "01"],
+        &["self", "1", "div"],
     ] {
-        let words = words(alloc, texts)?;
-        let mut files = HonestFiles::new(alloc);
-        let mut out = MemSink::new(alloc, 256)?;
-        let answered = tss_main(alloc, words.as_slice(), &mut files, &mut out);
-        assert_eq!(rt; answered, 6);
-        assert!(rt; out.bytes() == USAGE);
+        expect(&rt, alloc, &mut MemFiles::new(alloc), texts, 6, USAGE)?;
+    }
+    Ok(())
+}
+
+#[test]
+fn a_seed_has_one_spelling(rt: HostRuntime) -> Result<(), Fail> {
+    let alloc = rt.alloc();
+    for seed in ["18446744073709551616", "07", "+7", "-1", "", "7 "] {
+        let texts = ["run", "image", "machine", "seed", seed];
+        expect(&rt, alloc, &mut MemFiles::new(alloc), &texts, 6, USAGE)?;
     }
     Ok(())
 }

@@ -1,48 +1,40 @@
 -- The command is that of the words.
-use Rattle.std.proofs.Common.{Some, option_map, sym, ap, ◌∙◌, subst}
-use Rattle.tss_run.specs.Outcomes.{files_seen, IsDueTo}
-use Rattle.tss_run.specs.Words.{command_meant}
+use Rattle.tss_run.specs.Outcomes.{files_seen}
+use Rattle.tss_run.proofs.OutcomeLemmas.{due_to_words}
 use Rattle.tss_run.proofs.answering.outcome.Goals as goal
 
 pub returns-in-Some-InOrder-clause-due : goal.returns-in-Some-InOrder-clause-due
 returns-in-Some-InOrder-clause-due g c =
-    subst (λ k. IsDueTo k (files_seen g.F.Files c.args.files.now) (files_seen g.F.Files c.in_order.new.files) c.in_order.result)
-    (ap (λ x. option_map command_meant (Some x)) (sym c.in-Some-InOrder.field-0-is) ∙ ap (option_map command_meant) (sym c.in-Some-InOrder.is) ∙ c.parse.ensures.exact)
-    c.in_order.ensures.due
+    due_to_words (files_seen g.F.Files c.args.files.now) (files_seen g.F.Files c.in_order.new.files) c.in_order.result
+    c.parse.ensures.exact c.in-Some-InOrder.is c.in-Some-InOrder.field-0-is c.in_order.ensures.due
 
 pub returns-in-Some-Migrate-clause-due : goal.returns-in-Some-Migrate-clause-due
 returns-in-Some-Migrate-clause-due g c =
-    subst (λ k. IsDueTo k (files_seen g.F.Files c.args.files.now) (files_seen g.F.Files c.migrate.new.files) c.migrate.result)
-    (ap (λ x. option_map command_meant (Some x)) (sym c.in-Some-Migrate.field-0-is) ∙ ap (option_map command_meant) (sym c.in-Some-Migrate.is) ∙ c.parse.ensures.exact)
-    c.migrate.ensures.due
+    due_to_words (files_seen g.F.Files c.args.files.now) (files_seen g.F.Files c.migrate.new.files) c.migrate.result
+    c.parse.ensures.exact c.in-Some-Migrate.is c.in-Some-Migrate.field-0-is c.migrate.ensures.due
 
 pub returns-in-Some-RunSeeded-clause-due : goal.returns-in-Some-RunSeeded-clause-due
 returns-in-Some-RunSeeded-clause-due g c =
-    subst (λ k. IsDueTo k (files_seen g.F.Files c.args.files.now) (files_seen g.F.Files c.run_seeded.new.files) c.run_seeded.result)
-    (ap (λ x. option_map command_meant (Some x)) (sym c.in-Some-RunSeeded.field-0-is) ∙ ap (option_map command_meant) (sym c.in-Some-RunSeeded.is) ∙ c.parse.ensures.exact)
-    c.run_seeded.ensures.due
+    due_to_words (files_seen g.F.Files c.args.files.now) (files_seen g.F.Files c.run_seeded.new.files) c.run_seeded.result
+    c.parse.ensures.exact c.in-Some-RunSeeded.is c.in-Some-RunSeeded.field-0-is c.run_seeded.ensures.due
 
 pub returns-in-Some-RunLogged-clause-due : goal.returns-in-Some-RunLogged-clause-due
 returns-in-Some-RunLogged-clause-due g c =
-    subst (λ k. IsDueTo k (files_seen g.F.Files c.args.files.now) (files_seen g.F.Files c.run_logged.new.files) c.run_logged.result)
-    (ap (λ x. option_map command_meant (Some x)) (sym c.in-Some-RunLogged.field-0-is) ∙ ap (option_map command_meant) (sym c.in-Some-RunLogged.is) ∙ c.parse.ensures.exact)
-    c.run_logged.ensures.due
+    due_to_words (files_seen g.F.Files c.args.files.now) (files_seen g.F.Files c.run_logged.new.files) c.run_logged.result
+    c.parse.ensures.exact c.in-Some-RunLogged.is c.in-Some-RunLogged.field-0-is c.run_logged.ensures.due
 
 pub returns-in-Some-RunGiven-clause-due : goal.returns-in-Some-RunGiven-clause-due
 returns-in-Some-RunGiven-clause-due g c =
-    subst (λ k. IsDueTo k (files_seen g.F.Files c.args.files.now) (files_seen g.F.Files c.run_given.new.files) c.run_given.result)
-    (ap (λ x. option_map command_meant (Some x)) (sym c.in-Some-RunGiven.field-0-is) ∙ ap (option_map command_meant) (sym c.in-Some-RunGiven.is) ∙ c.parse.ensures.exact)
-    c.run_given.ensures.due
+    due_to_words (files_seen g.F.Files c.args.files.now) (files_seen g.F.Files c.run_given.new.files) c.run_given.result
+    c.parse.ensures.exact c.in-Some-RunGiven.is c.in-Some-RunGiven.field-0-is c.run_given.ensures.due
 
 pub returns-in-Some-StateGiven-clause-due : goal.returns-in-Some-StateGiven-clause-due
 returns-in-Some-StateGiven-clause-due g c =
-    subst (λ k. IsDueTo k (files_seen g.F.Files c.args.files.now) (files_seen g.F.Files c.state_given.new.files) c.state_given.result)
-    (ap (λ x. option_map command_meant (Some x)) (sym c.in-Some-StateGiven.field-0-is) ∙ ap (option_map command_meant) (sym c.in-Some-StateGiven.is) ∙ c.parse.ensures.exact)
-    c.state_given.ensures.due
+    due_to_words (files_seen g.F.Files c.args.files.now) (files_seen g.F.Files c.state_given.new.files) c.state_given.result
+    c.parse.ensures.exact c.in-Some-StateGiven.is c.in-Some-StateGiven.field-0-is c.state_given.ensures.due
 
 pub returns-in-Some-Workload-clause-due : goal.returns-in-Some-Workload-clause-due
 returns-in-Some-Workload-clause-due g c =
     let s = files_seen g.F.Files c.args.files.now in
-    subst (λ k. IsDueTo k s s c.workload.result)
-    (ap (λ x. option_map command_meant (Some x)) (sym c.in-Some-Workload.field-0-is) ∙ ap (option_map command_meant) (sym c.in-Some-Workload.is) ∙ c.parse.ensures.exact)
+    due_to_words s s c.workload.result c.parse.ensures.exact c.in-Some-Workload.is c.in-Some-Workload.field-0-is
     (c.workload.ensures.due s)

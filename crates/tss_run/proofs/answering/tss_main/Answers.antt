@@ -1,6 +1,7 @@
 -- The outcome is due to the words, and it is told.
 use Rattle.tss_run.specs.Call.{Call, called}
 use Rattle.tss_run.proofs.CallLemmas.{is_answered, is_complete, appends_expected, appends_partly, changes_no_file}
+use Rattle.tss_run.proofs.RunStateLemmas.{is_of_its_state}
 use Rattle.tss_run.proofs.answering.tss_main.Goals as goal
 
 pub returns : goal.returns
@@ -10,6 +11,7 @@ returns g c =
     record {
       answered = is_answered this o c.outcome-outcome.ensures.due c.tell-status.ensures;
       complete = is_complete this o c.outcome-outcome.ensures.due c.tell-status.ensures;
+      of_state = is_of_its_state this o c.outcome-outcome.ensures.sound c.machine_behind.ensures c.outcome-outcome.ensures.due c.tell-status.ensures;
       appended = appends_expected this o c.outcome-outcome.ensures.due c.tell-status.ensures;
       appended_part = appends_partly this o c.outcome-outcome.ensures.due c.tell-status.ensures;
       kept = changes_no_file this o c.outcome-outcome.ensures.due c.tell-status.ensures;

@@ -1,15 +1,15 @@
 -- The program is read, then the schedule, and then it is run.
-use Rattle.std.proofs.Common.{◌≡◌, Ok, Err, inr, refl, sym, ap, ◌∙◌, subst, List, ℕ, Result}
+use Rattle.std.proofs.Common.{◌≡◌, Ok, Err, refl, sym, ap, ◌∙◌}
 use Rattle.tss_protocol.specs.Schedule.{judged}
-use Rattle.tss_run.specs.declared.outcome.Refusal.{Refusal}
 use Rattle.tss_run.specs.declared.outcome.Refusal.TheVariants as refusal
 use Rattle.tss_run.specs.declared.outcome.Report.TheVariants as report
 use Rattle.tss_run.specs.Outcomes.{files_seen, FailedToRead}
 use Rattle.tss_run.specs.Words.{Names, RunGiven}
-use Rattle.tss_run.specs.Work.{Deed, program_reading, schedule_reading, given_deed, given_answer, given_found, given_under, work_of}
+use Rattle.tss_run.specs.Work.{program_reading, given_deed, given_answer, given_found, given_under, work_of}
 use Rattle.tss_run.proofs.AnswerLemmas.{line_same}
-use Rattle.tss_run.proofs.ReadingLemmas.{err_is, stops_with, goes_on}
-use Rattle.tss_run.proofs.OutcomeLemmas.{read_before, read_after, only_reads_then, refused, ran_out, does}
+use Rattle.tss_run.proofs.ReadingLemmas.{err_is, stops_with}
+use Rattle.tss_run.proofs.OutcomeLemmas.{only_reads_then, refused, ran_out}
+use Rattle.tss_run.proofs.GivenLemmas.{unscheduled, unfollowed, followed}
 use Rattle.tss_run.proofs.runs.run_given.Goals as goal
 
 pub returns-in_err-program : goal.returns-in_err-program
@@ -25,44 +25,28 @@ returns-in_err-program g c =
 
 pub returns-in_err-bytes : goal.returns-in_err-bytes
 returns-in_err-bytes g c =
-    let b = files_seen g.F.Files c.args.files.now in
-    let m = files_seen g.F.Files c.program_in.new.files in
-    let a = files_seen g.F.Files c.schedule_in.new.files in
     let names : Names = record { image = c.args.image.now; machine = c.args.machine.now } in
-    let p = c.in_ok-program.program in
-    let schedule = schedule_reading c.args.schedule.now in
     let e = c.in_err-bytes.field-0.0 in
     let r = c.from_residual-in_err-bytes.result in
     record {
-      due = refused b a (work_of (RunGiven names c.args.schedule.now)) r e (err_is r e c.from_residual-in_err-bytes.ensures.1)
-          (goes_on b.held (FailedToRead b a) (given_under c.args.schedule.now) (program_reading names) p (Err e)
-          (read_before b m a (program_reading names) (Ok p) c.in_err-bytes.ensures.only_reads.read_faults c.in_ok-program.ensures.exact)
-          (stops_with b.held (FailedToRead b a) (given_found p) schedule e (read_after b m a schedule (Err e) c.in_ok-program.ensures.only_reads c.in_err-bytes.ensures.exact)))
-          (only_reads_then b m a c.in_ok-program.ensures.only_reads c.in_err-bytes.ensures.only_reads);
+      due = unscheduled (files_seen g.F.Files c.args.files.now) (files_seen g.F.Files c.program_in.new.files)
+          (files_seen g.F.Files c.schedule_in.new.files) names c.args.schedule.now given_found c.in_ok-program.program
+          c.in_ok-program.ensures.exact c.in_ok-program.ensures.only_reads c.in_err-bytes.ensures.only_reads r e
+          (err_is r e c.from_residual-in_err-bytes.ensures.1) c.in_err-bytes.ensures.exact;
     }
 
 pub returns-in-Ok : goal.returns-in-Ok
 returns-in-Ok g c =
-    let b = files_seen g.F.Files c.args.files.now in
-    let m = files_seen g.F.Files c.program_in.new.files in
-    let a = files_seen g.F.Files c.schedule_in.new.files in
     let names : Names = record { image = c.args.image.now; machine = c.args.machine.now } in
     let p = c.in_ok-program.program in
-    let schedule = schedule_reading c.args.schedule.now in
-    let bytes = c.in_ok-bytes.bytes.items in
     let slice = c.as_slice.result.now in
     let es = (judged p.machine p.image slice).events in
-    let d = given_deed p es in
-    let answer : Ok d ≡ given_answer p es (judged p.machine p.image slice).fault = sym (ap (given_answer p es) c.in-Ok.ensures.whole) in
     record {
-      due = does b a (work_of (RunGiven names c.args.schedule.now)) d _
-          (goes_on b.held (FailedToRead b a) (given_under c.args.schedule.now) (program_reading names) p (Ok d)
-          (read_before b m a (program_reading names) (Ok p) c.in_ok-bytes.ensures.only_reads.read_faults c.in_ok-program.ensures.exact)
-          (goes_on b.held (FailedToRead b a) (given_found p) schedule bytes (Ok d)
-          (read_after b m a schedule (Ok bytes) c.in_ok-program.ensures.only_reads c.in_ok-bytes.ensures.exact)
-          (inr (subst (λ given. Ok d ≡ given_answer p (judged p.machine p.image given).events (judged p.machine p.image given).fault) c.as_slice.ensures.value answer))))
-          (ap (λ x. Ok (report.Ran x)) c.in-Ok.ensures.ok)
-          (only_reads_then b m a c.in_ok-program.ensures.only_reads c.in_ok-bytes.ensures.only_reads).held;
+      due = followed (files_seen g.F.Files c.args.files.now) (files_seen g.F.Files c.program_in.new.files)
+          (files_seen g.F.Files c.schedule_in.new.files) names c.args.schedule.now given_found p c.in_ok-program.ensures.exact
+          c.in_ok-program.ensures.only_reads c.in_ok-bytes.ensures.only_reads slice c.in_ok-bytes.bytes.items
+          c.as_slice.ensures.value c.in_ok-bytes.ensures.exact _ (given_deed p es) refl
+          (sym (ap (given_answer p es) c.in-Ok.ensures.whole)) (ap (λ x. Ok (report.Ran x)) c.in-Ok.ensures.ok);
     }
 
 pub returns-in-Err-NoMemory : goal.returns-in-Err-NoMemory
@@ -78,26 +62,17 @@ returns-in-Err-NoMemory g c =
 
 pub returns : goal.returns
 returns g c =
-    let b = files_seen g.F.Files c.args.files.now in
-    let m = files_seen g.F.Files c.program_in.new.files in
-    let a = files_seen g.F.Files c.schedule_in.new.files in
     let names : Names = record { image = c.args.image.now; machine = c.args.machine.now } in
     let p = c.in_ok-program.program in
-    let schedule = schedule_reading c.args.schedule.now in
-    let bytes = c.in_ok-bytes.bytes.items in
     let slice = c.as_slice.result.now in
     let es = (judged p.machine p.image slice).events in
     let fault = c.in-Err-Line.fault in
-    let e = refusal.Schedule fault in
     let fault_is = c.run_given.ensures.line fault (c.in-Err-Line.is ∙ ap Err c.in-Err-Line.field-0-is) in
-    let answer : Err e ≡ given_answer p es (judged p.machine p.image slice).fault =
+    let answer : Err (refusal.Schedule fault) ≡ given_answer p es (judged p.machine p.image slice).fault =
     sym (ap (given_answer p es) fault_is ∙ ap (λ f. Err (refusal.Schedule f)) (line_same fault)) in
     record {
-      due = refused b a (work_of (RunGiven names c.args.schedule.now)) _ e refl
-          (goes_on b.held (FailedToRead b a) (given_under c.args.schedule.now) (program_reading names) p (Err e)
-          (read_before b m a (program_reading names) (Ok p) c.in_ok-bytes.ensures.only_reads.read_faults c.in_ok-program.ensures.exact)
-          (goes_on b.held (FailedToRead b a) (given_found p) schedule bytes (Err e)
-          (read_after b m a schedule (Ok bytes) c.in_ok-program.ensures.only_reads c.in_ok-bytes.ensures.exact)
-          (inr (subst (λ given. Err e ≡ given_answer p (judged p.machine p.image given).events (judged p.machine p.image given).fault) c.as_slice.ensures.value answer))))
-          (only_reads_then b m a c.in_ok-program.ensures.only_reads c.in_ok-bytes.ensures.only_reads);
+      due = unfollowed (files_seen g.F.Files c.args.files.now) (files_seen g.F.Files c.program_in.new.files)
+          (files_seen g.F.Files c.schedule_in.new.files) names c.args.schedule.now given_found p c.in_ok-program.ensures.exact
+          c.in_ok-program.ensures.only_reads c.in_ok-bytes.ensures.only_reads slice c.in_ok-bytes.bytes.items
+          c.as_slice.ensures.value c.in_ok-bytes.ensures.exact _ (refusal.Schedule fault) refl answer;
     }

@@ -18,4 +18,4 @@ returns-in_err-run-clause-due c =
 pub returns-clause-due : goal.returns-clause-due
 returns-clause-due c =
     let w : SelfWork = record { n = c.args.n; form = c.args.form } in
-    λ s. does s s (work_of (Workload w)) (workload_deed w) _ (inr refl) (ap (λ x. Ok (report.Workload x)) c.in_ok-run.ensures) refl
+    λ s. does s s (work_of (Workload w)) (workload_deed w) _ (inr refl) (ap (λ x. Ok (report.Workload x)) c.in_ok-run.ensures.exact) refl

@@ -2,7 +2,7 @@
 use Rattle.std.proofs.Common.{◌≡◌, ℕ, List, true, map, string_bytes, arith}
 use Rattle.std.proofs.lemmas.List.Elements.{All-take, All-map}
 use Rattle.tss_outside.specs.MemFiles.{is_known}
-use Rattle.tss_run.proofs.tests.outside.knows_words.Goals as goal
+use Rattle.tss_run.proofs.tests.knows_words.Goals as goal
 
 pub returns : goal.returns
 returns c =

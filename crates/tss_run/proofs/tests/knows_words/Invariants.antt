@@ -1,6 +1,6 @@
 use Rattle.std.proofs.Common.{◌≡◌, ℕ, ◌<◌, true, get_or, string_bytes, String, Global}
 use Rattle.tss_outside.specs.MemFiles.{is_known}
-use Rattle.tss_run.proofs.tests.outside.knows_words.Given as goal
+use Rattle.tss_run.proofs.tests.knows_words.Given as goal
 
 -- each word before this one is known
 abbrev pub invariant-loop-word : goal.invariant-loop-word
