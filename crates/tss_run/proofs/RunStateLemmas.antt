@@ -143,8 +143,11 @@ module _ (c : Call) where
       let p = q.0 in
       let is = ap (λ (d : Deed). d.report) (ok_same q.2) in (
         p,
-        (inr q.1, tells_deed d status told p (drawn p seed)
-            (seeded_whole p.machine p.image (found_image c names p q.1) (subst HasMachine is machine) seed) is),
+        (
+          inr q.1,
+          tells_deed d status told p (drawn p seed)
+              (seeded_whole p.machine p.image (found_image c names p q.1) (subst HasMachine is machine) seed) is,
+        ),
       )
   tells_command (RunLogged names seed log) d finds sound machine status told =
       let held = c.before.files.held in
@@ -153,8 +156,11 @@ module _ (c : Call) where
       let p = q.0 in
       let is = ap (λ (d : Deed). d.report) (ok_same q.2) in (
         p,
-        (inr q.1, tells_deed d status told p (drawn p seed)
-            (seeded_whole p.machine p.image (found_image c names p q.1) (subst HasMachine is machine) seed) is),
+        (
+          inr q.1,
+          tells_deed d status told p (drawn p seed)
+              (seeded_whole p.machine p.image (found_image c names p q.1) (subst HasMachine is machine) seed) is,
+        ),
       )
   tells_command (RunGiven names schedule) d finds sound machine status told =
       let held = c.before.files.held in
@@ -168,8 +174,11 @@ module _ (c : Call) where
         p,
         s.0,
         inr s.1,
-        (inr q.1, tells_deed d status told p es
-            (given_whole p.machine p.image (found_image c names p q.1) (subst HasMachine is machine) s.0 given.0) is),
+        (
+          inr q.1,
+          tells_deed d status told p es
+              (given_whole p.machine p.image (found_image c names p q.1) (subst HasMachine is machine) s.0 given.0) is,
+        ),
       )
   tells_command (Workload w) d finds sound machine status told =
       let is = ap (λ (d : Deed). d.report) (ok_same finds) in
