@@ -147,9 +147,14 @@ impl Units {
         requires kind { is_listed kind ≡ true }
         ensures { IfOk result (AreListed self.now kind) }
     {
-        let mut list = NameTable::open(alloc, message_limit(&self.machine))?;
-        self.list_anew(kind, &mut list);
-        Ok(list)
+        match NameTable::open(alloc, message_limit(&self.machine)) {
+            Ok(opened) => {
+                let mut list = opened;
+                self.list_anew(kind, &mut list);
+                Ok(list)
+            }
+            Err(fault) => Err(fault),
+        }
     }
 
     /// The list of a kind after an event, by what it was before it. Only names for which the event may change something

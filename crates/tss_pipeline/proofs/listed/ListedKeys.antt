@@ -70,7 +70,6 @@ module _ {K X : Type 0} {R : K → K → Ordering} (order : IsKeyOrder R) (q : K
         | false ↦ keys_kept es
       ]
 
-
   -- the set of the keys that pass
   pub listed_keys : (t : FinMap R (Unit {0})) (m : FinMap R X) → ((k : K) → is_some (get t k) ≡ q k)
       → ((k : K) → q k ≡ true → is_some (get m k) ≡ true) → keys t ≡ filter q (keys m)

@@ -1,20 +1,20 @@
 -- Lists of the names whose events of a kind may happen: a name is put in or taken out, the names of a kind are gone
 -- through, and the list is the events of the kind that may happen, in order.
-use Rattle.std.proofs.Common.{◌≡◌, ◌≢◌, ◌⊎◌, ℕ, ◌+◌, ◌<◌, ◌≤◌, Bool, true, false, List, map, length, Option, Some, None, option_map, refl, sym, ap, ◌∙◌, inl, inr, arith}
+use Rattle.std.proofs.Common.{◌≡◌, ◌≢◌, ◌⊎◌, ℕ, ◌+◌, ◌<◌, ◌≤◌, Bool, true, false, List, map, length, Option, Some, None, option_map, refl, sym, ap, ◌∙◌, subst, inl, inr, arith}
 use Rattle.std.specs.Prelude.{filter, is_some, slice_get}
-use Rattle.std.specs.FinMap.{get, insert, remove, len, keys, entries, len-entries}
+use Rattle.std.specs.FinMap.{get, insert, remove, empty, len, keys, entries, len-entries, get-empty}
 use Rattle.std.proofs.lemmas.List.{length-map}
 use Rattle.std.proofs.lemmas.Option.{none-some, same_Some, slice_get-map, slice_get_within}
 use Rattle.tss_base.specs.declared.operand.OpName.{OpName}
 use Rattle.tss_base.specs.declared.event.Event.{Event}
 use Rattle.tss_base.specs.declared.event.Event.TheVariants as event
-use Rattle.tss_base.specs.Names.{Named}
+use Rattle.tss_base.specs.Names.{Named, name_cmp}
 use Rattle.tss_maps.specs.Ordered.{key_at}
 use Rattle.tss_maps.proofs.Keys.{name_order, decide_key}
 use Rattle.tss_maps.proofs.Changes.{decide_get, at_inserted, beside_inserted, at_removed, beside_removed, from_inserted, insert_same}
 use Rattle.tss_maps.proofs.Entries.{len_added, len_at_most}
 use Rattle.tss_maps.proofs.OrderedLemmas.{key_from_get}
-use Rattle.tss_protocol.specs.Mail.{OpenContents, message_count}
+use Rattle.tss_protocol.specs.Mail.{OpenContents, Mail, message_count}
 use Rattle.tss_protocol.specs.Counts.{message_limit}
 use Rattle.tss_protocol.specs.State.{State}
 use Rattle.tss_protocol.specs.UnitMachine.{is_enabled, can_open_message, can_use_message}
@@ -28,7 +28,8 @@ use Rattle.tss_pipeline.specs.declared.units.Units.{Units}
 use Rattle.tss_pipeline.specs.Enabling.{enabled_of_kind}
 use Rattle.tss_pipeline.specs.State.{state_of}
 use Rattle.tss_pipeline.specs.Fit.{IsFit}
-use Rattle.tss_pipeline.specs.Listing.{Names, is_listed, is_there, marked, may_happen, FitsBeside, FitsIn, AreListed}
+use Rattle.tss_pipeline.specs.Listing.{Names, is_listed, is_there, marked, may_happen, FitsBeside, FitsIn, AreListed, name_taken}
+use Rattle.tss_pipeline.proofs.ends.EndingLemmas.{mapped_there}
 use Rattle.tss_pipeline.proofs.listed.ListedKeys.{filter-map, listed_keys}
 
 not_both : false ≡ true → ⊥
@@ -59,6 +60,43 @@ module _ (es : Named (Unit {0})) (o : OpName) where
       by : (x : Option (Unit {0})) → get es o ≡ x → is_some x ≡ true → es ≡ insert es o tt
       by None e there = absurd (not_both there)
       by (Some tt) e there = sym (insert_same name_order es o tt e)
+
+-- the same, where a test is passed
+pub marked_there : (t : Names) (o : OpName) (may : Bool) → is_some (get t.entries o) ≡ true → may ≡ true
+    → t ≡ record t { entries = marked t.entries o may }
+marked_there t o may there passes =
+    ap (λ es. record t { entries = es }) (marked_again t.entries o there ∙ ap (marked t.entries o) (sym passes))
+
+-- a table without names
+pub empty_fits : (u : Units) (k : Kind) (t : Names) → t.size ≡ message_limit u.machine → t.entries ≡ empty → FitsIn u k t
+empty_fits u k t size none = record {
+  size = size;
+  each = λ q there.
+      absurd (not_both (sym (ap (λ es. is_some (get es q)) none ∙ ap is_some (get-empty name_cmp q)) ∙ there));
+}
+
+-- the name of a message of a kind is that of its event
+named : (f g : OpName → Event) (ks : List OpName) (i : ℕ) (e : Event)
+    → ((o : OpName) → option_map g (name_taken (f o)) ≡ Some (f o)) → slice_get (map f ks) i ≡ Some e
+    → option_map g (name_taken e) ≡ slice_get (map f ks) i
+named f g ks i e is at =
+    let t = mapped_there f ks i e at in
+    subst (λ e. option_map g (name_taken e) ≡ Some e) t.2 (is t.0) ∙ sym at
+
+pub named_of_kind : (m : Mail) (k : Kind) (i : ℕ) (e : Event) → slice_get (names_of_kind m k) i ≡ Some e
+    → option_map (event_of k) (name_taken e) ≡ slice_get (names_of_kind m k) i
+named_of_kind m kind.Decode i e at = named event.Decode event.Decode (keys m.decodes) i e (λ o. refl) at
+named_of_kind m kind.Ack i e at = named event.Ack event.Ack (keys m.acks) i e (λ o. refl) at
+named_of_kind m kind.Open i e at = named event.Open event.Open (keys m.opens) i e (λ o. refl) at
+named_of_kind m kind.Use i e at = named event.Use event.Use (keys m.uses) i e (λ o. refl) at
+named_of_kind m kind.Ready i e at = named event.Ready event.Ready (keys m.readies) i e (λ o. refl) at
+named_of_kind m kind.Link i e at = named event.Link event.Link (keys m.links) i e (λ o. refl) at
+named_of_kind m kind.Release i e at = named event.Release event.Release (keys m.releases) i e (λ o. refl) at
+named_of_kind m kind.Bye i e at = named event.Bye event.Bye (keys m.byes) i e (λ o. refl) at
+named_of_kind m kind.Idle i e at = named event.Idle event.Idle (keys m.idles) i e (λ o. refl) at
+named_of_kind m kind.Nack i e at = named event.Nack event.Nack (keys m.nacks) i e (λ o. refl) at
+named_of_kind m kind.Retire i e at = named event.Retire event.Retire (keys m.retires) i e (λ o. refl) at
+named_of_kind m kind.Gone i e at = named event.Gone event.Gone (keys m.gones) i e (λ o. refl) at
 
 -- names of events of one kind are apart
 pub event_apart : (k : Kind) (a b : OpName) → event_of k a ≡ event_of k b → a ≡ b

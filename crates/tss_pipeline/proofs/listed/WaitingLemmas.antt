@@ -95,8 +95,7 @@ module _ (m : Machine) (S : State) where
   decode_others o q other =
       let T = after_event m S (event.Decode o) in
       let vs = left_versions m S (event.Decode o) refl in
-      let kept = decoded_letters o q other (get S.mail.decodes o) in
-      (
+      let kept = decoded_letters o q other (get S.mail.decodes o) in (
         opens_by T vs (get T.mail.opens q) ∙ ap (can_open_message S) kept.0,
         uses_by T vs (get T.mail.uses q) ∙ ap (can_use_message S) kept.1,
       )
