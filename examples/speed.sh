@@ -90,3 +90,24 @@ events=$("$tss" self 40 | sed -n 's/^events //p')
 counted=$(valgrind --tool=callgrind --callgrind-out-file=/dev/null "$tss" self 40 2>&1 >/dev/null |
     sed -n 's/.*Collected : //p')
 echo "| self 40, $events events | $counted |"
+
+# grown STATIONS SLOTS BANKS PLACES BUFFERS: what an event costs where tasks fill the tables of a machine.
+grown() {
+    sed -e "s/^object_bytes .*/object_bytes = 64/;s/^stations .*/stations = $1/;s/^slots .*/slots = $2/" \
+        -e "s/^workers .*/workers = 2/;s/^banks .*/banks = $3/;s/^entries .*/entries = $4/" \
+        -e "s/^versions .*/versions = $4/;s/^buffers .*/buffers = $5/;s/^quantum .*/quantum = 16/" big.toml >out/grown.toml
+    build tables 1000 one
+    build tables 3000 two
+    for image in one two; do
+        valgrind --tool=callgrind --callgrind-out-file=/dev/null "$tss" run out/$image.elf out/grown.toml seed 1 2>&1 |
+            sed -n 's/^events //p;s/.*Collected : //p'
+    done | tr '\n' ' ' | awk -v slots=$(($1 * $2)) -v places=$(($3 * $4)) \
+        '{ printf "| %d and %d | %d |\n", slots, places, ($4 - $2) / ($3 - $1) }'
+}
+echo
+echo '| slots and places of versions | host instructions an event |'
+echo '|---|---|'
+grown 1 8 2 8 8
+grown 2 16 8 16 8
+grown 4 32 16 64 16
+grown 16 64 64 256 64

@@ -1,5 +1,5 @@
 -- What a step answers and leaves.
-use Rattle.std.specs.Prelude.{◌≡◌, true, Option, None}
+use Rattle.std.specs.Prelude.{◌≡◌, Bool, true, false, Option, None}
 use Rattle.tss_isa.specs.declared.instr.Instr.{Instr}
 use Rattle.tss_isa.specs.InstrTable.{fits}
 use Rattle.tss_model.specs.Registers.{Registers}
@@ -7,6 +7,8 @@ use Rattle.tss_model.specs.Core as model
 use Rattle.tss_model.specs.Core.{Write, Stepped, Executed, execute, core_step}
 use Rattle.tss_core.specs.declared.stepping.Outcome.{Outcome}
 use Rattle.tss_core.specs.declared.stepping.Outcome.TheVariants.{Next, Call, Ended, Trapped, Touched}
+use Rattle.tss_core.specs.declared.stepping.Stop.{Stop}
+use Rattle.tss_core.specs.declared.stepping.Stop.TheVariants as stop
 use Rattle.tss_core.specs.Views.{Sight, IsAfter}
 
 -- the step of an actor by what a view shows
@@ -25,6 +27,14 @@ outcome_of model.Called = Call
 outcome_of model.Ended = Ended
 outcome_of (model.Trapped t) = Trapped t
 outcome_of model.Touched = Touched
+
+-- an outcome in two parts: whether an instruction is executed, and why not
+abbrev pub outcome_by : Bool → Stop → Outcome
+outcome_by true s = Next
+outcome_by false stop.Call = Call
+outcome_by false stop.Ended = Ended
+outcome_by false (stop.Trapped t) = Trapped t
+outcome_by false stop.Touched = Touched
 
 -- the registers that it leaves
 abbrev pub registers_after : Registers → Stepped → Registers

@@ -19,5 +19,5 @@ pub use access::{Deny, Purpose, main_access, owns, task_access};
 pub use plain_main::PlainMain;
 pub use plain_task::PlainTask;
 pub use regs::Regs;
-pub use stepping::{Outcome, step};
+pub use stepping::{Outcome, Stop, advance, step};
 pub use view::View;

@@ -16,7 +16,8 @@ use Rattle.tss_isa.specs.declared.instr.Instr.{Instr}
 use Rattle.tss_isa.specs.declared.instr.Instr.TheVariants.{Lui, Auipc, Jal, Jalr, Branch, Load, Store, OpImm, Op, Fence, Ecall, Ebreak}
 use Rattle.tss_isa.specs.InstrTable.{instr_of}
 use Rattle.tss_model.specs.Access.{Actor, MainActor}
-use Rattle.tss_model.specs.Memory.{MemoryRange, Memory, byte_at, bytes_of, put_bytes, range_of, code_word, frozen}
+use Rattle.tss_base.specs.declared.ending.Ending.{Ending}
+use Rattle.tss_model.specs.Memory.{MemoryRange, Memory, byte_at, bytes_of, put_bytes, range_of, code_word, frozen, memory_ranges}
 use Rattle.tss_model.specs.Registers.{Registers, register_at, onward}
 use Rattle.tss_model.specs.Core.{core_step}
 use Rattle.tss_model.specs.TaskRun.{repeated}
@@ -24,6 +25,7 @@ use Rattle.tss_model.specs.MainStep.{Piece, Flat, Call, Barrier, called_by, main
 use Rattle.tss_model.specs.InOrder.{flat_start, flat_step, flat_stepped}
 use Rattle.tss_memory.specs.Ranges.{AreRanges}
 use Rattle.tss_memory.proofs.RangeLemmas.{contains_from, contains_not_end}
+use Rattle.tss_program_order.proofs.FlatOrder.{flat_stepped-ranges}
 use Rattle.tss_program_order.proofs.FlatSteps.{repeated-add, flat_step-call, next_call-spent}
 use Rattle.tss_steps.specs.Restarts.{one_piece}
 use Rattle.tss_steps.proofs.CallLemmas.{called-ended, called-unfetched, called-illegal, called-ecall, called-other}
@@ -200,3 +202,27 @@ with_range-kept from m r w e = sym (cond-false _ _ _ e)
 pub with_range-ranges : (from m : Memory) (r : Range) (w : Bool) → (with_range from m (record { range = r; writable = w })).ranges ≡ m.ranges
 with_range-ranges from m r true = refl
 with_range-ranges from m r false = refl
+
+-- ---- machines of one image
+
+-- main whose next step is a barrier call is at a barrier, whatever it has named, spawned and printed
+pub at_barrier-next : (code : List SegmentState) (limits : Limits) (f : Flat) → next_call code limits f ≡ Some Barrier
+    → IsAtBarrier code limits f.main.registers f.memory
+at_barrier-next code limits f = by f.main.ending
+  where
+    none_some : {c : Call} → None ≡ Some c → ⊥
+    none_some h = cc
+
+    by : (e : Option Ending) → next_call code limits (record f { main = record f.main { ending = e } }) ≡ Some Barrier
+        → IsAtBarrier code limits f.main.registers f.memory
+    by (Some e) h = absurd (none_some h)
+    by None h =
+        ap (λ (o : Option Call). cond (nat_le limits.main_budget f.main.registers.done) None o)
+        (called-alike (MainActor f.memory.ranges []) (MainActor f.memory.ranges f.main.epoch) (byte_at f.memory) (byte_at f.memory)
+        (code_word code) f.main.registers)
+        ∙ h
+
+-- a machine that follows program order has the ranges of the image
+pub follows-ranges : (i : ImageState) (s : FlatState) → Follows i s → s.memory.ranges ≡ memory_ranges i
+follows-ranges i s follows =
+    sym (ap (λ (f : Flat). f.memory.ranges) follows.reached) ∙ flat_stepped-ranges i s.limits follows.steps

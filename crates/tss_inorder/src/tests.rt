@@ -6,6 +6,7 @@ mod events;
 mod exits;
 mod many;
 mod refusals;
+mod restarts;
 mod traps;
 
 use crate::run_in_order;

@@ -1,9 +1,10 @@
 -- Bytes with others in place of a part: the byte at each place, and how many there are.
-use Rattle.std.proofs.Common.{◌≡◌, ℕ, zero, suc, ◌+◌, ◌-◌, ◌<◌, ◌≤◌, List, ◌∷◌, ◌++◌, length, replicate, take, drop, get_or, refl, sym, ap, ◌∙◌, arith, length-append, length-drop}
-use Rattle.std.proofs.lemmas.List.{length-take-le, length-replicate, get_or-take, get_or-drop, get_or_append_left, get_or-append_right}
+use Rattle.std.proofs.Common.{◌≡◌, ℕ, zero, suc, ◌+◌, ◌-◌, ◌<◌, ◌≤◌, List, [], ◌∷◌, ◌++◌, length, replicate, take, drop, get_or, refl, sym, ap, ◌∙◌, arith, length-append, length-drop}
+use Rattle.std.specs.Prelude.{slice_set}
+use Rattle.std.proofs.lemmas.List.{take-append-drop, length-take-le, length-replicate, get_or-take, get_or-drop, get_or_append_left, get_or-append_right}
 use Rattle.std.specs.Int.{byte_at, bytes_low_first, to_le_bytes, w32}
 use Rattle.tss_base.specs.declared.range.Range.{Range}
-use Rattle.tss_model.specs.Memory.{Memory, put_bytes, zeroed, zeros}
+use Rattle.tss_model.specs.Memory.{Memory, list_put, put_bytes, zeroed, zeros}
 use Rattle.tss_model.specs.Core.{low_bytes}
 use Rattle.tss_memory.specs.Blocks.{with_part, part_of}
 
@@ -41,6 +42,31 @@ module _ (xs : List ℕ) (at : ℕ) (ys : List ℕ) (within : at + length ys ≤
       ∙ get_or-append_right ys (drop (at + length ys) xs) (length ys) (k - at) d refl (omega arith)
       ∙ get_or-drop (at + length ys) xs (k - at - length ys) d
       ∙ ap (λ n. get_or xs n d) place
+
+-- an element set at the end of the first ones
+set_taken : (xs ys : List ℕ) (at b : ℕ) → at < length xs → slice_set (take (suc at) xs ++ ys) at b ≡ take at xs ++ b ∷ ys
+set_taken [] ys at b h = absurd (omega arith)
+set_taken (x ∷ xs) ys zero b h = refl
+set_taken (x ∷ xs) ys (suc at) b h = ap (λ zs. x ∷ zs) (set_taken xs ys at b (omega arith))
+
+-- bytes that are put from a place on are that part
+pub list_put-with_part : (ys xs : List ℕ) (at : ℕ) → at + length ys ≤ length xs → list_put xs at ys ≡ with_part xs at ys
+list_put-with_part [] xs at h =
+    let none : at + 0 ≡ at = omega arith in
+    sym (ap (λ n. take at xs ++ drop n xs) none ∙ take-append-drop at xs)
+list_put-with_part (b ∷ bs) xs at h =
+    let behind : suc at + length bs ≡ at + suc (length bs) = omega arith in
+    ap (λ zs. slice_set zs at b) (list_put-with_part bs xs (suc at) (omega arith))
+    ∙ set_taken xs (bs ++ drop (suc at + length bs) xs) at b (omega arith)
+    ∙ ap (λ n. take at xs ++ b ∷ (bs ++ drop n xs)) behind
+
+-- a number has as many low bytes as are asked for
+length-bytes_low_first : (i n v : ℕ) → length (bytes_low_first i n v) ≡ n
+length-bytes_low_first i zero v = refl
+length-bytes_low_first i (suc n) v = ap suc (length-bytes_low_first (suc i) n v)
+
+pub length-low_bytes : (n v : ℕ) → length (low_bytes n v) ≡ n
+length-low_bytes n v = length-bytes_low_first 0 n v
 
 -- a part is as long as it says
 pub length-part_of : (xs : List ℕ) (at n : ℕ) → at + n ≤ length xs → length (part_of xs at n) ≡ n

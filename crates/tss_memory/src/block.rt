@@ -2,12 +2,14 @@
 ghost use Rattle.std.specs.Prelude.{◌≡◌, ◌<◌, ◌≤◌, ◌-◌, IfOk, IsTrue, length};
 ghost use Rattle.tss_base.specs.Range.{contains};
 ghost use Rattle.tss_model.specs.Memory.{zeros};
+ghost use Rattle.tss_model.specs.Core.{low_bytes};
 ghost use Rattle.tss_memory.specs.Blocks.{AreBlocks, block_end, block_of, blocks_in, block_part, block_range, put_block, stack_block};
 
 use std::alloc::{AllocError, Global};
 use std::marker::Model;
 use tss_base::addresses::STACK;
 use tss_base::{Image, Range, Segment};
+use tss_numbers::put;
 
 /// The bytes of a range of memory, and whether they can be written.
 #[derive(Drop, Debug)]
@@ -106,6 +108,17 @@ impl Block {
     {
         let first = (at - self.base) as usize;
         self.bytes[first..first + from.len()].copy_from_slice(from);
+    }
+
+    /// Puts the low bytes of a number in a range in it, the lowest first.
+    #[inline(always)]
+    pub(crate) fn put_number(&mut self, r: &Range, value: u32)
+        requires inside { IsTrue (contains (block_range self.old) r.now) }
+        requires width { r.now.len ≤ 4 }
+        ensures { self.new ≡ put_block self.old r.now.base (low_bytes r.now.len value) }
+    {
+        let first = (r.base - self.base) as usize;
+        put(self.bytes.as_mut_slice(), first, r.len, value);
     }
 
     /// Puts zeros in a range in it.

@@ -99,6 +99,5 @@ pub(crate) fn put_number_in(blocks: &mut [Block], i: usize, r: &Range, value: u3
     ensures { memory_of blocks.new
         ≡ put_bytes (memory_of blocks.old) r.now.base (low_bytes r.now.len value) }
 {
-    let bytes = value.to_le_bytes();
-    put_in(blocks, i, r.base, &bytes[..r.len as usize]);
+    blocks[i].put_number(r, value);
 }

@@ -5,6 +5,7 @@ ghost use Rattle.tss_conditions.specs.Reached.{Reached};
 
 mod pieces;
 mod rows;
+mod traps;
 
 use crate::write_state;
 use std::alloc::Global;
@@ -73,6 +74,24 @@ fn write(out: &mut MemSink, p: &Pipeline, image: &Image) -> Result<(), Failed>
     write_state(out, p, image)
 }
 
+/// Writes the state after so many events of a log, and answers whether all of it was written.
+fn write_after(
+    rt: &impl Abort,
+    alloc: Global,
+    bytes: &[u8],
+    changes: &[(Key, &str)],
+    log: &str,
+    count: usize,
+    out: &mut MemSink,
+) -> Result<bool, Fail> {
+    let machine = machine(alloc, changes)?;
+    let image = read_image(alloc, bytes)?;
+    let p = after(rt, alloc, &image, &machine, log, count)?;
+    let written = write(out, &p, &image);
+    p.close();
+    Ok(written.is_ok())
+}
+
 /// Checks the text of the state after so many events of a log.
 fn expect(
     rt: &impl Abort,
@@ -83,13 +102,9 @@ fn expect(
     count: usize,
     text: &str,
 ) -> Result<(), Fail> {
-    let machine = machine(alloc, changes)?;
-    let image = read_image(alloc, bytes)?;
     let mut out = MemSink::new(alloc, 16384)?;
-    let p = after(rt, alloc, &image, &machine, log, count)?;
-    let written = write(&mut out, &p, &image);
-    p.close();
-    assert!(rt; written.is_ok());
+    let whole = write_after(rt, alloc, bytes, changes, log, count, &mut out)?;
+    assert!(rt; whole);
     assert!(rt; out.bytes() == text.as_bytes());
     Ok(())
 }

@@ -1,5 +1,5 @@
 -- One step of main by what its core does.
-use Rattle.std.proofs.Common.{◌≡◌, ℕ, suc, true, false, List, nat_le, Option, Some, None, refl, sym, ap, subst, ◌∙◌}
+use Rattle.std.proofs.Common.{◌≡◌, ℕ, suc, Bool, true, false, List, nat_le, Option, Some, None, refl, sym, ap, subst, ◌∙◌}
 use Rattle.std.proofs.lemmas.Bool.{cond-true, cond-false}
 use Rattle.tss_base.specs.declared.range.Range.{Range}
 use Rattle.tss_base.specs.declared.ending.Ending.{Ending}
@@ -15,9 +15,19 @@ use Rattle.tss_model.specs.TaskRun.{repeated}
 use Rattle.tss_model.specs.MainStep.{Piece, Flat, flat_written, main_refused, main_on, main_core, main_step}
 use Rattle.tss_core.specs.declared.stepping.Outcome.{Outcome}
 use Rattle.tss_core.specs.Steps.{outcome_of, registers_after, write_of}
-use Rattle.tss_steps.specs.Mains.{flat_now, main_turn_after, MainTurns}
-use Rattle.tss_steps.specs.declared.mains.MainTurn.{MainTurn}
+use Rattle.tss_core.specs.declared.stepping.Stop.{Stop}
+use Rattle.tss_core.specs.declared.stepping.Stop.TheVariants as stop
+use Rattle.tss_core.specs.Steps.{outcome_by}
+use Rattle.tss_steps.specs.Mains.{flat_now, main_turn, main_turn_after, ending_of, MainTurn, MainTurns}
 use Rattle.tss_steps.proofs.StepLemmas.{repeated-still, repeated-reached}
+
+-- a step that executes an instruction, or none
+pub turn_by : (r : Registers) (done : Bool) (s : Stop) → main_turn_after r (outcome_by done s) ≡ main_turn done (ending_of r s)
+turn_by r true s = refl
+turn_by r false stop.Call = refl
+turn_by r false stop.Ended = refl
+turn_by r false (stop.Trapped t) = refl
+turn_by r false stop.Touched = refl
 
 module _ (code : List SegmentState) (limits : Limits) where
   -- main that has ended stays as it is

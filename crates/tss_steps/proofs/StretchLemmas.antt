@@ -13,13 +13,11 @@ use Rattle.tss_model.specs.TaskRun.{TaskState, repeated}
 use Rattle.tss_model.specs.MainStep.{Flat, main_step, main_stretch}
 use Rattle.tss_operands.specs.Naming.{EpochState}
 use Rattle.tss_steps.specs.Seen.{Terms}
+use Rattle.tss_steps.specs.Tasks as turn
 use Rattle.tss_steps.specs.Tasks.{task_now, step_by, stretch_by, Turns, LeftOfTask}
-use Rattle.tss_steps.specs.Mains.{StepsMain, StretchesMain, LeftOfMain}
+use Rattle.tss_steps.specs.Mains.{MainTurn, Further, Rests, StepsMain, StretchesMain, LeftOfMain}
 use Rattle.tss_steps.specs.Left.{IsSameMain}
-use Rattle.tss_steps.specs.declared.tasks.Turn.TheVariants as turn
 use Rattle.tss_steps.specs.declared.mains.MainView.{MainView}
-use Rattle.tss_steps.specs.declared.mains.MainTurn.{MainTurn}
-use Rattle.tss_steps.specs.declared.mains.MainTurn.TheVariants.{Further, Rests}
 use Rattle.tss_steps.proofs.StepLemmas.{repeated-suc, repeated-still}
 
 -- no step leaves all as it is

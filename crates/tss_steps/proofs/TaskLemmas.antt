@@ -1,5 +1,5 @@
 -- One step of a task by what its core does, over whatever its machine shows it.
-use Rattle.std.proofs.Common.{◌≡◌, ℕ, suc, true, false, List, nat_le, Option, Some, None, refl, sym, ap, subst, ◌∙◌}
+use Rattle.std.proofs.Common.{◌≡◌, ℕ, suc, Bool, true, false, List, nat_le, Option, Some, None, refl, sym, ap, subst, ◌∙◌}
 use Rattle.std.specs.Prelude.{◌==◌, ◌-◌, cond}
 use Rattle.std.proofs.lemmas.Bool.{cond-true, cond-false}
 use Rattle.tss_model.specs.Memory.{scratch_range, covers, list_put, code_word}
@@ -10,10 +10,19 @@ use Rattle.tss_model.specs.TaskRun.{TaskState, repeated, is_over, task_step, tas
 use Rattle.tss_core.specs.declared.stepping.Outcome.{Outcome}
 use Rattle.tss_core.specs.Steps.{outcome_of, registers_after, write_of}
 use Rattle.tss_steps.specs.Seen.{Terms, scratch_after, beyond_after}
-use Rattle.tss_steps.specs.Tasks.{task_now, step_by, turn_after, Turns}
-use Rattle.tss_steps.specs.declared.tasks.Turn.{Turn}
-use Rattle.tss_steps.specs.declared.tasks.Turn.TheVariants.{Over}
+use Rattle.tss_core.specs.declared.stepping.Stop.{Stop}
+use Rattle.tss_core.specs.declared.stepping.Stop.TheVariants as stop
+use Rattle.tss_core.specs.Steps.{outcome_by}
+use Rattle.tss_steps.specs.Tasks.{task_now, step_by, turn, turn_after, trap_by, Turn, Over, Turns}
 use Rattle.tss_steps.proofs.StepLemmas.{repeated-still, repeated-reached}
+
+-- a step that executes an instruction, or none
+pub turn_by : (r : Registers) (done : Bool) (s : Stop) → turn_after r (outcome_by done s) ≡ turn done (trap_by r s)
+turn_by r true s = refl
+turn_by r false stop.Call = refl
+turn_by r false stop.Ended = refl
+turn_by r false (stop.Trapped t) = refl
+turn_by r false stop.Touched = refl
 
 module _ {M : Type 0} (t : Terms M) (budget : ℕ) where
   -- a task that is over stays as it is

@@ -1,5 +1,5 @@
 -- Main that goes on: its steps over its registers and memory, whatever it has spawned, named and printed.
-use Rattle.std.specs.Prelude.{◌≡◌, ℕ, suc, List, Option, Some, None}
+use Rattle.std.specs.Prelude.{◌≡◌, ℕ, suc, Bool, true, false, List, Option, Some, None}
 use Rattle.tss_base.specs.declared.range.Range.{Range}
 use Rattle.tss_base.specs.declared.ending.Ending.{Ending}
 use Rattle.tss_base.specs.declared.ending.Ending.TheVariants.{MainTrap, Refused}
@@ -13,8 +13,18 @@ use Rattle.tss_model.specs.TaskRun.{repeated}
 use Rattle.tss_base.specs.declared.machine.Limits.{Limits}
 use Rattle.tss_core.specs.declared.stepping.Outcome.{Outcome}
 use Rattle.tss_core.specs.declared.stepping.Outcome.TheVariants.{Next, Call, Ended, Trapped, Touched}
-use Rattle.tss_steps.specs.declared.mains.MainTurn.{MainTurn}
-use Rattle.tss_steps.specs.declared.mains.MainTurn.TheVariants.{Further, Rests}
+use Rattle.tss_core.specs.declared.stepping.Stop.{Stop}
+use Rattle.tss_core.specs.declared.stepping.Stop.TheVariants as stop
+
+-- what a step of main comes to: main goes on, or rests, at a call or with its ending
+pub data MainTurn : Type 0 where
+  Further : MainTurn
+  Rests : Option Ending → MainTurn
+
+-- in two parts: whether it goes on, and the ending where it has one
+abbrev pub main_turn : Bool → Option Ending → MainTurn
+main_turn true ending = Further
+main_turn false ending = Rests ending
 
 -- main as it stands, with its memory
 abbrev pub flat_now : Registers → ℕ → List Range → List Piece → Option Ending → Memory → Flat
@@ -30,6 +40,13 @@ main_turn_after r Call = Rests None
 main_turn_after r Ended = Rests (Some (MainTrap (trap_of r FETCH_OUTSIDE r.pc)))
 main_turn_after r (Trapped t) = Rests (Some (MainTrap t))
 main_turn_after r Touched = Rests (Some (Refused MAIN_TOUCH r.pc))
+
+-- the ending where a core's step executes no instruction
+abbrev pub ending_of : Registers → Stop → Option Ending
+ending_of r stop.Call = None
+ending_of r stop.Ended = Some (MainTrap (trap_of r FETCH_OUTSIDE r.pc))
+ending_of r (stop.Trapped t) = Some (MainTrap t)
+ending_of r stop.Touched = Some (Refused MAIN_TOUCH r.pc)
 
 -- a step has led from one flat machine to others: where it rests it stays so however many steps are taken
 abbrev pub MainTurns : (Flat → Flat) → Flat → (Option Ending → Flat) → MainTurn → Type 0

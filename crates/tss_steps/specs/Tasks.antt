@@ -1,5 +1,5 @@
 -- A task that runs over what its machine shows it.
-use Rattle.std.specs.Prelude.{◌≡◌, ℕ, suc, List, Option, Some, None}
+use Rattle.std.specs.Prelude.{◌≡◌, ℕ, suc, Bool, true, false, List, Option, Some, None}
 use Rattle.tss_base.specs.declared.ending.Trap.{Trap}
 use Rattle.tss_model.specs.Core.{Write}
 use Rattle.tss_model.specs.Registers.{Registers, register_at, trap_of}
@@ -7,9 +7,19 @@ use Rattle.tss_base.specs.declared.causes.TheConstants.{CALL_IN_TASK}
 use Rattle.tss_model.specs.TaskRun.{TaskState, repeated, task_step, task_stretch}
 use Rattle.tss_core.specs.declared.stepping.Outcome.{Outcome}
 use Rattle.tss_core.specs.declared.stepping.Outcome.TheVariants.{Next, Call, Ended, Trapped, Touched}
+use Rattle.tss_core.specs.declared.stepping.Stop.{Stop}
+use Rattle.tss_core.specs.declared.stepping.Stop.TheVariants as stop
 use Rattle.tss_steps.specs.Seen.{Terms, scratch_after, beyond_after}
-use Rattle.tss_steps.specs.declared.tasks.Turn.{Turn}
-use Rattle.tss_steps.specs.declared.tasks.Turn.TheVariants.{Further, Over}
+
+-- what a step of a task comes to: the task goes on, or is over, with its trap where it has trapped
+pub data Turn : Type 0 where
+  Further : Turn
+  Over : Option Trap → Turn
+
+-- in two parts: whether it goes on, and the trap where it has one
+abbrev pub turn : Bool → Option Trap → Turn
+turn true trap = Further
+turn false trap = Over trap
 
 -- a task as it stands
 abbrev pub task_now : {M : Type 0} → Registers → List ℕ → M → Option Trap → TaskState M
@@ -29,6 +39,13 @@ turn_after r Call = Over (Some (trap_of r CALL_IN_TASK (register_at r 17)))
 turn_after r Ended = Over None
 turn_after r (Trapped t) = Over (Some t)
 turn_after r Touched = Over None
+
+-- the trap where a core's step executes no instruction
+abbrev pub trap_by : Registers → Stop → Option Trap
+trap_by r stop.Call = Some (trap_of r CALL_IN_TASK (register_at r 17))
+trap_by r stop.Ended = None
+trap_by r (stop.Trapped t) = Some t
+trap_by r stop.Touched = None
 
 -- a step has led from one state to another, where a task that is over stays as it is however many steps are taken
 abbrev pub Turns : {M : Type 0} → (TaskState M → TaskState M) → TaskState M → Registers → List ℕ → M → Turn → Type 0

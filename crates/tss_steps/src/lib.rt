@@ -18,4 +18,4 @@ pub use main_state::Main;
 pub use placing::task_place;
 pub use printed::Printed;
 pub use scratch::Scratch;
-pub use tasks::{TaskView, Turn, step_task, stretch_task};
+pub use tasks::{TaskView, stretch_task};

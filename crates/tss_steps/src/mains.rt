@@ -6,7 +6,7 @@ ghost use Rattle.tss_model.specs.Access.{Actor};
 ghost use Rattle.tss_model.specs.Core.{core_step};
 ghost use Rattle.tss_model.specs.MainStep.{call_of, called_by};
 ghost use Rattle.tss_steps.specs.Left.{IsSameMain};
-ghost use Rattle.tss_steps.specs.Mains.{StepsMain, StretchesMain, main_turn_after};
+ghost use Rattle.tss_steps.specs.Mains.{StepsMain, StretchesMain, ending_of, main_turn};
 
 use crate::placing::main_place;
 use crate::tasks::trap_of;
@@ -14,7 +14,7 @@ use tss_base::addresses::END_PC;
 use tss_base::causes::FETCH_OUTSIDE;
 use tss_base::refusals::{MAIN_BUDGET_SPENT, MAIN_TOUCH};
 use tss_base::{Ending, Limits, Range};
-use tss_core::{Deny, Outcome, Purpose, Regs, View, step};
+use tss_core::{Deny, Purpose, Regs, Stop, View, advance};
 use tss_isa::{Instr, decode};
 use tss_memory::{Code, Space};
 use tss_operands::Epoch;
@@ -74,25 +74,29 @@ impl View for MainView<'_> {
     }
 }
 
-/// What a step of main comes to: main goes on, or rests, at a call or with its ending.
-#[derive(Clone, Copy, Debug, PartialEq, Eq)]
-pub(crate) enum MainTurn {
-    Further,
-    Rests(Option<Ending>),
-}
-
-/// One step of main that hasn't ended.
+/// One step of main that hasn't ended. Whether main goes on; where it rests, at a call or with its ending, that is put.
+/// Why the core executed no instruction is left in `stop`.
 #[inline(always)]
-pub(crate) fn step_main(regs: &mut Regs, view: &mut MainView, limits: &Limits) -> MainTurn
+pub(crate) fn step_main(
+    regs: &mut Regs,
+    view: &mut MainView,
+    limits: &Limits,
+    stop: &mut Stop,
+    ending: &mut Option<Ending>,
+) -> bool
     ensures exact { StepsMain view.old.code.now limits.now view.old.epoch.now.objects regs.old view.old.space.now
-        regs.new view.new.space.now result }
+        regs.new view.new.space.now (main_turn result ending.new) }
     ensures same { IsSameMain view.old view.new }
 {
     if regs.done() >= limits.main_budget {
-        return MainTurn::Rests(Some(Ending::Refused(MAIN_BUDGET_SPENT, regs.pc())));
+        *ending = Some(Ending::Refused(MAIN_BUDGET_SPENT, regs.pc()));
+        return false;
     }
-    let outcome = step(regs, view);
-    main_turn_after(regs, outcome)
+    if advance(regs, view, stop) {
+        return true;
+    }
+    *ending = ending_of(regs, *stop);
+    false
 }
 
 /// A stretch of at most `most` steps of main that hasn't ended, fewer where it ends before or its next step is a call.
@@ -107,32 +111,29 @@ pub(crate) fn stretch_main(
         regs.new view.new.space.now result }
     ensures same { IsSameMain view.old view.new }
 {
+    let mut stop = Stop::Ended;
+    let mut ending = None;
     let mut left = most;
     while left > 0 {
         left -= 1;
-        match step_main(regs, view, limits) {
-            MainTurn::Further => {}
-            MainTurn::Rests(ending) => return ending,
+        if !step_main(regs, view, limits, &mut stop, &mut ending) {
+            return ending;
         }
     }
     None
 }
 
-/// What a core's step comes to, by the registers that it leaves. There is no word where a task ends.
+/// The ending of main where a core's step executes no instruction, by the registers then. There is no word where a task
+/// ends, and a call is no ending.
 #[inline(always)]
-fn main_turn_after(regs: &Regs, outcome: Outcome) -> MainTurn
-    ensures { result ≡ main_turn_after regs.now outcome }
+fn ending_of(regs: &Regs, stop: Stop) -> Option<Ending>
+    ensures { result ≡ ending_of regs.now stop }
 {
-    match outcome {
-        Outcome::Next => MainTurn::Further,
-        Outcome::Call => MainTurn::Rests(None),
-        Outcome::Ended => MainTurn::Rests(Some(Ending::MainTrap(trap_of(
-            regs,
-            FETCH_OUTSIDE,
-            regs.pc(),
-        )))),
-        Outcome::Trapped(trap) => MainTurn::Rests(Some(Ending::MainTrap(trap))),
-        Outcome::Touched => MainTurn::Rests(Some(Ending::Refused(MAIN_TOUCH, regs.pc()))),
+    match stop {
+        Stop::Call => None,
+        Stop::Ended => Some(Ending::MainTrap(trap_of(regs, FETCH_OUTSIDE, regs.pc()))),
+        Stop::Trapped(trap) => Some(Ending::MainTrap(trap)),
+        Stop::Touched => Some(Ending::Refused(MAIN_TOUCH, regs.pc())),
     }
 }
 

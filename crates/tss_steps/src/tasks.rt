@@ -3,12 +3,12 @@ ghost use Rattle.std.specs.Prelude.{◌≡◌, ◌<◌, ◌-◌, ◌^◌, List, 
 ghost use Rattle.tss_model.specs.Core.{Write};
 ghost use Rattle.tss_model.specs.Registers.{trap_of};
 ghost use Rattle.tss_steps.specs.Seen.{Terms, task_sight};
-ghost use Rattle.tss_steps.specs.Tasks.{IsLeft, Turns, step_by, stretch_by, task_now, turn_after};
+ghost use Rattle.tss_steps.specs.Tasks.{IsLeft, Turns, step_by, stretch_by, task_now, trap_by, turn};
 
 use tss_base::Trap;
 use tss_base::addresses::END_PC;
 use tss_base::causes::{BUDGET_SPENT, CALL_IN_TASK};
-use tss_core::{Outcome, Regs, View, step};
+use tss_core::{Regs, Stop, View, advance};
 
 /// What a task sees: its scratch, and beyond it what its machine shows of memory.
 pub trait TaskView: View {
@@ -35,29 +35,34 @@ pub trait TaskView: View {
     ghost kept: { (u v w : Self) (x : Option Write) → Self.Leaves v x w → Keeps u v → Keeps u w };
 }
 
-/// What a step of a task comes to: the task goes on, or is over, with its trap where it has trapped.
-#[derive(Clone, Copy, Debug, PartialEq, Eq)]
-pub enum Turn {
-    Further,
-    Over(Option<Trap>),
-}
-
-/// One step of a task that hasn't trapped.
+/// One step of a task that hasn't trapped. Whether the task goes on; where it is over, its trap is put, or none. Why the
+/// core executed no instruction is left in `stop`.
 #[inline(always)]
-pub fn step_task<V: TaskView>(regs: &mut Regs, view: &mut V, budget: u64) -> Turn
+pub(crate) fn step_task<V: TaskView>(
+    regs: &mut Regs,
+    view: &mut V,
+    budget: u64,
+    stop: &mut Stop,
+    trap: &mut Option<Trap>,
+) -> bool
     ensures exact { Turns (step_by (V.terms view.old) budget) (task_now regs.old (V.scratch view.old) (V.beyond view.old) None)
-        regs.new (V.scratch view.new) (V.beyond view.new) result }
+        regs.new (V.scratch view.new) (V.beyond view.new) (turn result trap.new) }
     ensures terms { V.terms view.new ≡ V.terms view.old }
     ensures keeps { (first : V) → V.Keeps first view.old → V.Keeps first view.new }
 {
     if regs.pc() == END_PC {
-        return Turn::Over(None);
+        *trap = None;
+        return false;
     }
     if regs.done() >= budget {
-        return Turn::Over(Some(trap_of(regs, BUDGET_SPENT, 0)));
+        *trap = Some(trap_of(regs, BUDGET_SPENT, 0));
+        return false;
     }
-    let outcome = step(regs, view);
-    turn_after(regs, outcome)
+    if advance(regs, view, stop) {
+        return true;
+    }
+    *trap = trap_by(regs, *stop);
+    false
 }
 
 /// A stretch of at most `most` steps of a task that hasn't trapped, fewer where the task is over before. Its trap where
@@ -73,28 +78,28 @@ pub fn stretch_task<V: TaskView>(
     ensures terms { V.terms view.new ≡ V.terms view.old }
     ensures keeps { (first : V) → V.Keeps first view.old → V.Keeps first view.new }
 {
+    let mut stop = Stop::Ended;
+    let mut trap = None;
     let mut left = most;
     while left > 0 {
         left -= 1;
-        match step_task(regs, view, budget) {
-            Turn::Further => {}
-            Turn::Over(trap) => return trap,
+        if !step_task(regs, view, budget, &mut stop, &mut trap) {
+            return trap;
         }
     }
     None
 }
 
-/// What a core's step comes to, by the registers that it leaves. No access of a task touches a named object, and a task
-/// that has ended takes no step.
+/// The trap of a task where a core's step executes no instruction, by the registers then. No access of a task touches a
+/// named object, and a task that has ended takes no step.
 #[inline(always)]
-fn turn_after(regs: &Regs, outcome: Outcome) -> Turn
-    ensures { result ≡ turn_after regs.now outcome }
+fn trap_by(regs: &Regs, stop: Stop) -> Option<Trap>
+    ensures { result ≡ trap_by regs.now stop }
 {
-    match outcome {
-        Outcome::Next => Turn::Further,
-        Outcome::Call => Turn::Over(Some(trap_of(regs, CALL_IN_TASK, regs.get(17)))),
-        Outcome::Trapped(trap) => Turn::Over(Some(trap)),
-        Outcome::Ended | Outcome::Touched => Turn::Over(None),
+    match stop {
+        Stop::Call => Some(trap_of(regs, CALL_IN_TASK, regs.get(17))),
+        Stop::Trapped(trap) => Some(trap),
+        Stop::Ended | Stop::Touched => None,
     }
 }
 

@@ -1,4 +1,8 @@
 // The queue round the end of its ring, and each call that takes memory.
+mod checking;
+mod tasks;
+mod unit;
+
 use crate::{ReadyQueue, Workers};
 use std::test::Fail;
 use tss_base::Sizes;

@@ -1,11 +1,10 @@
 // What no clause says: the sizes of the pieces.
-use super::{after, machine, write};
+use super::write_after;
 use std::alloc::Global;
 use std::process::Abort;
 use std::test::Fail;
 use tss_asm::AsmFault;
 use tss_base::Key;
-use tss_elf::read_image;
 use tss_outside::MemSink;
 use tss_programs::Source;
 
@@ -19,15 +18,13 @@ fn page(alloc: Global) -> Result<Vec<u8>, AsmFault> {
 
 /// Checks whether the state can be written where one write fails, and how many bytes were put.
 fn puts(rt: &impl Abort, alloc: Global, failing: u32, whole: bool, len: usize) -> Result<(), Fail> {
-    let machine = machine(alloc, &[(Key::OutputBytes, "4096")])?;
     let bytes = page(alloc)?;
-    let image = read_image(alloc, &bytes)?;
+    let changes = [(Key::OutputBytes, "4096")];
+    let log = "main\nmain\nmain\nmain\n";
     let mut out = MemSink::new(alloc, 16384)?;
     out.fail_write(failing)?;
-    let p = after(rt, alloc, &image, &machine, "main\nmain\nmain\nmain\n", 4)?;
-    let written = write(&mut out, &p, &image);
-    p.close();
-    assert_eq!(rt; written.is_ok(), whole);
+    let written = write_after(rt, alloc, &bytes, &changes, log, 4, &mut out)?;
+    assert_eq!(rt; written, whole);
     assert_eq!(rt; out.bytes().len(), len);
     Ok(())
 }

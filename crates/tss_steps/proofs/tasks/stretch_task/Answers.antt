@@ -1,5 +1,6 @@
 -- The steps of a stretch of a task are those of the definition.
-use Rattle.std.proofs.Common.{refl, ◌∙◌, arith}
+use Rattle.std.proofs.Common.{Bool, None, refl, subst, ◌∙◌, arith}
+use Rattle.tss_steps.specs.Tasks.{Turns, step_by, task_now, turn}
 use Rattle.tss_steps.proofs.StretchLemmas.{task_further, task_over, task_stretched}
 use Rattle.tss_steps.proofs.tasks.stretch_task.Goals as goal
 
@@ -15,22 +16,29 @@ loop-left-preserved g c = record {
       c.args.budget c.loop-left.left c.args.most c.loop-left.regs c.args.regs.now (g.V.TaskView.scratch c.loop-left.view)
       (g.V.TaskView.scratch c.args.view.now) (g.V.TaskView.beyond c.loop-left.view) (g.V.TaskView.beyond c.args.view.now)
       c.loop-left.invariant.left (omega (arith, c.loop-left-test.true)) c.step_task.new.regs (g.V.TaskView.scratch c.step_task.new.view)
-      (g.V.TaskView.beyond c.step_task.new.view) c.in-Further.ensures.exact;
+      (g.V.TaskView.beyond c.step_task.new.view) (subst (λ (b : Bool). Turns (step_by (g.V.TaskView.terms c.loop-left.view) c.args.budget)
+      (task_now c.loop-left.regs (g.V.TaskView.scratch c.loop-left.view) (g.V.TaskView.beyond c.loop-left.view) None) c.step_task.new.regs
+      (g.V.TaskView.scratch c.step_task.new.view) (g.V.TaskView.beyond c.step_task.new.view) (turn b c.step_task.new.trap))
+      c.if-not-step_task.false c.step_task.ensures.exact);
 }
 
-pub returns-in-Over-clause-exact : goal.returns-in-Over-clause-exact
-returns-in-Over-clause-exact g c =
+pub returns-then-not-step_task-clause-exact : goal.returns-then-not-step_task-clause-exact
+returns-then-not-step_task-clause-exact g c =
     task_over (g.V.TaskView.terms c.args.view.now) (g.V.TaskView.terms c.loop-left.view) c.loop-left.invariant.terms
     c.args.budget c.loop-left.left c.args.most c.loop-left.regs c.args.regs.now (g.V.TaskView.scratch c.loop-left.view)
     (g.V.TaskView.scratch c.args.view.now) (g.V.TaskView.beyond c.loop-left.view) (g.V.TaskView.beyond c.args.view.now)
     c.loop-left.invariant.left (omega (arith, c.loop-left-test.true)) c.step_task.new.regs (g.V.TaskView.scratch c.step_task.new.view)
-    (g.V.TaskView.beyond c.step_task.new.view) c.in-Over.trap c.in-Over.ensures.exact
+    (g.V.TaskView.beyond c.step_task.new.view) c.step_task.new.trap
+    (subst (λ (b : Bool). Turns (step_by (g.V.TaskView.terms c.loop-left.view) c.args.budget)
+    (task_now c.loop-left.regs (g.V.TaskView.scratch c.loop-left.view) (g.V.TaskView.beyond c.loop-left.view) None) c.step_task.new.regs
+    (g.V.TaskView.scratch c.step_task.new.view) (g.V.TaskView.beyond c.step_task.new.view) (turn b c.step_task.new.trap))
+    c.if-not-step_task.true c.step_task.ensures.exact)
 
-pub returns-in-Over-clause-terms : goal.returns-in-Over-clause-terms
-returns-in-Over-clause-terms g c = c.step_task.ensures.terms ∙ c.loop-left.invariant.terms
+pub returns-then-not-step_task-clause-terms : goal.returns-then-not-step_task-clause-terms
+returns-then-not-step_task-clause-terms g c = c.step_task.ensures.terms ∙ c.loop-left.invariant.terms
 
-pub returns-in-Over-clause-keeps : goal.returns-in-Over-clause-keeps
-returns-in-Over-clause-keeps g c first k = c.step_task.ensures.keeps first (c.loop-left.invariant.keeps first k)
+pub returns-then-not-step_task-clause-keeps : goal.returns-then-not-step_task-clause-keeps
+returns-then-not-step_task-clause-keeps g c first k = c.step_task.ensures.keeps first (c.loop-left.invariant.keeps first k)
 
 pub returns-clause-exact : goal.returns-clause-exact
 returns-clause-exact g c =
