@@ -4,3 +4,7 @@ pub mod EnabledKinds
 pub mod FreeEvents
 pub mod FewEvents
 pub mod KeptKinds
+pub mod ListedKeys
+pub mod ListedNames
+pub mod WaitingLemmas
+pub mod ListedAfter

@@ -54,16 +54,15 @@ touches_decodes (event.Idle v) = true
 touches_decodes (event.Gone v) = true
 touches_decodes e = false
 
--- which opens and uses may: a decode, which sends one, and those that change versions
-abbrev pub touches_openings : Event → Bool
-touches_openings (event.Decode o) = true
-touches_openings e = (changes e).versions
+-- which retires may: an idle, which sends one, and those that change versions or copies
+abbrev pub touches_retires : Event → Bool
+touches_retires (event.Idle v) = true
+touches_retires e = (changes e).versions || (changes e).copies
 
 -- which messages of a kind may
 abbrev pub touches_letters : Kind → Event → Bool
 touches_letters kind.Decode e = touches_decodes e
-touches_letters kind.Open e = touches_openings e
-touches_letters kind.Use e = touches_openings e
+touches_letters kind.Retire e = touches_retires e
 touches_letters k e = (changes e).mail
 
 -- which events of a kind may happen

@@ -1,5 +1,5 @@
--- What is kept beside the units: how full each table is, and how many events may happen of the kinds that are tested one
--- by one, so that what an event leaves alone isn't counted anew.
+-- What is kept beside the units: how full each table is, and what may happen of the kinds whose events may have to wait,
+-- so that what an event leaves alone isn't counted or tested anew.
 use Rattle.std.specs.Prelude.{◌≡◌, ℕ, length}
 use Rattle.tss_base.specs.declared.counts.Counts.{Counts}
 use Rattle.tss_base.specs.declared.event.Event.{Event}
@@ -13,6 +13,7 @@ use Rattle.tss_pipeline.specs.Enabling.{enabled_of_kind}
 use Rattle.tss_pipeline.specs.State.{state_of}
 use Rattle.tss_pipeline.specs.Fit.{IsFit}
 use Rattle.tss_pipeline.specs.Does.{Does}
+use Rattle.tss_pipeline.specs.Listing.{AreListed}
 
 -- these are the counts of the units
 abbrev pub AreCounts : Units → Counts → Type 0
@@ -34,24 +35,25 @@ pub record WereEnabled (e : Event) (new : Units) (s : Source) (count : ℕ) : Ty
   pub does : Does e old new
   pub same : count ≡ count_enabled old s
 
--- these are the numbers of the kinds whose candidates are tested one by one
+-- these are the lists and numbers of the kinds whose events may have to wait
 pub record AreTested (u : Units) (t : Tested) : Type 0 where
   pub decodes : t.decodes ≡ count_enabled u (source.Letters kind.Decode)
-  pub opens : t.opens ≡ count_enabled u (source.Letters kind.Open)
-  pub uses : t.uses ≡ count_enabled u (source.Letters kind.Use)
+  pub opens : AreListed u kind.Open t.opens
+  pub uses : AreListed u kind.Use t.uses
   pub retires : t.retires ≡ count_enabled u (source.Letters kind.Retire)
   pub starts : t.starts ≡ count_enabled u source.Start
   pub execs : t.execs ≡ count_enabled u source.Exec
   pub finishes : t.finishes ≡ count_enabled u source.Finish
   pub copies : t.copies ≡ count_enabled u source.Copy
 
--- these were the numbers before an event
+-- these were so before an event
 pub record WereTested (e : Event) (new : Units) (t : Tested) : Type 0 where
   pub old : Units
+  pub fit : IsFit old
   pub does : Does e old new
   pub tested : AreTested old t
 
--- the units fit, and the numbers are theirs
+-- the units fit, and what is kept is theirs
 pub record IsKept (u : Units) (c : Counts) (t : Tested) : Type 0 where
   pub fit : IsFit u
   pub counts : AreCounts u c

@@ -14,4 +14,5 @@ pub mod Ending
 pub mod Unsetting
 pub mod Beginning
 pub mod Pieces
+pub mod Listing
 pub mod Keeping

@@ -133,8 +133,8 @@ impl Units {
         count
     }
 
-    /// The event at a place, from 0, of those of a kind that may happen.
-    fn enabled_in(&self, source: Source, place: u32) -> Option<Event>
+    /// The event at a place, from 0, of those of a kind that may happen, by a test of each.
+    pub(crate) fn enabled_in(&self, source: Source, place: u32) -> Option<Event>
         requires { IsFit self.now }
         ensures { result ≡ slice_get (enabled_of_kind self.now.machine (state_of self.now) source) place }
     {
@@ -181,7 +181,7 @@ impl Units {
             let source = SOURCES[kind];
             let count = self.count_of(kept, source);
             if left < count {
-                return self.enabled_in(source, left);
+                return self.event_in(kept, source, left);
             }
             left -= count;
         }

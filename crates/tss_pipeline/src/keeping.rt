@@ -1,24 +1,27 @@
-// How many events may happen of the kinds whose candidates are tested one by one, kept from event to event.
-ghost use Rattle.std.specs.Prelude.{◌≡◌, ◌||◌};
+// What may happen of the kinds whose events may have to wait, kept from event to event.
+ghost use Rattle.std.specs.Prelude.{◌≡◌, ◌||◌, IfOk, slice_get};
 ghost use Rattle.tss_locality.specs.Leaves.{changes};
 ghost use Rattle.tss_pipeline.specs.declared.enabling.Source.TheVariants as source;
-ghost use Rattle.tss_pipeline.specs.Enabling.{touches, touches_decodes, touches_letters, touches_openings};
+ghost use Rattle.tss_pipeline.specs.Enabling.{enabled_of_kind, touches, touches_decodes, touches_letters, touches_retires};
 ghost use Rattle.tss_pipeline.specs.Fit.{IsFit};
 ghost use Rattle.tss_pipeline.specs.Keeping.{AreTested, WereEnabled, WereTested, count_enabled};
+ghost use Rattle.tss_pipeline.specs.State.{state_of};
 
 use crate::enabling::Source;
+use crate::listing::Names;
 use crate::units::Units;
-use tss_base::Event;
+use std::alloc::Global;
+use tss_base::{Event, NoMemory};
 use tss_mail::Kind;
 
-/// How many events may happen of each kind whose candidates are tested one by one: messages that wait, a decode for its turn
-/// and for room in its bank, an open and a use for the version that they name, and a retire for its bank's copy engine; and
-/// the events of workers and of banks that copy.
-#[derive(Clone, Copy, Debug, PartialEq, Eq)]
+/// What may happen of the kinds whose events may have to wait. Of opens and uses, which wait for the version that they
+/// name, the names that may be taken; how many decodes, which wait for their turn and for room in their bank, and retires,
+/// which wait for their bank's copy engine; and how many events of workers and of banks that copy.
+#[derive(Drop)]
 pub(crate) struct Tested {
+    opens: Names,
+    uses: Names,
     decodes: u32,
-    opens: u32,
-    uses: u32,
     retires: u32,
     starts: u32,
     execs: u32,
@@ -144,19 +147,21 @@ fn touches_decodes(e: &Event) -> bool
     }
 }
 
-/// Whether an event may change which opens and uses may be taken.
-fn touches_openings(e: &Event) -> bool
-    ensures { result ≡ touches_openings e.now }
+/// Whether an event may change which retires may be taken.
+fn touches_retires(e: &Event) -> bool
+    ensures { result ≡ touches_retires e.now }
 {
     match e {
-        Event::Decode(_)
-        | Event::Open(_)
+        Event::Open(_)
         | Event::Use(_)
         | Event::Release(_)
+        | Event::Idle(_)
         | Event::Nack(_)
-        | Event::Retire(_) => true,
+        | Event::Retire(_)
+        | Event::Copy(_) => true,
         Event::Main
         | Event::Take
+        | Event::Decode(_)
         | Event::Ack(_)
         | Event::Ready(_)
         | Event::Link(_)
@@ -164,8 +169,6 @@ fn touches_openings(e: &Event) -> bool
         | Event::Exec(_)
         | Event::Finish(_)
         | Event::Bye(_)
-        | Event::Idle(_)
-        | Event::Copy(_)
         | Event::Gone(_) => false,
     }
 }
@@ -176,15 +179,16 @@ fn touches_letters(kind: Kind, e: &Event) -> bool
 {
     match kind {
         Kind::Decode => touches_decodes(e),
-        Kind::Open | Kind::Use => touches_openings(e),
+        Kind::Retire => touches_retires(e),
         Kind::Ack
+        | Kind::Open
+        | Kind::Use
         | Kind::Ready
         | Kind::Link
         | Kind::Release
         | Kind::Bye
         | Kind::Idle
         | Kind::Nack
-        | Kind::Retire
         | Kind::Gone => changes_mail(e),
     }
 }
@@ -211,8 +215,8 @@ impl Units {
     {
         match kind {
             Kind::Decode => kept.decodes,
-            Kind::Open => kept.opens,
-            Kind::Use => kept.uses,
+            Kind::Open => kept.opens.len(),
+            Kind::Use => kept.uses.len(),
             Kind::Retire => kept.retires,
             Kind::Ack
             | Kind::Ready
@@ -241,21 +245,66 @@ impl Units {
         }
     }
 
-    /// How many events may happen of each kind whose candidates are tested one by one.
-    pub(crate) fn tested(&self) -> Tested
-        requires { IsFit self.now }
-        ensures { AreTested self.now result }
+    /// The message of a kind at a place, from 0, of those that may be taken.
+    fn letter_in(&self, kept: &Tested, kind: Kind, place: u32) -> Option<Event>
+        requires fit { IsFit self.now }
+        requires kept { AreTested self.now kept.now }
+        ensures { result ≡ slice_get (enabled_of_kind self.now.machine (state_of self.now) (source.Letters kind)) place }
     {
-        Tested {
+        match kind {
+            Kind::Open => match kept.opens.key_at(place) {
+                Some(o) => Some(Event::Open(o)),
+                None => None,
+            },
+            Kind::Use => match kept.uses.key_at(place) {
+                Some(o) => Some(Event::Use(o)),
+                None => None,
+            },
+            Kind::Decode
+            | Kind::Ack
+            | Kind::Ready
+            | Kind::Link
+            | Kind::Release
+            | Kind::Bye
+            | Kind::Idle
+            | Kind::Nack
+            | Kind::Retire
+            | Kind::Gone => self.enabled_in(Source::Letters(kind), place),
+        }
+    }
+
+    /// The event at a place, from 0, of those of a kind that may happen.
+    pub(crate) fn event_in(&self, kept: &Tested, source: Source, place: u32) -> Option<Event>
+        requires fit { IsFit self.now }
+        requires kept { AreTested self.now kept.now }
+        ensures { result ≡ slice_get (enabled_of_kind self.now.machine (state_of self.now) source) place }
+    {
+        match source {
+            Source::Letters(kind) => self.letter_in(kept, kind, place),
+            Source::Main
+            | Source::Take
+            | Source::Start
+            | Source::Exec
+            | Source::Finish
+            | Source::Copy => self.enabled_in(source, place),
+        }
+    }
+
+    /// What may happen of the kinds whose events may have to wait.
+    pub(crate) fn tested(&self, alloc: Global) -> Result<Tested, NoMemory>
+        requires { IsFit self.now }
+        ensures { IfOk result (AreTested self.now) }
+    {
+        Ok(Tested {
+            opens: self.listed(alloc, Kind::Open)?,
+            uses: self.listed(alloc, Kind::Use)?,
             decodes: self.enabled_of(Source::Letters(Kind::Decode)),
-            opens: self.enabled_of(Source::Letters(Kind::Open)),
-            uses: self.enabled_of(Source::Letters(Kind::Use)),
             retires: self.enabled_of(Source::Letters(Kind::Retire)),
             starts: self.enabled_of(Source::Start),
             execs: self.enabled_of(Source::Exec),
             finishes: self.enabled_of(Source::Finish),
             copies: self.enabled_of(Source::Copy),
-        }
+        })
     }
 
     /// How many events of a kind may happen after an event, by how many might before it. Where the event leaves them alone,
@@ -272,21 +321,19 @@ impl Units {
         }
     }
 
-    /// The same of each kind whose candidates are tested one by one.
-    pub(crate) fn tested_after(&self, e: &Event, before: &Tested) -> Tested
+    /// Brings what may happen after an event up to date.
+    pub(crate) fn keep(&self, e: &Event, kept: &mut Tested)
         requires fit { IsFit self.now }
-        requires before { WereTested e.now self.now before.now }
-        ensures { AreTested self.now result }
+        requires before { WereTested e.now self.now kept.old }
+        ensures { AreTested self.now kept.new }
     {
-        Tested {
-            decodes: self.enabled_after(e, Source::Letters(Kind::Decode), before.decodes),
-            opens: self.enabled_after(e, Source::Letters(Kind::Open), before.opens),
-            uses: self.enabled_after(e, Source::Letters(Kind::Use), before.uses),
-            retires: self.enabled_after(e, Source::Letters(Kind::Retire), before.retires),
-            starts: self.enabled_after(e, Source::Start, before.starts),
-            execs: self.enabled_after(e, Source::Exec, before.execs),
-            finishes: self.enabled_after(e, Source::Finish, before.finishes),
-            copies: self.enabled_after(e, Source::Copy, before.copies),
-        }
+        self.list_after(e, Kind::Open, &mut kept.opens);
+        self.list_after(e, Kind::Use, &mut kept.uses);
+        kept.decodes = self.enabled_after(e, Source::Letters(Kind::Decode), kept.decodes);
+        kept.retires = self.enabled_after(e, Source::Letters(Kind::Retire), kept.retires);
+        kept.starts = self.enabled_after(e, Source::Start, kept.starts);
+        kept.execs = self.enabled_after(e, Source::Exec, kept.execs);
+        kept.finishes = self.enabled_after(e, Source::Finish, kept.finishes);
+        kept.copies = self.enabled_after(e, Source::Copy, kept.copies);
     }
 }

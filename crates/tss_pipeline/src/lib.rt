@@ -12,6 +12,7 @@ mod enabling;
 mod front;
 mod keeping;
 mod letters;
+mod listing;
 mod opening;
 mod pipeline;
 mod posting;

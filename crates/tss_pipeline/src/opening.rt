@@ -23,7 +23,7 @@ use tss_workers::{ReadyQueue, Workers};
 
 /// How many messages there may be under way: a decode or an ack for each operand of a window of tasks, two for each operand
 /// in a slot, and one for each place of versions.
-fn message_limit(machine: &Machine) -> u32
+pub(crate) fn message_limit(machine: &Machine) -> u32
     requires { IsAdmissible machine.now }
     ensures { result ≡ message_limit machine.now }
 {

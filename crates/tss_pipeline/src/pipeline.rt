@@ -47,7 +47,13 @@ impl Pipeline {
     {
         let units = Units::open(alloc, image, machine)?;
         let counts = units.counts();
-        let tested = units.tested();
+        let tested = match units.tested(alloc) {
+            Ok(tested) => tested,
+            Err(fault) => {
+                units.close();
+                return Err(fault);
+            }
+        };
         Ok(Pipeline {
             units,
             counts,
@@ -64,11 +70,11 @@ impl Pipeline {
         }
         self.units.event(e);
         self.counts = self.units.counts_after(&e, &self.counts);
-        self.tested = self.units.tested_after(&e, &self.tested);
+        self.units.keep(&e, &mut self.tested);
         Ok(())
     }
 
-    /// How many events may happen. Each kind's number is kept from event to event.
+    /// How many events may happen. What may happen is kept from event to event.
     pub fn enabled_count(&self) -> u32
         ensures { result ≡ length (enabled_events self.now.machine self.now.state) }
     {

@@ -5,21 +5,23 @@ use Rattle.std.specs.List.{range_with_len}
 use Rattle.std.specs.FinMap.{get, keys}
 use Rattle.tss_base.specs.declared.operand.OpName.{OpName}
 use Rattle.tss_base.specs.declared.operand.Operand.{Operand}
+use Rattle.tss_base.specs.declared.operand.Mode.{Mode}
+use Rattle.tss_base.specs.declared.operand.Mode.TheVariants.{Input, Output, Inout}
 use Rattle.tss_base.specs.declared.operand.Task.{Task}
 use Rattle.tss_base.specs.declared.machine.Machine.{Machine}
 use Rattle.tss_base.specs.declared.event.Event.{Event}
 use Rattle.tss_base.specs.declared.event.Event.TheVariants as event
 use Rattle.tss_locality.specs.Leaves.{changes}
 use Rattle.tss_locality.proofs.LeftFields.{Leaves-after_event, left_entries, left_places, left_buffers, left_versions, left_queue, left_workers, left_copies}
-use Rattle.tss_protocol.specs.Mail.{OpenContents}
-use Rattle.tss_protocol.specs.State.{State, Version}
-use Rattle.tss_protocol.specs.Renaming.{can_decode}
-use Rattle.tss_protocol.specs.Versions.{can_open, can_use}
+use Rattle.tss_protocol.specs.Names.{bank_of}
+use Rattle.tss_protocol.specs.Mail.{OpenContents, GoneContents, Mail, Ack, posted_all, taken}
+use Rattle.tss_protocol.specs.State.{State, Version, Entry}
+use Rattle.tss_protocol.specs.Renaming.{can_decode, sent_by_decode, live_message}
+use Rattle.tss_protocol.specs.Buffers.{can_retire_from}
 use Rattle.tss_protocol.specs.Workers.{can_start, can_exec, can_finish}
-use Rattle.tss_protocol.specs.MainEvent.{call_next}
 use Rattle.tss_protocol.proofs.FrontLemmas.{Front, KeepsFront, KeepsFront-after_event}
-use Rattle.tss_names.proofs.OpeningFrames.{all_from, KeepsOpenings, openings_main, openings_take, openings_ready, openings_link, openings_bye, openings_start, openings_exec, openings_finish, openings_idle, openings_copy, openings_gone}
-use Rattle.tss_protocol.specs.UnitMachine.{is_enabled, after_event, can_decode_message, can_open_message, can_use_message, can_retire}
+use Rattle.tss_protocol.specs.UnitMachine.{is_enabled, after_event, can_decode_message, can_open_message, can_use_message, can_retire, without, decode_message_taken, gone_message_taken}
+use Rattle.tss_control.proofs.rounds.EntriesQuiet.{quiet_objects}
 use Rattle.tss_mail.specs.declared.kind.Kind.{Kind}
 use Rattle.tss_mail.specs.declared.kind.Kind.TheVariants as kind
 use Rattle.tss_mail.specs.KindNames.{names_of_kind}
@@ -27,7 +29,7 @@ use Rattle.tss_pipeline.specs.declared.enabling.Source.{Source}
 use Rattle.tss_pipeline.specs.declared.enabling.Source.TheVariants as source
 use Rattle.tss_pipeline.specs.declared.units.Units.{Units}
 use Rattle.tss_pipeline.specs.State.{state_of}
-use Rattle.tss_pipeline.specs.Enabling.{enabled_of_kind, touches_decodes, touches_openings, touches_letters, touches}
+use Rattle.tss_pipeline.specs.Enabling.{enabled_of_kind, touches_decodes, touches_retires, touches_letters, touches}
 use Rattle.tss_pipeline.specs.Keeping.{count_enabled, WereEnabled}
 
 -- the same pass two tests that agree on what is listed
@@ -173,73 +175,86 @@ module _ (m : Machine) (S T : State) where
         (keys T.mail.decodes)
         ∙ ap (λ ds. filter (is_enabled m S) (map event.Decode (keys ds))) decodes
 
-  module _ (versions : T.versions ≡ S.versions) where
-    open_by : (x : Option OpenContents) → can_open_message T x ≡ can_open_message S x
-    open_by None = refl
-    open_by (Some x) = ap (λ vs. can_open vs x) versions
+  module _ (retires : T.mail.retires ≡ S.mail.retires) (versions : T.versions ≡ S.versions)
+      (copies : T.copies ≡ S.copies) where
+    retire_by : (x : Option Version) → can_retire m T x ≡ can_retire m S x
+    retire_by None = refl
+    retire_by (Some x) = ap (λ cs. can_retire_from x.storage (get cs (bank_of m.sizes x.object))) copies
 
-    use_by : (x : Option OpName) → can_use_message T x ≡ can_use_message S x
-    use_by None = refl
-    use_by (Some v) = ap (λ vs. can_use vs v) versions
+    retire_same : (v : OpName) → can_retire m T (get T.versions v) ≡ can_retire m S (get S.versions v)
+    retire_same v = ap (λ vs. can_retire m T (get vs v)) versions ∙ retire_by (get S.versions v)
 
-    opens_alike : T.mail.opens ≡ S.mail.opens
-        → enabled_of_kind m T (source.Letters kind.Open) ≡ enabled_of_kind m S (source.Letters kind.Open)
+    retires_alike : enabled_of_kind m T (source.Letters kind.Retire) ≡ enabled_of_kind m S (source.Letters kind.Retire)
     unfolding is_enabled
-    opens_alike opens =
-        filter_alike event.Open (is_enabled m T) (is_enabled m S)
-        (λ o. ap (λ os. can_open_message T (get os o)) opens ∙ open_by (get S.mail.opens o)) (keys T.mail.opens)
-        ∙ ap (λ os. filter (is_enabled m S) (map event.Open (keys os))) opens
+    retires_alike =
+        filter_alike event.Retire (is_enabled m T) (is_enabled m S)
+        (λ v i. is_some (get (retires i) v) && retire_same v i) (keys T.mail.retires)
+        ∙ ap (λ rs. filter (is_enabled m S) (map event.Retire (keys rs))) retires
 
-    uses_alike : T.mail.uses ≡ S.mail.uses
-        → enabled_of_kind m T (source.Letters kind.Use) ≡ enabled_of_kind m S (source.Letters kind.Use)
-    unfolding is_enabled
-    uses_alike uses =
-        filter_alike event.Use (is_enabled m T) (is_enabled m S)
-        (λ o. ap (λ us. can_use_message T (get us o)) uses ∙ use_by (get S.mail.uses o)) (keys T.mail.uses)
-        ∙ ap (λ us. filter (is_enabled m S) (map event.Use (keys us))) uses
+module _ (mail : Mail) (o : OpName) (p : Operand) where
+  -- a decode sends no retire
+  live_retires : (e : Entry) (mode : Mode) → (posted_all mail (live_message o p e mode ∷ Ack o ∷ [])).retires ≡ mail.retires
+  live_retires e Input = refl
+  live_retires e Output = refl
+  live_retires e Inout = refl
+
+  decode_retires : (e : Option Entry) → (posted_all mail (sent_by_decode o p e)).retires ≡ mail.retires
+  decode_retires None = refl
+  decode_retires (Some e) = live_retires e p.mode
 
 module _ (m : Machine) (S : State) where
-  -- an event that leaves opens and uses alone
-  openings_left : (e : Event) → touches_openings e ≡ false → KeepsOpenings S (after_event m S e)
-  unfolding after_event
-  openings_left event.Main left = openings_main m S (call_next m S)
-  openings_left event.Take left = openings_take m S S.inbox
-  openings_left (event.Decode o) left = absurd (not_both left)
-  openings_left (event.Ack o) left = record { opens = refl; uses = refl; versions = all_from S.versions }
-  openings_left (event.Open o) left = absurd (not_both left)
-  openings_left (event.Use o) left = absurd (not_both left)
-  openings_left (event.Ready o) left = openings_ready m S o (get S.mail.readies o)
-  openings_left (event.Link o) left = openings_link m S o (get S.mail.links o)
-  openings_left (event.Start w) left = openings_start m S w S.queue
-  openings_left (event.Exec w) left = openings_exec m S w (get S.workers w)
-  openings_left (event.Finish w) left = openings_finish m S w (get S.workers w)
-  openings_left (event.Release o) left = absurd (not_both left)
-  openings_left (event.Bye o) left = openings_bye m S o (get S.mail.byes o)
-  openings_left (event.Idle v) left = openings_idle m S v (get S.mail.idles v)
-  openings_left (event.Nack v) left = absurd (not_both left)
-  openings_left (event.Retire v) left = absurd (not_both left)
-  openings_left (event.Copy b) left = openings_copy m S b (get S.copies b)
-  openings_left (event.Gone v) left = openings_gone m S v (get S.mail.gones v)
+  decoded_retires : (o : OpName) (p : Option Operand)
+      → (decode_message_taken m (without S (event.Decode o)) o p).mail.retires ≡ S.mail.retires
+  decoded_retires o None = refl
+  decoded_retires o (Some p) = decode_retires (taken S.mail (event.Decode o)) o p (get S.entries p.object.base)
 
-  versions_left : (e : Event) → touches_openings e ≡ false → (changes e).versions ≡ false
-  versions_left event.Main left = refl
-  versions_left event.Take left = refl
-  versions_left (event.Decode o) left = refl
-  versions_left (event.Ack o) left = refl
-  versions_left (event.Open o) left = left
-  versions_left (event.Use o) left = left
-  versions_left (event.Ready o) left = refl
-  versions_left (event.Link o) left = refl
-  versions_left (event.Start w) left = refl
-  versions_left (event.Exec w) left = refl
-  versions_left (event.Finish w) left = refl
-  versions_left (event.Release o) left = left
-  versions_left (event.Bye o) left = refl
-  versions_left (event.Idle v) left = refl
-  versions_left (event.Nack v) left = left
-  versions_left (event.Retire v) left = left
-  versions_left (event.Copy b) left = refl
-  versions_left (event.Gone v) left = refl
+  gone_retires : (v : OpName) (g : Option GoneContents)
+      → (gone_message_taken (without S (event.Gone v)) v g).mail.retires ≡ S.mail.retires
+  gone_retires v None = refl
+  gone_retires v (Some g) = refl
+
+  -- an event that leaves retires alone
+  retires_left : (e : Event) → touches_retires e ≡ false → (after_event m S e).mail.retires ≡ S.mail.retires
+  unfolding after_event
+  retires_left event.Main left = λ j. (Leaves-after_event m S event.Main j).mail.retires
+  retires_left event.Take left = (quiet_objects m S event.Take tt).retires
+  retires_left (event.Decode o) left = decoded_retires o (get S.mail.decodes o)
+  retires_left (event.Ack o) left = (quiet_objects m S (event.Ack o) tt).retires
+  retires_left (event.Open o) left = absurd (not_both left)
+  retires_left (event.Use o) left = absurd (not_both left)
+  retires_left (event.Ready o) left = (quiet_objects m S (event.Ready o) tt).retires
+  retires_left (event.Link o) left = (quiet_objects m S (event.Link o) tt).retires
+  retires_left (event.Start w) left = (quiet_objects m S (event.Start w) tt).retires
+  retires_left (event.Exec w) left = (quiet_objects m S (event.Exec w) tt).retires
+  retires_left (event.Finish w) left = (quiet_objects m S (event.Finish w) tt).retires
+  retires_left (event.Release o) left = absurd (not_both left)
+  retires_left (event.Bye o) left = (quiet_objects m S (event.Bye o) tt).retires
+  retires_left (event.Idle v) left = absurd (not_both left)
+  retires_left (event.Nack v) left = absurd (not_both left)
+  retires_left (event.Retire v) left = absurd (not_both left)
+  retires_left (event.Copy b) left = absurd (not_both left)
+  retires_left (event.Gone v) left = gone_retires v (get S.mail.gones v)
+
+  retires_fields : (e : Event) → touches_retires e ≡ false
+      → ((changes e).versions ≡ false) × ((changes e).copies ≡ false)
+  retires_fields event.Main left = (refl, refl)
+  retires_fields event.Take left = (refl, refl)
+  retires_fields (event.Decode o) left = (refl, refl)
+  retires_fields (event.Ack o) left = (refl, refl)
+  retires_fields (event.Open o) left = absurd (not_both left)
+  retires_fields (event.Use o) left = absurd (not_both left)
+  retires_fields (event.Ready o) left = (refl, refl)
+  retires_fields (event.Link o) left = (refl, refl)
+  retires_fields (event.Start w) left = (refl, refl)
+  retires_fields (event.Exec w) left = (refl, refl)
+  retires_fields (event.Finish w) left = (refl, refl)
+  retires_fields (event.Release o) left = absurd (not_both left)
+  retires_fields (event.Bye o) left = (refl, refl)
+  retires_fields (event.Idle v) left = absurd (not_both left)
+  retires_fields (event.Nack v) left = absurd (not_both left)
+  retires_fields (event.Retire v) left = absurd (not_both left)
+  retires_fields (event.Copy b) left = absurd (not_both left)
+  retires_fields (event.Gone v) left = (refl, refl)
 
   front_decodes : (T : State) → KeepsFront S T → T.mail.decodes ≡ S.mail.decodes
   front_decodes T k = ap (λ (f : Front). f.decodes) k.front
@@ -303,17 +318,17 @@ module _ (m : Machine) (S : State) where
       → enabled_of_kind m (after_event m S e) (source.Letters k) ≡ enabled_of_kind m S (source.Letters k)
   kept_letters kind.Decode e left = kept_decodes e left
   kept_letters kind.Ack e left = letters_left m S e left kind.Ack
-  kept_letters kind.Open e left =
-      opens_alike m S (after_event m S e) (left_versions m S e (versions_left e left)) (openings_left e left).opens
-  kept_letters kind.Use e left =
-      uses_alike m S (after_event m S e) (left_versions m S e (versions_left e left)) (openings_left e left).uses
+  kept_letters kind.Open e left = letters_left m S e left kind.Open
+  kept_letters kind.Use e left = letters_left m S e left kind.Use
   kept_letters kind.Ready e left = letters_left m S e left kind.Ready
   kept_letters kind.Link e left = letters_left m S e left kind.Link
   kept_letters kind.Release e left = letters_left m S e left kind.Release
   kept_letters kind.Bye e left = letters_left m S e left kind.Bye
   kept_letters kind.Idle e left = letters_left m S e left kind.Idle
   kept_letters kind.Nack e left = letters_left m S e left kind.Nack
-  kept_letters kind.Retire e left = letters_left m S e left kind.Retire
+  kept_letters kind.Retire e left =
+      let t = retires_fields e left in
+      retires_alike m S (after_event m S e) (retires_left e left) (left_versions m S e t.0) (left_copies m S e t.1)
   kept_letters kind.Gone e left = letters_left m S e left kind.Gone
 
 module _ (m : Machine) (S T : State) where

@@ -13,7 +13,7 @@ loop-kind-init c = ap (λ (es : List Event). slice_get es c.args.i) (all_by_kind
 
 pub returns-then-left-count : goal.returns-then-left-count
 returns-then-left-count c =
-    c.enabled_in.ensures
+    c.event_in.ensures
     ∙ find_kind c.args.self.now.machine (state_of c.args.self.now) c.loop-kind.kind c.loop-kind.left c.args.i source.Main
     c.loop-kind-test.true c.loop-kind.invariant (subst (λ n. c.loop-kind.left < n) c.count_of-count.ensures c.if-left-count.true)
 
