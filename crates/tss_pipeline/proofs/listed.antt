@@ -4,6 +4,7 @@ pub mod EnabledKinds
 pub mod FreeEvents
 pub mod FewEvents
 pub mod KeptKinds
+pub mod KeptNumbers
 pub mod ListedKeys
 pub mod ListedNames
 pub mod WaitingLemmas

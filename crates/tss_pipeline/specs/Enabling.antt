@@ -46,13 +46,10 @@ is_free s = false
 
 -- ---- which events may change what may happen
 
--- which decodes may: those that send or take one, or change a bank's tables
+-- which decodes may: a take, which sends them, and those that change entries
 abbrev pub touches_decodes : Event → Bool
 touches_decodes event.Take = true
-touches_decodes (event.Decode o) = true
-touches_decodes (event.Idle v) = true
-touches_decodes (event.Gone v) = true
-touches_decodes e = false
+touches_decodes e = (changes e).entries
 
 -- which retires may: an idle, which sends one, and those that change versions or copies
 abbrev pub touches_retires : Event → Bool

@@ -9,6 +9,7 @@ pub mod Registering
 pub mod Does
 pub mod Opening
 pub mod Closing
+pub mod Changing
 pub mod Enabling
 pub mod Ending
 pub mod Unsetting

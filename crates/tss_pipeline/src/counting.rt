@@ -1,88 +1,12 @@
 // How full the tables are after an event, by how full they were.
 ghost use Rattle.std.specs.Prelude.{◌≡◌};
-ghost use Rattle.tss_locality.specs.Leaves.{changes};
 ghost use Rattle.tss_protocol.specs.Counts.{counts_of};
 ghost use Rattle.tss_pipeline.specs.Keeping.{WereCounts};
 ghost use Rattle.tss_pipeline.specs.State.{state_of};
 
+use crate::changing::changes;
 use crate::units::Units;
 use tss_base::{Counts, Event};
-
-/// Whether an event may change the tasks in flight.
-fn changes_flight(e: &Event) -> bool
-    ensures { result ≡ (changes e.now).flight }
-{
-    match e {
-        Event::Take
-        | Event::Ready(_)
-        | Event::Link(_)
-        | Event::Start(_)
-        | Event::Finish(_)
-        | Event::Bye(_) => true,
-        Event::Main
-        | Event::Decode(_)
-        | Event::Ack(_)
-        | Event::Open(_)
-        | Event::Use(_)
-        | Event::Exec(_)
-        | Event::Release(_)
-        | Event::Idle(_)
-        | Event::Nack(_)
-        | Event::Retire(_)
-        | Event::Copy(_)
-        | Event::Gone(_) => false,
-    }
-}
-
-/// Whether an event may change entries.
-fn changes_entries(e: &Event) -> bool
-    ensures { result ≡ (changes e.now).entries }
-{
-    match e {
-        Event::Decode(_) | Event::Idle(_) | Event::Gone(_) => true,
-        Event::Main
-        | Event::Take
-        | Event::Ack(_)
-        | Event::Open(_)
-        | Event::Use(_)
-        | Event::Ready(_)
-        | Event::Link(_)
-        | Event::Start(_)
-        | Event::Exec(_)
-        | Event::Finish(_)
-        | Event::Release(_)
-        | Event::Bye(_)
-        | Event::Nack(_)
-        | Event::Retire(_)
-        | Event::Copy(_) => false,
-    }
-}
-
-/// Whether an event may change which places and buffers are held.
-fn changes_holding(e: &Event) -> bool
-    ensures places { result ≡ (changes e.now).places }
-    ensures buffers { result ≡ (changes e.now).buffers }
-{
-    match e {
-        Event::Decode(_) | Event::Gone(_) => true,
-        Event::Main
-        | Event::Take
-        | Event::Ack(_)
-        | Event::Open(_)
-        | Event::Use(_)
-        | Event::Ready(_)
-        | Event::Link(_)
-        | Event::Start(_)
-        | Event::Exec(_)
-        | Event::Finish(_)
-        | Event::Release(_)
-        | Event::Bye(_)
-        | Event::Idle(_)
-        | Event::Nack(_)
-        | Event::Retire(_)
-        | Event::Copy(_) => false,
-    }
-}
 
 impl Units {
     /// The most slots that are taken of one station, after an event.
@@ -90,7 +14,7 @@ impl Units {
         requires { WereCounts e.now self.now before.now }
         ensures { result ≡ (counts_of self.now.machine (state_of self.now)).slots }
     {
-        if changes_flight(e) {
+        if changes(e).flight {
             self.most_slots()
         } else {
             before.slots
@@ -102,7 +26,7 @@ impl Units {
         requires { WereCounts e.now self.now before.now }
         ensures { result ≡ (counts_of self.now.machine (state_of self.now)).entries }
     {
-        if changes_entries(e) {
+        if changes(e).entries {
             self.most_entries()
         } else {
             before.entries
@@ -114,7 +38,7 @@ impl Units {
         requires { WereCounts e.now self.now before.now }
         ensures { result ≡ (counts_of self.now.machine (state_of self.now)).versions }
     {
-        if changes_holding(e) {
+        if changes(e).places {
             self.most_places()
         } else {
             before.versions
@@ -126,7 +50,7 @@ impl Units {
         requires { WereCounts e.now self.now before.now }
         ensures { result ≡ (counts_of self.now.machine (state_of self.now)).buffers }
     {
-        if changes_holding(e) {
+        if changes(e).buffers {
             self.most_buffers()
         } else {
             before.buffers

@@ -24,7 +24,7 @@ pub(crate) enum Source {
 }
 
 /// How many kinds there are.
-const KINDS: usize = 18;
+pub(crate) const KINDS: usize = 18;
 
 /// All kinds in order.
 const SOURCES: [Source; KINDS] = [
@@ -165,7 +165,7 @@ impl Units {
     {
         let mut count = 0;
         for kind in 0..KINDS {
-            count += self.count_of(kept, SOURCES[kind]);
+            count += kept.numbers[kind];
         }
         count
     }
@@ -178,10 +178,9 @@ impl Units {
     {
         let mut left = i;
         for kind in 0..KINDS {
-            let source = SOURCES[kind];
-            let count = self.count_of(kept, source);
+            let count = kept.numbers[kind];
             if left < count {
-                return self.event_in(kept, source, left);
+                return self.event_in(kept, SOURCES[kind], left);
             }
             left -= count;
         }

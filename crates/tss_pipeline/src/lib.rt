@@ -6,6 +6,7 @@
 
 mod bank;
 mod bank_readers;
+mod changing;
 mod closing;
 mod counting;
 mod enabling;

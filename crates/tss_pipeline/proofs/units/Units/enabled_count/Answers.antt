@@ -5,6 +5,7 @@ use Rattle.tss_pipeline.specs.declared.enabling.TheConstants.{SOURCES}
 use Rattle.tss_pipeline.specs.Enabling.{enabled_of_kinds}
 use Rattle.tss_pipeline.specs.State.{state_of}
 use Rattle.tss_pipeline.proofs.listed.FewEvents.{all_by_kinds, few_events, count_kind, count_all}
+use Rattle.tss_pipeline.proofs.listed.KeptNumbers.{number_at}
 use Rattle.tss_pipeline.proofs.units.Units.enabled_count.Goals as goal
 
 pub loop-kind-init : goal.loop-kind-init
@@ -15,7 +16,8 @@ loop-kind-init c =
 pub overflow_add-count : goal.overflow_add-count
 overflow_add-count c =
     let few = few_events c.args.self.now c.requires.fit in
-    let now = c.count_of-count.ensures in
+    let now =
+    number_at c.args.self.now c.args.kept.now.numbers c.requires.kept.numbers c.loop-kind.kind c.loop-kind-test.true in
     let more =
     count_kind c.args.self.now.machine (state_of c.args.self.now) c.loop-kind.kind c.loop-kind.count source.Main
     c.loop-kind-test.true c.loop-kind.invariant in
@@ -23,7 +25,8 @@ overflow_add-count c =
 
 pub loop-kind-preserved : goal.loop-kind-preserved
 loop-kind-preserved c =
-    let now = c.count_of-count.ensures in
+    let now =
+    number_at c.args.self.now c.args.kept.now.numbers c.requires.kept.numbers c.loop-kind.kind c.loop-kind-test.true in
     ap (λ n. c.loop-kind.count + n + length (enabled_of_kinds c.args.self.now.machine (state_of c.args.self.now) (drop (c.loop-kind.kind + 1) SOURCES))) now
     ∙ count_kind c.args.self.now.machine (state_of c.args.self.now) c.loop-kind.kind c.loop-kind.count source.Main
     c.loop-kind-test.true c.loop-kind.invariant
