@@ -4,11 +4,13 @@ ghost use Rattle.tss_outside.specs.MemFiles.{is_known};
 ghost use Rattle.tss_run.specs.Words.{words_of};
 
 mod images;
+mod machines;
 mod migration;
 mod outside;
 mod process;
 mod programs;
 mod runs;
+mod seeds;
 mod states;
 mod usage;
 mod workloads;
@@ -17,15 +19,18 @@ use crate::answering::tss_main;
 use std::alloc::{AllocError, Global};
 use std::process::Abort;
 use std::test::Fail;
+use tss_asm::AsmFault;
 use tss_base::Key;
 use tss_outside::{MemFiles, MemSink};
-use tss_programs::description;
+use tss_programs::{Source, description};
 
 /// The forms of the words.
 const USAGE: &[u8] =
     b"usage: run IMAGE MACHINE seed N [log FILE] | run IMAGE MACHINE given FILE | state IMAGE MACHINE given FILE | inorder IMAGE MACHINE | self N | migrate FILE NEW | self N mul\n";
 
 const IN_ORDER: &[&str] = &["inorder", "image", "machine"];
+
+const SEEDED: &[&str] = &["run", "image", "machine", "seed", "0"];
 
 const LOGGED: &[&str] = &["run", "image", "machine", "seed", "3", "log", "out"];
 
@@ -124,6 +129,36 @@ fn files_with(
 ) -> Result<MemFiles, Fail> {
     let machine = description(alloc, changes)?;
     files_of(alloc, image, machine.as_str().as_bytes(), schedule)
+}
+
+/// Checks what `inorder` answers where its files have these bytes, and that `run` answers it too, with the two events of an
+/// exit after a report.
+fn expect_program(
+    rt: &impl Abort,
+    alloc: Global,
+    machine: &[u8],
+    image: &[u8],
+    status: u8,
+    whole: &[u8],
+) -> Result<(), Fail> {
+    let mut files = files_of(alloc, image, machine, b"")?;
+    expect(rt, alloc, &mut files, IN_ORDER, status, whole)?;
+    let run = text(rt, alloc, &mut files, SEEDED, status)?;
+    let rest = run.bytes().strip_prefix(whole).unwrap_or(b"?");
+    if status == 0 {
+        assert!(rt; rest.starts_with(b"events 2\n"));
+    } else {
+        assert!(rt; rest.is_empty());
+    }
+    Ok(())
+}
+
+/// Main prints a page of zeros and exits.
+fn page(alloc: Global) -> Result<Vec<u8>, AsmFault> {
+    let mut main = Source::open(alloc)?;
+    main.print(0x20000, 4096)?;
+    main.exit(0)?;
+    main.image()
 }
 
 /// Where a part stands first in a text, and all that follows it. Nothing where it doesn't.

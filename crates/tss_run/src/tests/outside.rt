@@ -1,22 +1,13 @@
 // Files and sinks that fail, those that never do, and real files.
-use super::{GIVEN, IN_ORDER, LOGGED, answer, expect, files_of, files_with, words};
+use super::{GIVEN, IN_ORDER, LOGGED, answer, expect, files_of, files_with, page, words};
 use crate::answering::tss_main;
 use std::alloc::Global;
 use std::process::Abort;
 use std::rt::Files;
 use std::test::Fail;
-use tss_asm::AsmFault;
 use tss_base::Key;
 use tss_outside::{HonestFiles, HonestSink, MemSink, RealFiles};
-use tss_programs::{RENAMED_OUTPUT_LOG, Source, description, exit_seven, renamed_output};
-
-/// Main prints a page of zeros and exits.
-fn page(alloc: Global) -> Result<Vec<u8>, AsmFault> {
-    let mut main = Source::open(alloc)?;
-    main.print(0x20000, 4096)?;
-    main.exit(0)?;
-    main.image()
-}
+use tss_programs::{RENAMED_OUTPUT_LOG, description, exit_seven, renamed_output};
 
 #[test]
 fn a_read_that_fails_is_told(rt: HostRuntime) -> Result<(), Fail> {

@@ -1,13 +1,13 @@
 // States of the unit machine after logs that are given.
-use super::{STATE, answer, files_with, from, text};
+use super::{STATE, answer, files_with, from, page, text};
 use std::alloc::Global;
 use std::process::Abort;
 use std::test::Fail;
 use tss_base::Key;
 use tss_outside::{MemFiles, MemSink};
 use tss_programs::{
-    AWAIT_THIRD_LOG, FULL_TABLES_LOG, RENAMED_OUTPUT_LOG, await_third, exit_seven, full_tables,
-    renamed_output,
+    AWAIT_THIRD_LOG, FULL_TABLES_LOG, IDLE_RACE_LOG, MANY_READERS_LOG, RENAMED_OUTPUT_LOG,
+    await_third, exit_seven, full_tables, idle_race, many_readers, renamed_output,
 };
 
 /// What a state's text ends with after 30 lines of the log.
@@ -34,31 +34,29 @@ fn expect_state(
     Ok(())
 }
 
-/// How many bytes the first lines of a log have.
-fn bytes_of_lines(log: &[u8], lines: u32) -> usize {
+/// The first lines of a log.
+fn first_lines(log: &str, lines: u32) -> &[u8] {
+    let log = log.as_bytes();
     let mut left = lines;
-    let mut len: usize = 0;
-    for byte in log {
+    for (i, byte) in log.iter().enumerate() {
         if left == 0 {
-            return len;
+            return log.get(..i).unwrap_or(log);
         }
-        len = len.saturating_add(1);
         if *byte == b'\n' {
             left = left.saturating_sub(1);
         }
     }
-    len
+    log
 }
 
 #[test]
 fn a_run_is_shown_midway_and_at_its_end(rt: HostRuntime) -> Result<(), Fail> {
     let alloc = rt.alloc();
     let image = renamed_output(alloc)?;
-    let log = RENAMED_OUTPUT_LOG.as_bytes();
-    let midway = bytes_of_lines(log, 30).min(log.len());
-    let mut files = files_with(alloc, image.as_slice(), &[], &log[..midway])?;
+    let midway = first_lines(RENAMED_OUTPUT_LOG, 30);
+    let mut files = files_with(alloc, image.as_slice(), &[], midway)?;
     expect_state(&rt, alloc, &mut files, 0, &[], MIDWAY)?;
-    files.put("schedule", log)?;
+    files.put("schedule", RENAMED_OUTPUT_LOG.as_bytes())?;
     let rows = b"\nrow 00020000 63000000000000000000000000000000\n\
         row 00020040 61000000000000000000000000000000\n";
     expect_state(&rt, alloc, &mut files, 0, &[rows], b"\nenabled 0\n")
@@ -116,6 +114,38 @@ fn a_wait_ends_where_its_place_is_free(rt: HostRuntime) -> Result<(), Fail> {
     expect_state(&rt, alloc, &mut files, 0, &parts, b"\n")
 }
 
+#[test]
+fn a_writer_is_ready_when_all_readers_have_released(rt: HostRuntime) -> Result<(), Fail> {
+    let alloc = rt.alloc();
+    let two = [(Key::Stations, "2")];
+    let image = many_readers(alloc)?;
+    for lines in 0..=107 {
+        let mut schedule = Vec::from_slice(alloc, first_lines(MANY_READERS_LOG, lines))?;
+        schedule.extend_from_slice(b"ready 9.0\n")?;
+        let mut files = files_with(alloc, image.as_slice(), &two, schedule.as_slice())?;
+        if lines == 107 {
+            let queued = b"\ntask 9 queued\n".as_slice();
+            expect_state(&rt, alloc, &mut files, 0, &[queued], b"\n")?;
+        } else {
+            let early = format!(in alloc; "schedule not-enabled {}\n", lines.saturating_add(1))?;
+            expect_state(&rt, alloc, &mut files, 5, &[], early.as_str().as_bytes())?;
+        }
+    }
+    Ok(())
+}
+
+#[test]
+fn a_version_is_not_retired_while_a_use_is_under_way(rt: HostRuntime) -> Result<(), Fail> {
+    let alloc = rt.alloc();
+    let image = idle_race(alloc)?;
+    let mut files = files_with(alloc, image.as_slice(), &[], first_lines(IDLE_RACE_LOG, 18))?;
+    let parts = [b"\nmessage use 2.0 1.0\nmessage nack 1.0\n".as_slice()];
+    expect_state(&rt, alloc, &mut files, 0, &parts, b"\nenabled 3\n")?;
+    let shown = text(&rt, alloc, &mut files, STATE, 0)?;
+    assert!(rt; from(shown.bytes(), b"\nmessage retire").is_empty());
+    Ok(())
+}
+
 /// The log of `renamed_output` up to two tasks at the gateway, and then one line.
 const TWO_AT_THE_GATEWAY: &str = "main\nmain\ntake\nmain\nmain\ntake\n";
 
@@ -140,19 +170,39 @@ fn two_tasks_decode_at_once(rt: HostRuntime) -> Result<(), Fail> {
     expect_state(&rt, alloc, &mut files, 0, &parts, b"\nenabled 4\n")
 }
 
+/// Checks that a state is written in so many pieces, and that a write that fails leaves those before it.
+fn expect_pieces(
+    rt: &impl Abort,
+    alloc: Global,
+    files: &mut MemFiles,
+    pieces: u32,
+) -> Result<(), Fail> {
+    let whole = text(rt, alloc, files, STATE, 0)?;
+    for (number, before) in [(1, 0), (2, 4096), (3, 8192), (4, 12_288)] {
+        let mut out = MemSink::new(alloc, 65_536)?;
+        out.fail_write(number)?;
+        let status = answer(rt, alloc, files, STATE, &mut out)?;
+        let written = if number <= pieces {
+            assert_eq!(rt; status, 8);
+            whole.bytes().get(..before)
+        } else {
+            assert_eq!(rt; status, 0);
+            Some(whole.bytes())
+        };
+        assert!(rt; written == Some(out.bytes()));
+    }
+    Ok(())
+}
+
 #[test]
 fn a_write_that_fails_leaves_the_pieces_before_it(rt: HostRuntime) -> Result<(), Fail> {
     let alloc = rt.alloc();
     let image = renamed_output(alloc)?;
     let log = RENAMED_OUTPUT_LOG.as_bytes();
     let mut files = files_with(alloc, image.as_slice(), &[], log)?;
-    let whole = text(&rt, alloc, &mut files, STATE, 0)?;
-    for number in 1..3 {
-        let mut out = MemSink::new(alloc, 65_536)?;
-        out.fail_write(number)?;
-        let status = answer(&rt, alloc, &mut files, STATE, &mut out)?;
-        assert!(rt; whole.bytes().starts_with(out.bytes()));
-        assert!(rt; status == 0 || out.bytes().len() % 4096 == 0);
-    }
-    Ok(())
+    expect_pieces(&rt, alloc, &mut files, 1)?;
+    let image = page(alloc)?;
+    let roomy = [(Key::OutputBytes, "4096")];
+    let mut files = files_with(alloc, image.as_slice(), &roomy, b"main\nmain\n")?;
+    expect_pieces(&rt, alloc, &mut files, 3)
 }
