@@ -3,4 +3,4 @@ pub mod RunLemmas
 pub mod PieceLemmas
 pub mod OrderLemmas
 pub mod DidLemmas
-mod RestartLemmas
+pub mod RestartLemmas

@@ -9,8 +9,6 @@ mod copying;
 mod flat;
 mod reference;
 mod running;
-#[cfg(test)]
-mod tests;
 mod views;
 
 pub use flat::{Did, Flat};

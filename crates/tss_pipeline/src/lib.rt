@@ -22,8 +22,6 @@ mod renaming_events;
 mod results;
 mod station_events;
 mod step;
-#[cfg(test)]
-mod tests;
 mod units;
 mod version_events;
 mod worker_events;

@@ -10,8 +10,6 @@ mod entry_view;
 mod held;
 mod opening;
 mod renaming;
-#[cfg(test)]
-mod tests;
 mod waits;
 
 pub use entry_view::EntryView;

@@ -17,12 +17,18 @@ mod workloads;
 
 use crate::answering::tss_main;
 use std::alloc::{AllocError, Global};
+use std::fmt::Debug;
 use std::process::Abort;
 use std::test::Fail;
 use tss_asm::AsmFault;
 use tss_base::Key;
 use tss_outside::{MemFiles, MemSink};
 use tss_programs::{Source, description};
+
+/// Checks that two values are equal. A call has fewer steps than `assert_eq!`, so a test of many is proved sooner.
+fn check_eq<T: PartialEq + Debug + Copy>(rt: &impl Abort, left: T, right: T) {
+    assert_eq!(rt; left, right);
+}
 
 /// The forms of the words.
 const USAGE: &[u8] =
@@ -87,7 +93,7 @@ fn text(
 ) -> Result<MemSink, Fail> {
     let mut out = MemSink::new(alloc, 65_536)?;
     let answered = answer(rt, alloc, files, texts, &mut out)?;
-    assert_eq!(rt; answered, status);
+    check_eq(rt, answered, status);
     Ok(out)
 }
 

@@ -11,8 +11,6 @@ mod given;
 mod laws;
 mod schedule;
 mod seeded;
-#[cfg(test)]
-mod tests;
 
 pub use driving::{ScheduleFault, drive};
 pub use given::Given;

@@ -8,4 +8,3 @@ mod ShownTexts
 mod FirstObjects
 mod BankVersions
 mod WorkerLemmas
-mod ReachedStates

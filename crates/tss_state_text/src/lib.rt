@@ -8,8 +8,6 @@ mod holders;
 mod items;
 mod messages;
 mod tasks;
-#[cfg(test)]
-mod tests;
 mod text;
 mod versions;
 mod workers;

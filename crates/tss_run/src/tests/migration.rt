@@ -1,5 +1,5 @@
 // Logs of the older format, put into the present one.
-use super::{answer, expect as expect_over};
+use super::{answer, check_eq, expect as expect_over};
 use std::alloc::Global;
 use std::process::Abort;
 use std::test::Fail;
@@ -110,7 +110,7 @@ fn a_text_that_fails_leaves_the_log_appended(rt: HostRuntime) -> Result<(), Fail
     let mut files = files_with(alloc, b"main\n", b"")?;
     let mut out = MemSink::new(alloc, 4)?;
     let texts = ["migrate", "old", "new"];
-    assert_eq!(rt; answer(&rt, alloc, &mut files, &texts, &mut out)?, 8);
+    check_eq(&rt, answer(&rt, alloc, &mut files, &texts, &mut out)?, 8);
     assert!(rt; files.bytes("new") == b"tss-log 2\nmain\n".as_slice());
     Ok(())
 }

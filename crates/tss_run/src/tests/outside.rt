@@ -1,5 +1,5 @@
 // Files and sinks that fail, those that never do, and real files.
-use super::{GIVEN, IN_ORDER, LOGGED, answer, expect, files_of, files_with, page, words};
+use super::{GIVEN, IN_ORDER, LOGGED, answer, check_eq, expect, files_of, files_with, page, words};
 use crate::answering::tss_main;
 use std::alloc::Global;
 use std::process::Abort;
@@ -35,7 +35,7 @@ fn an_append_that_fails_is_told(rt: HostRuntime) -> Result<(), Fail> {
     let mut files = files_with(alloc, image.as_slice(), &[], b"")?;
     files.fail_append(1)?;
     expect(&rt, alloc, &mut files, LOGGED, 8, b"write log\n")?;
-    assert_eq!(rt; files.bytes("out").len(), 0);
+    check_eq(&rt, files.bytes("out").len(), 0);
     Ok(())
 }
 
@@ -67,8 +67,8 @@ fn a_write_that_fails_is_told(rt: HostRuntime) -> Result<(), Fail> {
         let mut files = files_with(alloc, image.as_slice(), &roomy, b"")?;
         let mut out = MemSink::new(alloc, 8192)?;
         out.fail_write(number)?;
-        assert_eq!(rt; answer(&rt, alloc, &mut files, IN_ORDER, &mut out)?, 8);
-        assert_eq!(rt; out.bytes().len(), written);
+        check_eq(&rt, answer(&rt, alloc, &mut files, IN_ORDER, &mut out)?, 8);
+        check_eq(&rt, out.bytes().len(), written);
     }
     Ok(())
 }
@@ -83,7 +83,11 @@ fn honest_files_and_an_honest_sink_have_no_faults(rt: HostRuntime) -> Result<(),
     for texts in [IN_ORDER, LOGGED, GIVEN] {
         let words = words(alloc, texts)?;
         let mut out = HonestSink::new();
-        assert_eq!(rt; tss_main(alloc, words.as_slice(), &mut files, &mut out), 0);
+        check_eq(
+            &rt,
+            tss_main(alloc, words.as_slice(), &mut files, &mut out),
+            0,
+        );
     }
     Ok(())
 }
@@ -100,9 +104,10 @@ fn expect_real(
     let words = words(alloc, &["inorder", image, machine])?;
     let mut files = RealFiles::new(rt, words.as_slice());
     let mut out = MemSink::new(alloc, 256)?;
-    assert_eq!(rt;
+    check_eq(
+        rt,
         tss_main(alloc, words.as_slice(), &mut files, &mut out),
-        status
+        status,
     );
     assert!(rt; out.bytes() == text);
     Ok(())

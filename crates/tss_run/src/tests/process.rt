@@ -1,5 +1,5 @@
 // From the arguments of a process to its status.
-use super::{USAGE, words as texts};
+use super::{USAGE, check_eq, words as texts};
 use crate::process::{exit_code, words};
 use std::alloc::Global;
 use std::io;
@@ -12,7 +12,7 @@ use tss_programs::{description, exit_seven};
 /// Checks the words of arguments, which are the program's name and these.
 fn expect_words(rt: &impl Abort, alloc: Global, args: &[&str]) -> Result<(), Fail> {
     let found = words(alloc, Ok(texts(alloc, args)?.into_iter()))?;
-    assert_eq!(rt; found.len(), args.len().saturating_sub(1));
+    check_eq(rt, found.len(), args.len().saturating_sub(1));
     for (i, word) in found.iter().enumerate() {
         assert!(rt; args.get(i.saturating_add(1)) == Some(&word.as_str()));
     }
@@ -31,7 +31,7 @@ fn the_words_are_all_arguments_but_the_first(rt: HostRuntime) -> Result<(), Fail
         &["tss", "1", "", " 3", "4", "5", "6", "7", "8", "9"],
     )?;
     let no_text = words(alloc, Err(io::Error::from(ErrorKind::InvalidData)))?;
-    assert_eq!(rt; no_text.len(), 0);
+    check_eq(&rt, no_text.len(), 0);
     let no_memory = words(alloc, Err(io::Error::from(ErrorKind::OutOfMemory)));
     assert!(rt; no_memory.is_err());
     Ok(())

@@ -1,5 +1,5 @@
 // States of the unit machine after logs that are given.
-use super::{STATE, answer, files_with, from, page, text};
+use super::{STATE, answer, check_eq, files_with, from, page, text};
 use std::alloc::Global;
 use std::process::Abort;
 use std::test::Fail;
@@ -183,10 +183,10 @@ fn expect_pieces(
         out.fail_write(number)?;
         let status = answer(rt, alloc, files, STATE, &mut out)?;
         let written = if number <= pieces {
-            assert_eq!(rt; status, 8);
+            check_eq(rt, status, 8);
             whole.bytes().get(..before)
         } else {
-            assert_eq!(rt; status, 0);
+            check_eq(rt, status, 0);
             Some(whole.bytes())
         };
         assert!(rt; written == Some(out.bytes()));

@@ -2,7 +2,7 @@
 // are those of a plain evaluation of the workload by another program.
 ghost use Rattle.std.specs.Prelude.{None, true};
 
-use super::{files_of, from, text, words};
+use super::{check_eq, files_of, from, text, words};
 use crate::answering::tss_main;
 use std::alloc::Global;
 use std::test::Fail;
@@ -158,7 +158,11 @@ fn a_log_is_appended_in_pieces(rt: HostRuntime) -> Result<(), Fail> {
     };
     let words = words(alloc, SEED)?;
     let mut out = HonestSink::new();
-    assert_eq!(rt; tss_main(alloc, words.as_slice(), &mut pieces, &mut out), 0);
+    check_eq(
+        &rt,
+        tss_main(alloc, words.as_slice(), &mut pieces, &mut out),
+        0,
+    );
     assert!(rt; pieces.are_whole);
     assert!(rt; pieces.pieces > 1);
     Ok(())

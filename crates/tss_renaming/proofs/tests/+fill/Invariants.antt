@@ -1,5 +1,0 @@
--- Fewer places are left with each call.
-use Rattle.tss_renaming.proofs.tests.+fill.Given as goal
-
-abbrev pub decreases-fill : goal.decreases-fill
-decreases-fill g l = l.more
