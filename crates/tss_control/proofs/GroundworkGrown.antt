@@ -1,5 +1,5 @@
 -- A round with one more task: what was controlled by the shorter round is by the longer one.
-use Rattle.std.proofs.Common.{◌≡◌, ◌≤◌, inl, inr, List, Some, None, sym, ap, ◌∙◌, subst}
+use Rattle.std.proofs.Common.{◌≡◌, ◌≤◌, inl, inr, List, Some, sym, ap, ◌∙◌, subst}
 use Rattle.std.specs.FinMap.{get}
 use Rattle.tss_base.specs.declared.range.Range.{Range}
 use Rattle.tss_base.specs.declared.operand.OpName.{OpName}

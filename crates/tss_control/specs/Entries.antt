@@ -10,7 +10,6 @@ use Rattle.tss_protocol.specs.State.{State, Entry, Version, CopyState}
 use Rattle.tss_protocol.specs.Settled.{IsSettled}
 use Rattle.tss_phases.specs.Phase.{phase_of, is_decoded}
 use Rattle.tss_control.specs.Members.{operand_among, IsWriterOn, IsVersionOf, IsOpenOf, IsMember, total}
-use Rattle.tss_base.specs.declared.marks.Follow.{Follow}
 
 -- ---- how an object leaves
 

@@ -12,7 +12,7 @@ use Rattle.std.specs.FinMap as map
 use Rattle.std.specs.FinMap.{get, insert, entries, keys, len-entries, len-empty, from_entries, from_entries_push, get-from_entries, get-remove, entries-insert}
 use Rattle.std.specs.FinMap.Entries.{find, put, by_order, is_sorted, below_all}
 use Rattle.tss_base.specs.declared.operand.OpName.{OpName}
-use Rattle.tss_base.specs.Names.{Named, name_cmp, name_cmp_total, name_cmp-IsAntisymmetric}
+use Rattle.tss_base.specs.Names.{name_cmp, name_cmp_total, name_cmp-IsAntisymmetric}
 use Rattle.tss_maps.proofs.Keys.{name_order, same_key, other_key, apart_below, decide_key, less_from_below}
 use Rattle.tss_maps.proofs.Changes.{same_by_get}
 use Rattle.tss_protocol.specs.Names.{operand_name}

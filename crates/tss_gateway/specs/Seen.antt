@@ -1,5 +1,5 @@
 -- What contracts see of the gateway, and what its parts keep.
-use Rattle.std.specs.Prelude.{◌≡◌, ℕ, ◌≤◌, T, List, Option, Some, None, option_map}
+use Rattle.std.specs.Prelude.{◌≡◌, ℕ, ◌≤◌, T, List, Option, Some, option_map}
 use Rattle.std.specs.Coded.{Coded, code_by, coded×, coded_ℕ, coded_option}
 use Rattle.std.specs.FinMap.Entries.{is_sorted}
 use Rattle.std.proofs.Common.{refl}

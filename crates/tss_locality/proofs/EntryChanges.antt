@@ -1,7 +1,7 @@
 -- What an entry was before an event: it stood there, or was made by decode for its operand, or is about to leave by idle.
-use Rattle.std.proofs.Common.{◌≡◌, ℕ, Bool, true, false, cond, Option, Some, None, refl, sym, ap, ◌∙◌, subst, inl, inr, ◌⊎◌, true≢false}
-use Rattle.std.specs.Prelude.{◌==◌, ◌&&◌}
-use Rattle.std.specs.FinMap.{get, insert, remove}
+use Rattle.std.proofs.Common.{◌≡◌, ℕ, Bool, true, false, cond, Option, Some, None, refl, sym, ap, ◌∙◌, inl, inr, ◌⊎◌, true≢false}
+use Rattle.std.specs.Prelude.{◌==◌}
+use Rattle.std.specs.FinMap.{get, remove}
 use Rattle.std.proofs.lemmas.Bool.{and_parts}
 use Rattle.tss_base.specs.declared.range.Range.{Range}
 use Rattle.tss_base.specs.declared.operand.OpName.{OpName}
@@ -15,8 +15,8 @@ use Rattle.tss_maps.proofs.Changes.{from_inserted, from_removed}
 use Rattle.tss_protocol.specs.Names.{same_name}
 use Rattle.tss_protocol.specs.Mail.{IdleContents, GoneContents}
 use Rattle.tss_protocol.specs.State.{Entry, State}
-use Rattle.tss_protocol.specs.Renaming.{live_entry, entry_after_decode, may_retire, retiring_entry, idle_by}
-use Rattle.tss_protocol.specs.UnitMachine.{without, with_entries, decode_message_taken, idle_message_taken, gone_message_taken, after_event}
+use Rattle.tss_protocol.specs.Renaming.{live_entry, entry_after_decode, may_retire, idle_by}
+use Rattle.tss_protocol.specs.UnitMachine.{without, decode_message_taken, idle_message_taken, gone_message_taken, after_event}
 
 -- ---- decode
 

@@ -1,5 +1,5 @@
 -- What a message more or less leaves of the facts of the mail's tables.
-use Rattle.std.proofs.Common.{◌≡◌, ◌≢◌, ℕ, zero, suc, ◌+◌, ◌-◌, ◌<◌, ◌≤◌, ◌^◌, List, [], ◌∷◌, length, get_or, set, Option, Some, None, refl, sym, ap, subst, ◌∙◌, inl, inr, arith, option_map, Bor}
+use Rattle.std.proofs.Common.{◌≡◌, ℕ, zero, suc, ◌+◌, ◌-◌, ◌<◌, ◌≤◌, ◌^◌, List, [], ◌∷◌, length, get_or, set, Option, Some, None, refl, sym, ap, subst, ◌∙◌, inl, inr, arith, option_map, Bor}
 use Rattle.std.proofs.Math.ListN.{replicate}
 use Rattle.std.proofs.lemmas.List.{get_or-set_same, get_or-set_other, get_or_default, length-set, get_or-replicate, length-replicate}
 use Rattle.std.proofs.lemmas.List.Sums.{sum_by-set, sum_by-cons}
@@ -10,7 +10,7 @@ use Rattle.tss_base.specs.declared.event.Event.{Event}
 use Rattle.tss_base.specs.Names.{name_cmp}
 use Rattle.tss_maps.proofs.MappedLemmas.{mapped-empty}
 use Rattle.tss_maps.proofs.Keys.{name_order, nat_order, decide_key}
-use Rattle.tss_maps.proofs.Changes.{decide_get, from_inserted, from_removed, absent_removed}
+use Rattle.tss_maps.proofs.Changes.{from_inserted, from_removed, absent_removed}
 use Rattle.tss_maps.proofs.Entries.{len_added, len_removed}
 use Rattle.tss_protocol.specs.Mail as mail
 use Rattle.tss_events.specs.declared.message.Message.{Message}
@@ -19,7 +19,7 @@ use Rattle.tss_mail.specs.declared.kind.Kind.{Kind}
 use Rattle.tss_mail.specs.Kinds.{number_of, kind_at, event_of, address_of}
 use Rattle.tss_mail.specs.Letters.{no_letters, mail_of, letter_at, with_letter, without_letter}
 use Rattle.tss_mail.specs.Kept.{Letters, table_in, table_at, letters_of, IsFor, total, AreLetters, decode_in, ack_in, open_in, use_in, ready_in, link_in, release_in, bye_in, idle_in, gone_in}
-use Rattle.tss_mail.proofs.TableLemmas.{label, address_of-label, name_of-label, IsFor-label, kind_at-number_of, number_within, event_of_address, letter_at-kind, message_at-kind, filled, emptied, counted}
+use Rattle.tss_mail.proofs.TableLemmas.{label, address_of-label, name_of-label, IsFor-label, kind_at-number_of, number_within, letter_at-kind, message_at-kind, filled, emptied, counted}
 
 -- no table is more than all
 len_within : (ts : List Letters) (k : ℕ) → k < length ts → len (table_at ts k) ≤ total ts

@@ -1,26 +1,26 @@
 -- Tables of messages as the mail: what stands under a name, and what a message more or less leaves.
-use Rattle.std.proofs.Common.{◌≡◌, ◌≢◌, ℕ, suc, ◌+◌, ◌<◌, ◌≤◌, List, [], ◌∷◌, ◌++◌, length, get_or, set, map, Option, Some, None, refl, sym, ap, subst, ◌∙◌, inl, inr, arith, option_map}
+use Rattle.std.proofs.Common.{◌≡◌, ℕ, ◌+◌, ◌<◌, List, [], ◌∷◌, ◌++◌, length, set, map, Option, Some, None, refl, sym, ap, ◌∙◌, arith, option_map}
 use Rattle.std.specs.Prelude.{Bool}
-use Rattle.std.proofs.lemmas.List.{get_or-set_same, get_or-set_other, append_assoc, append-nil}
+use Rattle.std.proofs.lemmas.List.{append_assoc, append-nil}
 use Rattle.std.proofs.lemmas.Option.{none-some, same_Some}
-use Rattle.std.specs.FinMap.{get, insert, remove, len, keys, empty}
+use Rattle.std.specs.FinMap.{get, insert, remove, keys}
 use Rattle.tss_base.specs.declared.operand.OpName.{OpName}
 use Rattle.tss_base.specs.declared.operand.Storage.{Storage}
 use Rattle.tss_base.specs.declared.event.Event.{Event}
 use Rattle.tss_base.specs.declared.event.Event.TheVariants as event
 use Rattle.tss_base.specs.Names.{Named}
 use Rattle.tss_maps.specs.Mapped.{mapped}
-use Rattle.tss_maps.proofs.Keys.{name_order, nat_order, decide_key}
+use Rattle.tss_maps.proofs.Keys.{name_order}
 use Rattle.tss_maps.proofs.MappedLemmas.{get-mapped, mapped-insert, mapped-remove, len-mapped, keys-mapped}
 use Rattle.tss_protocol.specs.Mail as mail
 use Rattle.tss_events.specs.declared.message.Message.{Message}
 use Rattle.tss_events.specs.declared.message.Message.TheVariants as message
-use Rattle.tss_events.specs.Events.{source_of, opening_of, gone_of, message_of}
+use Rattle.tss_events.specs.Events.{opening_of, gone_of, message_of}
 use Rattle.tss_mail.specs.declared.kind.Kind.{Kind}
 use Rattle.tss_mail.specs.declared.kind.Kind.TheVariants as kind
 use Rattle.tss_mail.specs.Kinds.{number_of, kind_at, event_of, address_of}
 use Rattle.tss_mail.specs.Letters.{MailState, told_source, told_release, told_idle, mail_of, letter_at, with_letter, without_letter}
-use Rattle.tss_mail.specs.Kept.{Letters, table_in, table_at, letters_of, IsFor, total, decode_in, ack_in, open_in, use_in, ready_in, link_in, release_in, bye_in, idle_in, gone_in}
+use Rattle.tss_mail.specs.Kept.{Letters, table_at, letters_of, IsFor, total, decode_in, ack_in, open_in, use_in, ready_in, link_in, release_in, bye_in, idle_in, gone_in}
 use Rattle.tss_mail.proofs.Naming.{names_from}
 
 -- ---- kinds and names

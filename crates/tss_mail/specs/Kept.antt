@@ -1,5 +1,5 @@
 -- What the tables of the mail hold: messages, each of its table's kind and under its name.
-use Rattle.std.specs.Prelude.{◌≡◌, ℕ, ◌≤◌, ◌^◌, ◌<◌, Bool, false, List, [], ◌∷◌, length, slice_index_or, sum_by, None, Some}
+use Rattle.std.specs.Prelude.{◌≡◌, ℕ, ◌≤◌, ◌^◌, ◌<◌, Bool, false, List, length, slice_index_or, sum_by, None, Some}
 use Rattle.std.specs.FinMap.{get, empty, len}
 use Rattle.tss_base.specs.declared.operand.OpName.{OpName}
 use Rattle.tss_base.specs.declared.operand.Operand.{Operand}

@@ -1,9 +1,8 @@
 -- The gateway has what is still to be decoded or acknowledged, and decodes keep the order of tasks.
-use Rattle.std.proofs.Common.{◌≡◌, ◌≢◌, ℕ, suc, ◌+◌, ◌<◌, ◌≤◌, ◌⊎◌, inl, inr, true, false, List, [], ◌∷◌, length, Option, Some, None, refl, sym, ap, ◌∙◌, subst, arith, true≢false}
+use Rattle.std.proofs.Common.{◌≡◌, ◌≢◌, ℕ, suc, ◌+◌, ◌<◌, ◌≤◌, ◌⊎◌, inl, inr, true, List, [], ◌∷◌, length, Option, Some, None, refl, sym, ap, ◌∙◌, subst, arith, true≢false}
 use Rattle.std.specs.Prelude.{slice_get}
 use Rattle.std.specs.FinMap.{get, insert, remove, empty, get-empty, len-empty}
 use Rattle.std.proofs.lemmas.Bool.Decides.{nat_tests}
-use Rattle.std.proofs.lemmas.List.Elements.{All-cons, All-nil}
 use Rattle.std.proofs.lemmas.Bool.{cases_order}
 use Rattle.std.proofs.lemmas.Option.{none-some, same_Some}
 use Rattle.tss_base.specs.declared.operand.OpName.{OpName}
@@ -15,11 +14,10 @@ use Rattle.tss_base.specs.Names.{Named, name_cmp}
 use Rattle.tss_base.specs.Image.{ImageState}
 use Rattle.tss_maps.proofs.Keys.{name_order, decide_key}
 use Rattle.tss_maps.proofs.Changes.{at_inserted, beside_inserted, from_inserted, at_removed, beside_removed, from_removed}
-use Rattle.tss_maps.proofs.Entries.{absent_empty, some_entry}
 use Rattle.tss_model.specs.Access.{operands_of}
 use Rattle.tss_protocol.specs.Names.{bank_of, operand_name}
 use Rattle.tss_protocol.specs.Gateway.{held_tasks, has_window}
-use Rattle.tss_protocol.specs.Renaming.{HasTurn, line_of, has_earlier}
+use Rattle.tss_protocol.specs.Renaming.{HasTurn}
 use Rattle.tss_protocol.specs.State.{State, initial_state}
 use Rattle.tss_protocol.specs.Needs.{is_in_inbox}
 use Rattle.tss_names.specs.Tasks.{task_at, taken_by, last_taken, HasTaskNumbers, IsOperandOf, IsOfTaken, IsInGateway, AreGatewayTasks, HasGateway, GatewayLaw, DecodesInOrder, DecodeOrderLaw}

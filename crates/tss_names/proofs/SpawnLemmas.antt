@@ -1,6 +1,6 @@
 -- What main's event does to the tasks: it spawns none, or one with the next number into an empty inbox.
-use Rattle.std.proofs.Common.{◌≡◌, ℕ, zero, suc, ◌+◌, ◌<◌, ◌≤◌, ◌⊎◌, inl, inr, Bool, true, false, ◌&&◌, if◌then◌else◌, List, [], ◌∷◌, ◌++◌, length, take, replicate, Option, Some, None, is_none, is_some, Result, Ok, Err, refl, sym, ap, ◌∙◌, arith}
-use Rattle.std.specs.Prelude.{nat_lt, nat_le, ◌==◌, ◌-◌}
+use Rattle.std.proofs.Common.{◌≡◌, ℕ, zero, suc, ◌+◌, ◌<◌, ◌≤◌, ◌⊎◌, inl, inr, Bool, true, false, ◌&&◌, if◌then◌else◌, List, [], ◌∷◌, ◌++◌, length, take, replicate, Option, Some, None, is_none, Result, Ok, Err, refl, sym, ap, ◌∙◌, arith}
+use Rattle.std.specs.Prelude.{nat_lt, nat_le, ◌-◌}
 use Rattle.std.specs.List.{list_any}
 use Rattle.std.proofs.lemmas.Bool.{and_parts, leb-false, ltb-false}
 use Rattle.std.proofs.lemmas.List.{length-map, length_push}
@@ -11,16 +11,11 @@ use Rattle.tss_base.specs.declared.operand.Task.{Task}
 use Rattle.tss_base.specs.declared.machine.Limits.{Limits}
 use Rattle.tss_base.specs.declared.machine.Machine.{Machine}
 use Rattle.tss_base.specs.declared.event.Event.TheVariants as event
-use Rattle.tss_base.specs.Image.{SegmentState}
-use Rattle.tss_model.specs.Memory.{Memory, range_of, bytes_of}
+use Rattle.tss_model.specs.Memory.{Memory}
 use Rattle.tss_model.specs.Access.{operands_of, touches}
-use Rattle.tss_model.specs.Registers.{trap_of}
-use Rattle.tss_base.specs.declared.causes.TheConstants.{LOAD_DENIED}
-use Rattle.tss_base.specs.declared.refusals.TheConstants.{EPOCH_FULL, LIST_PLACE, MAIN_TOUCH, MAIN_BUDGET_SPENT, OUTPUT_FULL, TOO_MANY_OPERANDS, TOO_MANY_TASKS}
-use Rattle.tss_model.specs.Core.{Stepped, Executed, Called, Ended, Trapped, Touched}
-use Rattle.tss_model.specs.TaskRun.{repeated}
+use Rattle.tss_base.specs.declared.refusals.TheConstants.{EPOCH_FULL, LIST_PLACE, MAIN_TOUCH, TOO_MANY_OPERANDS, TOO_MANY_TASKS}
 use Rattle.tss_model.specs.Spawn.{SpawnCall, Entry, after_first, entries_at, entries_checked, entry_checked, is_misplaced, list_range, merged_on, merged_operands, name_object, name_objects, no_operand, objects_of, same_range, spawn_of, task_checked, task_of, with_rest}
-use Rattle.tss_model.specs.MainStep.{MainState, Flat, Call, ExitCall, Spawn, Barrier, Print, Await, Unknown, has_spent, main_core, main_on, main_refused, main_step, main_trapped, output_of, print_done, print_range, print_some, print_call, call_done, spawn_call, spawn_on, awaited_object, await_on}
+use Rattle.tss_model.specs.MainStep.{Call, ExitCall, Spawn, Barrier, Print, Await, Unknown, print_range, spawn_call, spawn_on, awaited_object, await_on}
 use Rattle.tss_protocol.specs.State.{State}
 use Rattle.tss_protocol.specs.MainEvent.{flat_of, call_next, may_call, main_by, after_call}
 use Rattle.tss_protocol.specs.UnitMachine.{IsEnabled, is_enabled, after_event}

@@ -1,7 +1,7 @@
 -- What take, decode and ack do to the front, and what stands under the names of a task's operands after its take.
-use Rattle.std.proofs.Common.{◌≡◌, ◌≢◌, ℕ, zero, suc, ◌+◌, ◌<◌, ◌⊎◌, inl, inr, true, false, List, [], ◌∷◌, Option, Some, None, refl, ap, ◌∙◌, arith}
-use Rattle.std.specs.Prelude.{◌==◌, slice_get}
-use Rattle.std.specs.FinMap.{get, insert, remove, len}
+use Rattle.std.proofs.Common.{◌≡◌, ◌≢◌, ℕ, zero, suc, ◌+◌, ◌<◌, ◌⊎◌, inl, inr, true, List, [], ◌∷◌, Option, Some, None, refl, ap, ◌∙◌, arith}
+use Rattle.std.specs.Prelude.{slice_get}
+use Rattle.std.specs.FinMap.{get, insert, remove}
 use Rattle.std.proofs.lemmas.Bool.{and_parts}
 use Rattle.tss_base.specs.declared.operand.OpName.{OpName}
 use Rattle.tss_base.specs.declared.operand.Mode.{Mode}
@@ -23,7 +23,7 @@ use Rattle.tss_protocol.specs.Renaming.{HasTurn, Turn, fill_of, line_of, has_ear
 use Rattle.tss_protocol.specs.UnitMachine.{IsEnabled, tables_of, queue_with, is_queued, is_enabled, after_event, can_take, after_take, without, can_decode_message, decode_message_taken}
 use Rattle.tss_protocol.proofs.TurnLemmas.{waits_for_neither}
 use Rattle.tss_protocol.proofs.FrontLemmas.{front_of, back_of}
-use Rattle.tss_names.proofs.PlainLemmas.{some_unit, zero_from_test}
+use Rattle.tss_names.proofs.PlainLemmas.{some_unit}
 
 -- ---- something for each of a task's operands, under its name
 

@@ -1,5 +1,5 @@
 -- The lists of the names whose events of a kind may happen, which are kept from event to event.
-use Rattle.std.specs.Prelude.{◌≡◌, ◌≢◌, ℕ, Bool, true, false, Option, Some, None, is_some}
+use Rattle.std.specs.Prelude.{◌≡◌, ◌≢◌, Bool, true, false, Option, Some, None, is_some}
 use Rattle.std.specs.FinMap.{get, insert, remove}
 use Rattle.tss_base.specs.declared.operand.OpName.{OpName}
 use Rattle.tss_base.specs.declared.event.Event.{Event}

@@ -1,5 +1,5 @@
 -- From the answers of the parts to what the bytes of a file come to.
-use Rattle.std.proofs.Common.{◌≡◌, ℕ, List, Option, Some, None, Result, Ok, Err, refl, sym, ap, ◌∙◌}
+use Rattle.std.proofs.Common.{◌≡◌, ℕ, List, Some, None, Result, Ok, Err, refl, sym, ap, ◌∙◌}
 use Rattle.tss_base.specs.Image.{ImageState}
 use Rattle.tss_base.specs.declared.machine.Machine.{Machine}
 use Rattle.tss_elf.specs.Elf.{Refused, Accepted, image_of}

@@ -1,5 +1,5 @@
 -- From an outcome that is due, and its text written or cut short, to what is claimed of a call.
-use Rattle.std.proofs.Common.{◌≡◌, ◌≢◌, ◌⊎◌, inl, inr, ℕ, ◌<◌, ◌≤◌, List, [], ◌++◌, Option, Some, None, IfSome, unwrap_or, All, Result, Ok, Err, refl, sym, ap, ◌∙◌, subst, arith}
+use Rattle.std.proofs.Common.{◌≡◌, ◌≢◌, ◌⊎◌, inl, inr, ℕ, ◌<◌, ◌≤◌, [], Option, Some, None, IfSome, unwrap_or, All, Result, Ok, Err, refl, sym, ap, ◌∙◌, subst, arith}
 use Rattle.std.proofs.lemmas.List.{append-nil}
 use Rattle.tss_base.specs.declared.ending.Ending.{Ending}
 use Rattle.tss_base.specs.declared.ending.Ending.TheVariants as ending
@@ -14,8 +14,8 @@ use Rattle.tss_run.specs.Words.{Command, command_of}
 use Rattle.tss_run.specs.Reading.{Reading, found_on, names_read, ComesTo}
 use Rattle.tss_run.specs.Work.{Addition, Deed, Outcome, work_of, outcome_of, appended_by}
 use Rattle.tss_run.specs.Answer.{ending_status, report_status, refusal_status, status_of}
-use Rattle.tss_run.specs.Outcomes.{FilesSeen, FailedToRead, FailedToAdd, KeepsFiles, AppendsAll, AppendsPart, AppendsPartTo, IsDone, IsOutcomeOf, IsDueTo}
-use Rattle.tss_run.specs.Call.{Call, Tells, found_by, expected_by, HasNoFault, IsComplete, AppendsExpected, AppendsPartly, ChangesNoFile, IsAnswered, TellsAll}
+use Rattle.tss_run.specs.Outcomes.{FilesSeen, FailedToRead, FailedToAdd, KeepsFiles, AppendsAll, AppendsPart, AppendsPartTo, IsDueTo}
+use Rattle.tss_run.specs.Call.{Call, Tells, found_by, expected_by, IsComplete, AppendsExpected, AppendsPartly, ChangesNoFile, IsAnswered, TellsAll}
 use Rattle.tss_run.proofs.ReadingLemmas.{follows, is_found}
 
 some_same : {X : Type 0} {x y : X} → Some x ≡ Some y → x ≡ y

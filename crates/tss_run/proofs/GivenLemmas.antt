@@ -7,7 +7,7 @@ use Rattle.tss_run.specs.Reading.{Reading, with_found, Finds, ComesTo}
 use Rattle.tss_run.specs.Words.{Names}
 use Rattle.tss_run.specs.Work.{Deed, Outcome, program_reading, schedule_reading}
 use Rattle.tss_run.proofs.ReadingLemmas.{stops_with, goes_on}
-use Rattle.tss_run.proofs.OutcomeLemmas.{read_before, read_after, only_reads_then, refused, ran_out, does}
+use Rattle.tss_run.proofs.OutcomeLemmas.{read_before, read_after, only_reads_then, refused, does}
 
 -- the reading of both, and what is then found
 abbrev pub given_reading : Names → List ℕ → (Program → List ℕ → Reading Deed) → Reading Deed

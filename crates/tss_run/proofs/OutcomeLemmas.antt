@@ -1,5 +1,5 @@
 -- Outcomes that are due, over files at three moments one after another.
-use Rattle.std.proofs.Common.{◌≡◌, ◌≢◌, Bool, true, false, cond, inl, inr, ℕ, ◌≤◌, List, [], ◌++◌, Option, Some, None, IfSome, unwrap_or, option_map, Result, Ok, Err, refl, sym, ap, ◌∙◌, subst, arith}
+use Rattle.std.proofs.Common.{◌≡◌, ◌≢◌, Bool, true, false, cond, inl, inr, ℕ, ◌≤◌, List, [], ◌++◌, Option, Some, None, unwrap_or, option_map, Result, Ok, Err, refl, sym, ap, ◌∙◌, subst, arith}
 use Rattle.std.specs.Prelude.{bytes_eq}
 use Rattle.std.proofs.lemmas.List.{append-nil}
 use Rattle.std.proofs.lemmas.Slice.Eq.{bytes_eq-Decides}
@@ -8,7 +8,7 @@ use Rattle.tss_unit_runs.specs.Runs.{PutsPart}
 use Rattle.tss_run.specs.declared.outcome.Refusal.{Refusal}
 use Rattle.tss_run.specs.declared.outcome.Refusal.TheVariants as refusal
 use Rattle.tss_run.specs.declared.command.Command as declared
-use Rattle.tss_run.specs.Outcomes.{FilesSeen, KeepsFiles, FailedToRead, FailedToAppend, OnlyReads, FailedToAdd, AppendsAll, AppendsPart, AppendsPartTo, IsDone, IsOutcomeOf, IsDueTo}
+use Rattle.tss_run.specs.Outcomes.{FilesSeen, KeepsFiles, FailedToRead, FailedToAppend, OnlyReads, FailedToAdd, AppendsAll, AppendsPart, AppendsPartTo, IsOutcomeOf, IsDueTo}
 use Rattle.tss_run.specs.Reading.{Reading, ComesTo}
 use Rattle.tss_run.specs.Words.{Command, command_meant}
 use Rattle.tss_run.specs.Work.{Deed, Outcome}

@@ -1,8 +1,8 @@
 -- From what is said of each file to what a reading comes to.
-use Rattle.std.proofs.Common.{◌≡◌, inl, inr, ℕ, suc, ◌≤◌, Bool, true, false, List, [], ◌∷◌, length, Option, Some, None, IfSome, Result, Ok, Err, IsErrAnd, All, Vec, Global, refl, sym, ap, ◌∙◌, subst, arith}
+use Rattle.std.proofs.Common.{◌≡◌, inl, inr, ℕ, suc, Bool, true, false, List, [], ◌∷◌, length, Option, Some, IfSome, Result, Ok, Err, IsErrAnd, All, Vec, Global, refl, sym, ap, ◌∙◌, subst, arith}
 use Rattle.std.specs.Prelude.{cond, nat_lt}
 use Rattle.std.specs.Option.{option_and_then}
-use Rattle.tss_outside.specs.Outside.{Held, risen}
+use Rattle.tss_outside.specs.Outside.{Held}
 use Rattle.tss_run.specs.declared.outcome.Input.{Input}
 use Rattle.tss_run.specs.declared.outcome.Refusal.{Refusal}
 use Rattle.tss_run.specs.declared.outcome.Refusal.TheVariants as refusal

@@ -1,22 +1,20 @@
 -- What is told of a run is the result of the state that its events leave.
-use Rattle.std.proofs.Common.{◌≡◌, inl, inr, ℕ, ◌<◌, List, Option, Some, None, IfOk, IfSome, Result, Ok, Err, refl, sym, ap, ◌∙◌, subst, arith, false}
+use Rattle.std.proofs.Common.{◌≡◌, inl, inr, ℕ, ◌<◌, List, Option, Some, None, IfOk, Result, Ok, Err, refl, sym, ap, ◌∙◌, subst, false}
 use Rattle.tss_base.specs.declared.bounds.TheConstants.{IMAGE_FILE_BYTES}
-use Rattle.tss_base.specs.declared.counts.Peaks.{Peaks}
 use Rattle.tss_base.specs.declared.ending.Ending.{Ending}
 use Rattle.tss_base.specs.declared.ending.Ending.TheVariants as ending
 use Rattle.tss_base.specs.declared.event.Event.{Event}
-use Rattle.tss_base.specs.declared.machine.Machine.{Machine}
 use Rattle.tss_base.specs.Image.{ImageState, IsAccepted}
 use Rattle.tss_elf.specs.Elf.{Verdict, Refused, Accepted, IfAccepted, image_of}
 use Rattle.tss_elf.proofs.Verdicts.{image_is_accepted}
 use Rattle.tss_machine.specs.SelfMachine.{self_machine}
-use Rattle.tss_model.specs.InOrder.{ReferenceState, in_order}
+use Rattle.tss_model.specs.InOrder.{in_order}
 use Rattle.tss_model.specs.Memory.{Memory, loaded}
 use Rattle.tss_outside.specs.Outside.{AppendsWhereTold}
-use Rattle.tss_program_order.specs.Refinement.{is_task_trap, reference_result, HasReferenceResult}
+use Rattle.tss_program_order.specs.Refinement.{is_task_trap, reference_result}
 use Rattle.tss_protocol.specs.Counts.{peaks_of, sizes_of}
 use Rattle.tss_protocol.specs.Schedule.{LogFault, judged}
-use Rattle.tss_protocol.specs.State.{State, initial_state}
+use Rattle.tss_protocol.specs.State.{initial_state}
 use Rattle.tss_report.specs.MemoryDigest.{digest_of}
 use Rattle.tss_unit_runs.specs.Finished.{IsWholeRun, HasMemory}
 use Rattle.tss_unit_runs.specs.Runs.{run_of}
@@ -28,13 +26,13 @@ use Rattle.tss_run.specs.declared.outcome.Program.{Program}
 use Rattle.tss_run.specs.declared.outcome.Refusal.{Refusal}
 use Rattle.tss_run.specs.declared.outcome.Refusal.TheVariants as refusal
 use Rattle.tss_run.specs.declared.outcome.Report.TheVariants as report
-use Rattle.tss_run.specs.Answer.{ending_status, report_status, status_of, finished_text, text_of_report, text_of}
+use Rattle.tss_run.specs.Answer.{report_status, status_of, finished_text, text_of_report, text_of}
 use Rattle.tss_run.specs.Call.{Call, Tells}
 use Rattle.tss_run.specs.Outcomes.{FailedToRead, IsDueTo}
-use Rattle.tss_run.specs.Reading.{Found, Finds, ComesTo}
+use Rattle.tss_run.specs.Reading.{Found, Finds}
 use Rattle.tss_run.specs.RunStates.{state_report, workload_report, TellsState, TellsItsState, IsOfItsState}
 use Rattle.tss_run.specs.Words.{Command, Names, RunSeeded, RunLogged, RunGiven, StateGiven, InOrder, Workload, Migrate, command_of}
-use Rattle.tss_run.specs.Work.{Deed, Outcome, image_answer, accepted_image, program_of, machine_reading, image_reading, image_under, program_reading, schedule_reading, drawn, seeded_deed, seeded_found, logged_deed, logged_found, given_deed, given_answer, given_found, given_under, workload_deed, work_of, IsSoundReport, HasMachine}
+use Rattle.tss_run.specs.Work.{Deed, Outcome, image_answer, accepted_image, program_of, machine_reading, image_reading, image_under, program_reading, schedule_reading, drawn, seeded_found, logged_found, given_deed, given_answer, given_found, given_under, work_of, IsSoundReport, HasMachine}
 use Rattle.tss_run.proofs.CallLemmas.{if_told, eight_above, not_below, refusal_above}
 use Rattle.tss_run.proofs.ReadingLemmas.{parts_found, file_found}
 use Rattle.tss_run.proofs.ReportLemmas.{same_report}

@@ -1,6 +1,6 @@
 -- What is claimed of a call of the program: its words, what the files and the sink tell before and after it, and its
 -- status.
-use Rattle.std.specs.Prelude.{◌≡◌, ◌≢◌, ◌⊎◌, ◌<◌, ◌≤◌, ℕ, List, Option, Some, None, Result, IfSome, All, option_map}
+use Rattle.std.specs.Prelude.{◌≡◌, ◌≢◌, ◌⊎◌, ◌<◌, ◌≤◌, ℕ, List, Option, Some, None, Result, IfSome, All}
 use Rattle.std.proofs.Common.{String, Global}
 use Rattle.tss_outside.specs.declared.files.Files.{Ghosts as FilesMeaning}
 use Rattle.tss_outside.specs.declared.sink.Sink.{Ghosts as SinkMeaning}

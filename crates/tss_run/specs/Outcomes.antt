@@ -4,7 +4,6 @@ use Rattle.tss_outside.specs.declared.files.Files.{Ghosts as FilesMeaning}
 use Rattle.tss_outside.specs.Outside.{Held, Rose, IsPrefix, AppendsTo, SameOthers}
 use Rattle.tss_run.specs.declared.outcome.Refusal.{Refusal}
 use Rattle.tss_run.specs.declared.outcome.Refusal.TheVariants as refusal
-use Rattle.tss_run.specs.declared.outcome.Report.{Report}
 use Rattle.tss_run.specs.Reading.{Reading, ComesTo}
 use Rattle.tss_run.specs.Words.{Command}
 use Rattle.tss_run.specs.Work.{Addition, Deed, Outcome, work_of}

@@ -1,6 +1,6 @@
 -- That what is told of a run is the result of the state of the unit machine that the run's own events leave; and all that
 -- is claimed of a call.
-use Rattle.std.specs.Prelude.{◌≡◌, ◌<◌, ℕ, List, Option, Some, Ok, IfSome}
+use Rattle.std.specs.Prelude.{◌≡◌, ◌<◌, ℕ, List, Some, Ok, IfSome}
 use Rattle.tss_base.specs.declared.event.Event.{Event}
 use Rattle.tss_base.specs.declared.machine.Machine.{Machine}
 use Rattle.tss_base.specs.Image.{ImageState}
@@ -21,7 +21,7 @@ use Rattle.tss_run.specs.declared.outcome.Program.{Program}
 use Rattle.tss_run.specs.declared.statuses.TheConstants.{BAD_IMAGE}
 use Rattle.tss_run.specs.Answer.{ending_status}
 use Rattle.tss_run.specs.Call.{Call, IsAnswered, IsComplete, AppendsExpected, AppendsPartly, ChangesNoFile}
-use Rattle.tss_run.specs.Outcomes.{FilesSeen, FailedToRead}
+use Rattle.tss_run.specs.Outcomes.{FailedToRead}
 use Rattle.tss_run.specs.Reading.{Reading, ComesTo}
 use Rattle.tss_run.specs.Words.{Command, Names, RunSeeded, RunLogged, RunGiven, StateGiven, InOrder, Workload, Migrate, command_of}
 use Rattle.tss_run.specs.Work.{program_reading, schedule_reading, drawn}

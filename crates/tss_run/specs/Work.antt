@@ -27,7 +27,7 @@ use Rattle.tss_run.specs.declared.outcome.Report.TheVariants as report
 use Rattle.tss_run.specs.declared.outcome.Program.{Program}
 use Rattle.tss_run.specs.MachineCheck.{BadMachineState, bad_machine_of}
 use Rattle.tss_run.specs.Reading.{Reading, Found, with_found, file_reading, within}
-use Rattle.tss_run.specs.Words.{Names, LogNames, Command, RunSeeded, RunLogged, RunGiven, StateGiven, InOrder, Workload, Migrate}
+use Rattle.tss_run.specs.Words.{Names, Command, RunSeeded, RunLogged, RunGiven, StateGiven, InOrder, Workload, Migrate}
 
 -- ---- what the bytes of a file come to
 

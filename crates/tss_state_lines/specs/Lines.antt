@@ -1,5 +1,5 @@
 -- The lines of the state text, one function for each kind.
-use Rattle.std.specs.Prelude.{ℕ, ◌==◌, Bool, true, false, if◌then◌else◌, List, [], ◌∷◌, ◌++◌, take, Option, Some, None, is_some, codes, decimal}
+use Rattle.std.specs.Prelude.{ℕ, ◌==◌, Bool, true, false, if◌then◌else◌, List, [], ◌∷◌, ◌++◌, Option, Some, None, codes, decimal}
 use Rattle.hex.specs.Hex.{encode_lower}
 use Rattle.tss_base.specs.declared.addresses.TheConstants.{END_PC}
 use Rattle.tss_base.specs.declared.range.Range.{Range}
@@ -9,12 +9,12 @@ use Rattle.tss_base.specs.declared.marks.Stage.{Stage}
 use Rattle.tss_model.specs.Registers.{Registers}
 use Rattle.tss_model.specs.MainStep.{Piece}
 use Rattle.tss_protocol.specs.Gateway.{HeldTask}
-use Rattle.tss_protocol.specs.Mail.{StorageName, Source, OpenContents, ReleaseContents, IdleContents, GoneContents, Message, name_of}
+use Rattle.tss_protocol.specs.Mail.{Message, name_of}
 use Rattle.tss_protocol.specs.Mail as mail
-use Rattle.tss_protocol.specs.State.{OperandState, Busy, Entry, Version, CopyState, HeldTrap}
+use Rattle.tss_protocol.specs.State.{OperandState, Entry, Version, HeldTrap}
 use Rattle.tss_protocol.specs.Text.{name_text, event_text}
 use Rattle.tss_report.specs.Digits.{hex_word}
-use Rattle.tss_state_lines.specs.Words.{line, optional, object_words, mode_word, operand_words, storage_word, stage_word, source_words, link_word, farewell_word, follow_words, produced_word, retiring_word, ended_word, register_words}
+use Rattle.tss_state_lines.specs.Words.{line, optional, object_words, operand_words, storage_word, stage_word, source_words, link_word, farewell_word, follow_words, produced_word, retiring_word, ended_word, register_words}
 
 -- ---- main
 

@@ -1,11 +1,9 @@
 -- The state text: which lines it has, from the machine's description and the state alone, and their order.
-use Rattle.std.specs.Prelude.{ℕ, suc, ◌+◌, ◌*◌, ◌/◌, ◌==◌, Bool, true, false, if◌then◌else◌, List, [], ◌∷◌, ◌++◌, length, take, drop, find, Option, Some, None, is_some, option_map, option_and_then}
+use Rattle.std.specs.Prelude.{ℕ, suc, ◌+◌, ◌*◌, ◌/◌, ◌==◌, Bool, true, false, if◌then◌else◌, List, [], ◌∷◌, ◌++◌, length, take, drop, Option, Some, None, is_some, option_map, option_and_then}
 use Rattle.std.specs.List.{flat_map, list_all, range_with_len}
-use Rattle.std.specs.declared.cmp.Ordering.{Ordering}
-use Rattle.std.specs.FinMap.{FinMap, get, entries, keys}
+use Rattle.std.specs.FinMap.{get, entries, keys}
 use Rattle.tss_base.specs.declared.range.Range.{Range}
 use Rattle.tss_base.specs.declared.operand.OpName.{OpName}
-use Rattle.tss_base.specs.declared.operand.Task.{Task}
 use Rattle.tss_base.specs.declared.ending.Ending.{Ending}
 use Rattle.tss_base.specs.declared.machine.Machine.{Machine}
 use Rattle.tss_base.specs.declared.machine.Sizes.{Sizes}
@@ -13,9 +11,9 @@ use Rattle.tss_base.specs.Names.{Named, Numbered}
 use Rattle.tss_banks.specs.Collected.{collected}
 use Rattle.tss_model.specs.Memory.{Memory, scratch_range}
 use Rattle.tss_protocol.specs.Names.{bank_of, operand_name, same_name}
-use Rattle.tss_protocol.specs.Mail.{StorageName, Home, Buffer, OpenContents, GoneContents, Mail, Message, message_at, message_names}
+use Rattle.tss_protocol.specs.Mail.{StorageName, Home, Buffer, OpenContents, GoneContents, message_at, message_names}
 use Rattle.tss_protocol.specs.Gateway.{held_tasks}
-use Rattle.tss_protocol.specs.State.{State, OperandState, Flying, Busy, Entry, Version, CopyState, HeldTrap}
+use Rattle.tss_protocol.specs.State.{State, OperandState, Flying, Busy, Entry, Version, CopyState}
 use Rattle.tss_protocol.specs.UnitMachine.{enabled_events}
 use Rattle.tss_report.specs.Report.{ending_text}
 use Rattle.tss_report.specs.Rows.{changed_text, row_len}

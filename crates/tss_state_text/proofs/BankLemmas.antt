@@ -1,12 +1,11 @@
 -- The parts of a state that stand in one bank, as the readers have them.
 use Rattle.std.proofs.Common.{◌≡◌, ℕ, true, false, Bool, length, Option, Some, None, refl, sym, ap, ◌∙◌}
-use Rattle.std.specs.Prelude.{◌==◌, map, option_map, slice_get, option_and_then}
+use Rattle.std.specs.Prelude.{◌==◌, option_map, slice_get, option_and_then}
 use Rattle.std.specs.FinMap.{FinMap, get, entries, keys, len, len-entries}
 use Rattle.std.specs.declared.cmp.Ordering.{Ordering}
 use Rattle.std.proofs.lemmas.List.{length-map}
 use Rattle.tss_base.specs.declared.machine.Sizes.{Sizes}
 use Rattle.tss_base.specs.Names.{Named, Numbered}
-use Rattle.tss_maps.specs.Ordered.{key_at}
 use Rattle.tss_maps.proofs.Keys.{IsKeyOrder}
 use Rattle.tss_maps.proofs.OrderedLemmas.{key_at-entries, get_from_place}
 use Rattle.tss_banks.specs.Collected.{collected}

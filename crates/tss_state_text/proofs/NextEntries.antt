@@ -1,19 +1,18 @@
 -- The entry of a map of versions that comes next after a name, and the entries that are left from one on.
-use Rattle.std.proofs.Common.{◌≡◌, ◌≢◌, ℕ, zero, suc, ◌+◌, ◌<◌, ◌≤◌, Bool, true, false, cond, List, [], ◌∷◌, length, map, drop, Option, Some, None, refl, sym, ap, ◌∙◌, inl, inr, ◌⊎◌, arith}
+use Rattle.std.proofs.Common.{◌≡◌, ℕ, zero, suc, ◌+◌, ◌<◌, ◌≤◌, Bool, true, false, cond, List, [], ◌∷◌, drop, Option, Some, None, refl, sym, ap, ◌∙◌, inl, inr, ◌⊎◌, arith}
 use Rattle.std.specs.Prelude.{not, filter, find, slice_get, option_map}
 use Rattle.std.specs.Ordering.{is_lt}
 use Rattle.std.specs.declared.cmp.Ordering.{Ordering}
 use Rattle.std.specs.declared.cmp.Ordering.TheVariants.{Less, Equal, Greater}
 use Rattle.std.specs.Cmp.{tied_itself}
-use Rattle.std.specs.FinMap.{get, entries, keys, entries_sorted}
-use Rattle.std.proofs.lemmas.Option.{none-some, same_Some, slice_get_within, slice_get-map, get_or_from_slice_get}
+use Rattle.std.specs.FinMap.{get, entries, entries_sorted}
+use Rattle.std.proofs.lemmas.Option.{none-some, same_Some, slice_get_within, get_or_from_slice_get}
 use Rattle.std.proofs.lemmas.List.{drop_more}
 use Rattle.tss_base.specs.declared.operand.OpName.{OpName}
 use Rattle.tss_base.specs.Names.{Named, name_cmp}
-use Rattle.tss_maps.specs.Ordered.{key_at, least_above}
 use Rattle.tss_maps.proofs.Keys.{name_order, compare_keys, turned, below_from_less, nat_order}
 use Rattle.tss_maps.proofs.Places.{find_there, find_nowhere, find_first, rising}
-use Rattle.tss_maps.proofs.OrderedLemmas.{get_from_place, place_from_get, key_at-entries, keys_rise}
+use Rattle.tss_maps.proofs.OrderedLemmas.{get_from_place, place_from_get}
 use Rattle.tss_protocol.specs.State.{Version}
 use Rattle.tss_state_text.specs.Versions.{is_above, next_entry}
 

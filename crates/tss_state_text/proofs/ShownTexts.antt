@@ -1,5 +1,5 @@
 -- The texts of what readers show, by what is there.
-use Rattle.std.proofs.Common.{◌≡◌, ℕ, List, [], Option, Some, None, Result, Ok, refl, sym, ap, ◌∙◌}
+use Rattle.std.proofs.Common.{◌≡◌, ℕ, List, [], Option, Some, None, Ok, refl, sym, ap, ◌∙◌}
 use Rattle.std.specs.Prelude.{option_map, option_and_then, slice_get}
 use Rattle.std.specs.FinMap.{get, entries, keys}
 use Rattle.std.proofs.lemmas.Option.{none-some, same_Some}
@@ -10,7 +10,6 @@ use Rattle.tss_base.specs.Names.{Named, Numbered}
 use Rattle.tss_maps.specs.Ordered.{key_at}
 use Rattle.tss_maps.proofs.Keys.{nat_order, name_order}
 use Rattle.tss_maps.proofs.OrderedLemmas.{key_there}
-use Rattle.tss_outside.specs.declared.files.Failed.{Failed}
 use Rattle.tss_outside.specs.declared.sink.Sink.{Ghosts}
 use Rattle.tss_protocol.specs.State.{Entry, CopyState}
 use Rattle.tss_renaming.specs.declared.entry_view.EntryView.{EntryView}

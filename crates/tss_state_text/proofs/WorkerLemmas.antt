@@ -1,9 +1,8 @@
 -- The lines of a busy worker.
-use Rattle.std.proofs.Common.{◌≡◌, ℕ, List, ◌++◌, Option, Some, None, refl, sym, ap, ◌∙◌}
-use Rattle.std.specs.Prelude.{is_some, option_map}
+use Rattle.std.proofs.Common.{◌≡◌, ℕ, Option, Some, None, refl, sym, ap, ◌∙◌}
+use Rattle.std.specs.Prelude.{option_map}
 use Rattle.std.proofs.lemmas.Option.{none-some, same_Some}
 use Rattle.tss_base.specs.declared.ending.Trap.{Trap}
-use Rattle.tss_model.specs.Registers.{Registers}
 use Rattle.tss_protocol.specs.State.{Busy}
 
 -- what is shown of a worker's task

@@ -1,5 +1,5 @@
 -- The items of each part of the state text, and the rows of each table of a bank.
-use Rattle.std.specs.Prelude.{ℕ, List, [], length, slice_get, is_some}
+use Rattle.std.specs.Prelude.{ℕ, List, length, slice_get, is_some}
 use Rattle.std.specs.List.{flat_map}
 use Rattle.std.specs.FinMap.{get, entries, keys, len}
 use Rattle.tss_base.specs.declared.machine.Machine.{Machine}

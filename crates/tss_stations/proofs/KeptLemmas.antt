@@ -1,5 +1,5 @@
 -- What the calls leave of the facts of the slots: a slot more, one less, and one that is written.
-use Rattle.std.proofs.Common.{◌≡◌, ◌≢◌, ℕ, suc, ◌+◌, ◌-◌, ◌*◌, ◌<◌, ◌≤◌, Bool, true, false, List, length, get_or, set, Option, Some, None, refl, sym, ap, subst, ◌∙◌, inl, inr, arith}
+use Rattle.std.proofs.Common.{◌≡◌, ◌≢◌, ℕ, ◌+◌, ◌-◌, ◌*◌, ◌<◌, ◌≤◌, Bool, true, false, List, length, get_or, set, Some, None, refl, sym, ap, ◌∙◌, inl, inr, arith}
 use Rattle.std.specs.Prelude.{◌==◌, nat_lt, IsTrue}
 use Rattle.std.specs.Ordering.{nat_cmp}
 use Rattle.std.specs.FinMap.{get, insert, remove, len, empty}
@@ -11,7 +11,6 @@ use Rattle.tss_base.specs.declared.bounds.TheConstants.{MAX_STATIONS}
 use Rattle.tss_base.specs.declared.machine.Key.TheVariants as key
 use Rattle.tss_base.specs.declared.machine.Sizes.{Sizes}
 use Rattle.tss_base.specs.Machine.{IsInRange}
-use Rattle.tss_base.specs.Names.{Numbered}
 use Rattle.tss_maps.specs.Sums.{one_if}
 use Rattle.tss_maps.proofs.Keys.{nat_order, decide_key}
 use Rattle.tss_maps.proofs.Entries.{len_added}

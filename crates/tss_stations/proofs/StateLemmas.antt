@@ -1,6 +1,6 @@
 -- What the calls that a row makes leave together.
 use Rattle.std.proofs.Common.{◌≡◌, ℕ, zero, suc, Bool, true, false, List, [], ◌∷◌, Option, Some, None, refl, sym, ap, ◌∙◌, option_map, length, arith, Bor}
-use Rattle.std.specs.Prelude.{◌==◌, map, take, is_some, option_and_then}
+use Rattle.std.specs.Prelude.{◌==◌, map, take, is_some}
 use Rattle.std.proofs.lemmas.Bool.Decides.{nat_tests}
 use Rattle.std.proofs.lemmas.Option.{none-some}
 use Rattle.std.proofs.lemmas.List.{length-map}
@@ -14,14 +14,14 @@ use Rattle.tss_base.specs.declared.marks.Stage.TheVariants as stage
 use Rattle.tss_base.specs.Names.{Numbered}
 use Rattle.tss_maps.proofs.Keys.{nat_order}
 use Rattle.tss_maps.proofs.Changes.{at_inserted}
-use Rattle.tss_maps.proofs.MappedLemmas.{get-mapped, mapped-insert}
+use Rattle.tss_maps.proofs.MappedLemmas.{get-mapped}
 use Rattle.tss_model.specs.Access.{operands_of}
 use Rattle.tss_protocol.specs.State.{Flying}
 use Rattle.tss_protocol.specs.Stations.{new_operand, entered, first_stage, is_complete, after_ready}
 use Rattle.tss_events.specs.Events.{source_of}
 use Rattle.tss_stations.specs.declared.operand_view.OperandView.{OperandView}
 use Rattle.tss_stations.specs.declared.slot.Slot.{Slot}
-use Rattle.tss_stations.specs.Views.{state_of, views_of, flying_of, flight_of, view_at, view_in, with_view, new_view, new_slot, told_view, linked_view, parted_view}
+use Rattle.tss_stations.specs.Views.{state_of, views_of, flying_of, flight_of, view_in, with_view, new_view, new_slot, told_view, linked_view, parted_view}
 use Rattle.tss_stations.specs.Slots.{StationsState, awaited_slot, remaining_slots, slots_after_ready, slots_after_link, slots_after_bye, start_in, slots_after_start, finish_in, slots_after_finish}
 use Rattle.tss_stations.specs.Reading.{shown, found_in}
 use Rattle.tss_stations.proofs.ViewLemmas.{view_found}

@@ -1,5 +1,5 @@
 -- What slots know, as the definitions read it.
-use Rattle.std.proofs.Common.{◌≡◌, ℕ, ◌<◌, Bool, true, false, List, length, Option, Some, None, refl, sym, ap, ◌∙◌, arith, option_map}
+use Rattle.std.proofs.Common.{◌≡◌, ℕ, ◌<◌, Bool, true, false, length, Option, Some, None, refl, sym, ap, ◌∙◌, arith, option_map}
 use Rattle.std.specs.Prelude.{map, slice_get, ◌==◌, if◌then◌else◌, option_and_then}
 use Rattle.std.specs.FinMap.{get, insert, remove}
 use Rattle.std.proofs.Math.Seq.{take-set-lt}

@@ -26,8 +26,6 @@ use Rattle.tss_locality.proofs.RunRounds.{IsRounded-after_event}
 use Rattle.tss_control.specs.Members.{operand_among}
 use Rattle.tss_names.specs.Tasks.{task_at, with_spawned, spawned_by_main, spawned_after_event}
 use Rattle.tss_program_order.specs.MainInOrder.{FollowsInOrder, IsCutOff, steps_taken, flat_beside, started_next, inbox_with}
-use Rattle.tss_control.specs.Readers.{Arrivals}
-use Rattle.tss_control.specs.Control.{HasGroundwork}
 use Rattle.tss_program_order.proofs.FlatNames.{Has}
 use Rattle.tss_program_order.proofs.FlatNumbers.{numbers_rise, spawned_rises, step_one}
 use Rattle.tss_program_order.proofs.FlatOrder.{steps_taken-on, flat_stepped-ended, started_at-by, trapped_next, trapped_after}

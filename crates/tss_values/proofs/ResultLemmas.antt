@@ -1,12 +1,10 @@
 -- A finished state has the result of program order, where its values are those of program order.
-use Rattle.std.proofs.Common.{◌≡◌, ◌≢◌, ℕ, suc, ◌+◌, ◌<◌, ◌≤◌, true, false, ◌&&◌, ◌||◌, cond, List, Option, Some, None, refl, sym, ap, ◌∙◌, subst, inl, inr, arith, true≢false}
-use Rattle.std.specs.Prelude.{◌-◌, ◌==◌, is_some, is_none, nat_lt, length}
+use Rattle.std.proofs.Common.{◌≡◌, ◌≢◌, ℕ, suc, ◌+◌, ◌<◌, ◌≤◌, true, ◌&&◌, ◌||◌, cond, List, Option, Some, None, refl, sym, ap, ◌∙◌, subst, inl, inr, arith, true≢false}
+use Rattle.std.specs.Prelude.{◌-◌, ◌==◌, is_some, is_none, length}
 use Rattle.std.specs.FinMap.{get, len}
 use Rattle.std.proofs.lemmas.Bool.{and_parts, cases_order}
 use Rattle.std.proofs.lemmas.Bool.Decides.{nat_tests}
 use Rattle.std.proofs.lemmas.Option.{none-some, same_Some}
-use Rattle.tss_base.specs.declared.operand.OpName.{OpName}
-use Rattle.tss_base.specs.declared.operand.Operand.{Operand}
 use Rattle.tss_base.specs.declared.operand.Task.{Task}
 use Rattle.tss_base.specs.declared.ending.Trap.{Trap}
 use Rattle.tss_base.specs.declared.ending.Ending.{Ending}
@@ -23,21 +21,14 @@ use Rattle.tss_protocol.specs.Mail.{is_silent}
 use Rattle.tss_protocol.specs.Gateway.{is_idle}
 use Rattle.tss_protocol.specs.MainEvent.{is_drained, has_no_task, has_no_object}
 use Rattle.tss_protocol.specs.Result.{RunResult, IsFinished, ending_by, tasks_by, tasks_of, printed_of, pieces_by, result_with, result_of}
-use Rattle.tss_phases.specs.Phase.{phase_of, is_decoded, look_ups, inbox_has}
-use Rattle.tss_phases.proofs.OrderlyLemmas.{left_by_absence}
-use Rattle.tss_locality.proofs.Flights.{record_in}
-use Rattle.tss_control.specs.Members.{operand_among}
 use Rattle.tss_names.specs.Tasks.{taken_by, IsTaken}
-use Rattle.tss_control.specs.Readers.{Arrivals}
 use Rattle.tss_program_order.specs.Refinement.{HasReferenceResult, is_task_trap}
 use Rattle.tss_program_order.specs.MainInOrder.{flat_beside, steps_taken, FollowsInOrder, IsCutOff}
-use Rattle.tss_control.specs.Control.{HasGroundwork, IsControlled}
 use Rattle.tss_program_order.proofs.FlatOrder.{flat_stepped-ranges, flat_stepped-ended, started_at-by, trapped_next, trapped_after}
 use Rattle.tss_program_order.proofs.FlatStarts.{started-number}
 use Rattle.tss_program_order.proofs.FlatNumbers.{number_there, numbers_rise, HasNumber}
 use Rattle.tss_program_order.proofs.MainFollows.{follows_to_end}
 use Rattle.tss_program_order.proofs.RunKeeps.{HasGround}
-use Rattle.tss_control.proofs.rounds.Spawned.{of_spawned}
 use Rattle.tss_control.proofs.GroundworkEmpty.{IsBare, IsBare-drained}
 use Rattle.tss_values.proofs.Values.{Starts, HasHome, HasMain, IsUnfinished, HoldsTrapBy}
 use Rattle.tss_control.proofs.rounds.Facts.{Facts}

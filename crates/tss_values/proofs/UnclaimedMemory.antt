@@ -1,30 +1,18 @@
 -- An address that the test finds claimed by nobody lies in no object that is claimed.
-use Rattle.std.proofs.Common.{Ordering, ◌≡◌, inl, inr, ℕ, zero, suc, Bool, true, false, List, [], ◌∷◌, Option, Some, None, refl, sym, ap, ◌∙◌, arith, true≢false}
+use Rattle.std.proofs.Common.{Ordering, ◌≡◌, ℕ, zero, suc, Bool, true, false, List, [], ◌∷◌, Some, ap, ◌∙◌}
 use Rattle.std.specs.Prelude.{slice_get, option_map, ◌||◌}
 use Rattle.std.specs.List.{list_any}
 use Rattle.std.specs.FinMap.{FinMap, get, entries, values}
-use Rattle.std.proofs.lemmas.Bool.{or_parts, or_left, or_right, both_ways, eqb-true}
+use Rattle.std.proofs.lemmas.Bool.{or_parts, or_left, or_right, both_ways}
 use Rattle.std.proofs.lemmas.Option.{none-some, same_Some, slice_get-map}
-use Rattle.tss_base.specs.declared.range.Range.{Range}
-use Rattle.tss_base.specs.declared.operand.OpName.{OpName}
 use Rattle.tss_base.specs.declared.operand.Operand.{Operand}
-use Rattle.tss_base.specs.declared.operand.Task.{Task}
-use Rattle.tss_base.specs.declared.machine.Machine.{Machine}
 use Rattle.tss_maps.proofs.Keys.{IsKeyOrder, nat_order, name_order}
 use Rattle.tss_maps.proofs.OrderedLemmas.{place_from_get}
 use Rattle.tss_model.specs.Memory.{covers}
 use Rattle.tss_model.specs.Access.{operands_of}
 use Rattle.tss_protocol.specs.State.{State, Entry}
-use Rattle.tss_protocol.specs.Needs.{is_in_inbox}
-use Rattle.tss_phases.specs.Phase.{phase_of, is_decoded}
-use Rattle.tss_control.specs.Members.{operand_among}
-use Rattle.tss_names.specs.Tasks.{task_at}
-use Rattle.tss_control.specs.Readers.{Arrivals}
 use Rattle.tss_program_order.specs.Refinement.{inbox_claims, is_claimed}
-use Rattle.tss_control.specs.Control.{HasGroundwork, IsControlled}
-use Rattle.tss_values.proofs.UndecodedOperands.{undecoded}
-use Rattle.tss_control.proofs.rounds.Facts.{Facts}
-use Rattle.tss_values.proofs.Values.{IsInside, IsUnclaimed}
+use Rattle.tss_values.proofs.Values.{IsUnclaimed}
 use Rattle.tss_values.proofs.LiveObjects.{inside_covers}
 
 -- an element that passes a test is found

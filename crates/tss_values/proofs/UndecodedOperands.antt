@@ -1,6 +1,6 @@
 -- Single bytes of an object, and operands that aren't decoded: they are in the inbox, or their decode is under way, and
 -- come behind those on their object that are decoded.
-use Rattle.std.proofs.Common.{◌≡◌, ℕ, ◌+◌, ◌-◌, ◌<◌, ◌≤◌, ◌⊎◌, inl, inr, Bool, true, false, List, Option, Some, None, refl, sym, ap, ◌∙◌, arith, true≢false}
+use Rattle.std.proofs.Common.{◌≡◌, ℕ, ◌+◌, ◌-◌, ◌<◌, ◌≤◌, ◌⊎◌, inl, inr, Bool, true, false, Option, Some, None, refl, sym, ap, ◌∙◌, arith, true≢false}
 use Rattle.std.specs.Prelude.{is_some, unwrap_or, nat_lt, ◌||◌, get_or, slice_get}
 use Rattle.std.specs.FinMap.{get}
 use Rattle.std.proofs.lemmas.Bool.{cases_lt, cases_order, eqb-true}
@@ -19,7 +19,6 @@ use Rattle.tss_phases.specs.Phase.{inbox_has, is_ahead, look_ups, phase_of, is_d
 use Rattle.tss_phases.specs.Orderly.{AreOrderly}
 use Rattle.tss_control.specs.Members.{operand_among}
 use Rattle.tss_names.specs.Tasks.{IsUndecoded, task_at}
-use Rattle.tss_control.specs.Control.{HasGroundwork}
 use Rattle.tss_control.proofs.rounds.Spawned.{of_spawned}
 use Rattle.tss_control.proofs.rounds.EntriesQuiet.{decoded_from}
 use Rattle.tss_control.proofs.rounds.EntriesNames.{one_operand, decoded_apart}

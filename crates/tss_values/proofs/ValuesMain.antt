@@ -1,11 +1,9 @@
 -- Main stays in program order, and each task of program order is the one of its number that main has spawned.
-use Rattle.std.proofs.Common.{◌≡◌, ◌⊎◌, inl, inr, ℕ, suc, ◌+◌, ◌<◌, ◌≤◌, Bool, true, false, List, [], ◌∷◌, length, Option, Some, None, refl, sym, ap, subst, ◌∙◌, arith}
+use Rattle.std.proofs.Common.{◌≡◌, ◌⊎◌, inl, inr, ℕ, suc, ◌+◌, ◌<◌, Bool, true, false, List, [], ◌∷◌, length, Option, Some, None, refl, sym, ap, subst, ◌∙◌, arith}
 use Rattle.std.specs.Prelude.{cond, ◌==◌, nat_le}
 use Rattle.std.proofs.lemmas.Bool.{and_from, or_left, or_right, both_ways, cases_order, le-leb, lt-ltb, eqb-true}
 use Rattle.std.proofs.lemmas.Option.{none-some, same_Some}
 use Rattle.tss_base.specs.declared.range.Range.{Range}
-use Rattle.tss_base.specs.declared.operand.OpName.{OpName}
-use Rattle.tss_base.specs.declared.operand.Operand.{Operand}
 use Rattle.tss_base.specs.declared.operand.Task.{Task}
 use Rattle.tss_base.specs.declared.machine.Machine.{Machine}
 use Rattle.tss_base.specs.declared.event.Event.{Event}
@@ -19,11 +17,8 @@ use Rattle.tss_protocol.specs.State.{State}
 use Rattle.tss_protocol.specs.UnitMachine.{IsEnabled, after_event}
 use Rattle.tss_protocol.specs.MainEvent.{call_next}
 use Rattle.tss_locality.specs.Rounds.{IsIn}
-use Rattle.tss_control.specs.Members.{operand_among}
 use Rattle.tss_names.specs.Tasks.{task_at, spawned_by_main, spawned_after_event}
 use Rattle.tss_program_order.specs.MainInOrder.{MayLoad, FollowsInOrder, IsCutOff, flat_beside, started_next, inbox_with}
-use Rattle.tss_control.specs.Readers.{Arrivals}
-use Rattle.tss_control.specs.Control.{HasGroundwork}
 use Rattle.tss_program_order.proofs.FlatLoads.{byte_range, main_granted}
 use Rattle.tss_program_order.proofs.FlatNames.{Has, same_range-refl, covers-touch}
 use Rattle.tss_program_order.proofs.FlatNumbers.{one_place, numbers_rise}

@@ -1,27 +1,20 @@
 -- Main, and home where nobody claims it, follow program order in every run that has the values.
-use Rattle.std.proofs.Common.{◌≡◌, ◌⊎◌, inl, inr, ℕ, Bool, true, false, List, Some, None, refl, sym, ap, ◌∙◌, subst}
+use Rattle.std.proofs.Common.{◌≡◌, ◌⊎◌, inl, inr, ℕ, Bool, true, false, Some, None, refl, sym, ap, ◌∙◌, subst}
 use Rattle.std.specs.Prelude.{cond, ◌==◌, ◌&&◌}
 use Rattle.std.specs.FinMap.{get}
 use Rattle.std.proofs.lemmas.Bool.{eqb-true, cond-true, cond-false}
 use Rattle.std.proofs.lemmas.Option.{none-some, same_Some}
-use Rattle.tss_base.specs.declared.operand.Task.{Task}
 use Rattle.tss_base.specs.declared.machine.Limits.{Limits}
 use Rattle.tss_base.specs.declared.machine.Machine.{Machine}
 use Rattle.tss_base.specs.Image.{ImageState}
 use Rattle.tss_model.specs.Memory.{Memory, frozen}
 use Rattle.tss_model.specs.MainStep.{MainState, Flat}
 use Rattle.tss_model.specs.InOrder.{is_executed, flat_step, flat_stepped, main_after}
-use Rattle.tss_protocol.specs.State.{State, initial_state}
-use Rattle.tss_protocol.specs.Needs.{round_of}
+use Rattle.tss_protocol.specs.State.{State}
 use Rattle.tss_program_order.specs.MainInOrder.{flat_beside, IsCutOff}
-use Rattle.tss_control.specs.Readers.{Arrivals, arrivals_from, no_arrivals}
 use Rattle.tss_program_order.specs.Refinement.{FollowsMain, MainStateLaw}
-use Rattle.tss_names.specs.Tasks.{spawned_tasks}
-use Rattle.tss_control.specs.Control.{HasGroundwork, IsControlled}
 use Rattle.tss_program_order.proofs.FlatOrder.{main_after-is, flat_stepped-next}
 use Rattle.tss_program_order.proofs.FlatStill.{IsStill, same_ended, step_still}
-use Rattle.tss_control.proofs.GroundworkRuns.{HasGroundwork-Run}
-use Rattle.tss_control.proofs.GroundworkControl.{IsControlled-Run}
 use Rattle.tss_values.proofs.Values.{HasHome}
 use Rattle.tss_values.proofs.ValuesJoin.{HaveValues}
 use Rattle.tss_control.proofs.rounds.Facts.{Facts}

@@ -27,7 +27,7 @@ use Rattle.tss_versions.specs.declared.status.Site.{Site}
 use Rattle.tss_versions.specs.declared.status.Status.{Status}
 use Rattle.tss_versions.specs.Known.{storage_in, store_by, IsHeld, version_by, version_of, versions_of, first_status, behind_status}
 use Rattle.tss_versions.specs.Rows as rows
-use Rattle.tss_versions.specs.Rows.{row_of, sending_first, with_status, changed_kept, ready_by, settled_kept, opened_kept, first_kept, next_of, linked_kept, behind_kept, ready_beside, followed_kept, followed_at, kept_after_open, enlisted_kept, alone_kept, used_kept, used_by, kept_after_use, head_by, produced_kept, read_kept, leaving_kept, settling_after, kept_after_release, refused_kept, nacked_by, kept_after_nack}
+use Rattle.tss_versions.specs.Rows.{row_of, sending_first, with_status, changed_kept, ready_by, settled_kept, opened_kept, first_kept, linked_kept, behind_kept, ready_beside, followed_kept, enlisted_kept, alone_kept, used_kept, used_by, kept_after_use, head_by, produced_kept, read_kept, leaving_kept, settling_after, kept_after_release, refused_kept, nacked_by, kept_after_nack}
 use Rattle.tss_versions.specs.Conditions.{AreChained, MaySettle}
 use Rattle.tss_versions.proofs.RowLemmas.{get-versions_of, version_there, insert_row, change_row, ready_row, sending_row}
 use Rattle.tss_versions.proofs.SettleLemmas.{settled_row}

@@ -27,8 +27,6 @@ use Rattle.tss_control.proofs.rounds.EntryOf.{no_entry_at}
 use Rattle.tss_control.specs.Members.{operand_among, IsMember, registered_of, opening_reader, uses_of, total, NoWriterBetween}
 use Rattle.tss_control.specs.Chains.{IsFollowed, OpensAfter, IsOpenInOrder, IsUseInOrder, HasChains, FollowsAs}
 use Rattle.tss_control.specs.Entries.{IsLive}
-use Rattle.tss_control.specs.Readers.{Arrivals}
-use Rattle.tss_control.specs.Control.{HasGroundwork, IsControlled}
 use Rattle.tss_control.proofs.chains.Numbers.{crossed}
 use Rattle.tss_control.proofs.rounds.EntriesNames.{decode_among, no_version, no_open, no_use, object_of_entry}
 use Rattle.tss_control.proofs.rounds.EntriesDecodeOpen.{DecodesOpen}

@@ -1,12 +1,11 @@
 -- The chains after an open.
-use Rattle.std.proofs.Common.{◌≡◌, ◌≢◌, ◌≤◌, true, List, Option, Some, None, refl, sym, ap, ◌∙◌, subst, inl, inr, true≢false}
+use Rattle.std.proofs.Common.{◌≡◌, ◌≢◌, ◌≤◌, true, Option, Some, None, refl, sym, ap, ◌∙◌, subst, inl, inr, true≢false}
 use Rattle.std.specs.Prelude.{is_some}
 use Rattle.std.specs.FinMap.{get, remove}
 use Rattle.std.proofs.lemmas.Option.{none-some, same_Some}
 use Rattle.tss_base.specs.declared.operand.OpName.{OpName}
 use Rattle.tss_base.specs.declared.operand.Mode.{Mode}
 use Rattle.tss_base.specs.declared.operand.Mode.TheVariants.{Input, Output, Inout}
-use Rattle.tss_base.specs.declared.operand.Task.{Task}
 use Rattle.tss_base.specs.declared.machine.Machine.{Machine}
 use Rattle.tss_base.specs.declared.event.Event.TheVariants as event
 use Rattle.tss_base.specs.declared.marks.How.{How}
@@ -22,8 +21,6 @@ use Rattle.tss_protocol.specs.UnitMachine.{IsEnabled, is_enabled, can_open_messa
 use Rattle.tss_control.specs.Members.{first_reader}
 use Rattle.tss_control.specs.Chains.{HasChains}
 use Rattle.tss_protocol.specs.Settled.{IsSettled}
-use Rattle.tss_control.specs.Readers.{Arrivals}
-use Rattle.tss_control.specs.Control.{HasGroundwork, IsControlled}
 use Rattle.tss_protocol.proofs.SentLemmas.{posted_all-later, after_open-later}
 use Rattle.tss_protocol.proofs.SettleCases.{OthersSettled, at_changed, beside_changed}
 use Rattle.tss_control.proofs.chains.Settled.{HasChains-settled}

@@ -18,7 +18,7 @@ use Rattle.tss_control.specs.Chains.{HasChains}
 use Rattle.tss_control.specs.Entries.{HasRetirement}
 use Rattle.tss_control.specs.Readers.{Arrivals}
 use Rattle.tss_control.specs.Holders.{IsOwnOrRead}
-use Rattle.tss_control.specs.Control.{HasGroundwork, IsControlled}
+use Rattle.tss_control.specs.Control.{IsControlled}
 use Rattle.tss_protocol.proofs.SentLemmas.{posted_all-later, after_release-later, after_nack-later}
 use Rattle.tss_protocol.proofs.SettleCases.{OthersSettled}
 use Rattle.tss_control.proofs.chains.Alike.{AreAlike}

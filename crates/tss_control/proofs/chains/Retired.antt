@@ -9,7 +9,7 @@ use Rattle.tss_base.specs.declared.machine.Machine.{Machine}
 use Rattle.tss_base.specs.declared.event.Event.TheVariants as event
 use Rattle.tss_base.specs.declared.marks.Follow.{Follow}
 use Rattle.tss_maps.proofs.Keys.{name_order}
-use Rattle.tss_maps.proofs.Changes.{beside_removed, from_removed, decide_get}
+use Rattle.tss_maps.proofs.Changes.{beside_removed, from_removed}
 use Rattle.tss_protocol.specs.Mail.{OpenContents, taken}
 use Rattle.tss_protocol.specs.State.{State, Entry, Version}
 use Rattle.tss_protocol.specs.Buffers.{sent_by_retire}
@@ -18,8 +18,6 @@ use Rattle.tss_control.proofs.rounds.EntryOf.{decide_entry_of}
 use Rattle.tss_control.specs.Members.{IsVersionOf, IsOpenOf, IsMember, registered_of, opening_reader, uses_of, total}
 use Rattle.tss_control.specs.Chains.{IsAfter, IsFollowed, IsLinked, IsOver, HasStorage, IsOpenInOrder, IsUseInOrder, HasChains}
 use Rattle.tss_control.specs.Entries.{HasEntryOf, IsUsed, IsRetiring, IsLastVersion}
-use Rattle.tss_control.specs.Readers.{Arrivals}
-use Rattle.tss_control.specs.Control.{HasGroundwork, IsControlled}
 use Rattle.tss_protocol.proofs.SentLemmas.{posted_all-later, sent_by_retire-later}
 use Rattle.tss_control.proofs.chains.Alike.{object_of_member}
 use Rattle.tss_control.proofs.chains.Frames.{HasChains-same}

@@ -17,8 +17,6 @@ use Rattle.tss_phases.proofs.Tests.{not_both}
 use Rattle.tss_control.proofs.rounds.EntryOf.{entry_of_new, entry_of_still}
 use Rattle.tss_control.specs.Members.{operand_among, IsWriterOn, IsVersionOf, IsOpenOf, IsMember, registered_of, opening_reader, uses_of, total}
 use Rattle.tss_control.specs.Entries.{HasEntryOf, IsGoingHome, IsLeaving, IsUsed, IsAbsent, IsLive, IsLastVersion, IsRetiring, HasEntries}
-use Rattle.tss_control.specs.Readers.{Arrivals}
-use Rattle.tss_control.specs.Control.{HasGroundwork, IsControlled}
 use Rattle.tss_control.proofs.rounds.EntriesFrames.{DecodesNoMore}
 use Rattle.tss_control.proofs.entries.OfVersions.{entry_awake_of, released_within, registered_within}
 use Rattle.tss_control.proofs.rounds.Facts.{Facts}

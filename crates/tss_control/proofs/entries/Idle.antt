@@ -1,5 +1,5 @@
 -- Every answer to a version that asks keeps the entries, and a refusal has a cause.
-use Rattle.std.proofs.Common.{◌≡◌, ◌≢◌, ℕ, ◌<◌, ◌≤◌, ◌⊎◌, inl, inr, Bool, true, false, List, Some, None, refl, sym, ap, ◌∙◌, subst, arith}
+use Rattle.std.proofs.Common.{◌≡◌, ◌≢◌, ℕ, ◌<◌, ◌≤◌, ◌⊎◌, inl, inr, Bool, true, false, Some, None, refl, sym, ap, ◌∙◌, subst, arith}
 use Rattle.std.proofs.lemmas.Bool.Decides.{nat_tests}
 use Rattle.std.specs.Prelude.{is_some, ◌==◌, ◌&&◌}
 use Rattle.std.specs.FinMap.{get, insert}
@@ -7,7 +7,6 @@ use Rattle.std.proofs.lemmas.Bool.{and_parts}
 use Rattle.std.proofs.lemmas.Option.{same_Some}
 use Rattle.tss_base.specs.declared.range.Range.{Range}
 use Rattle.tss_base.specs.declared.operand.OpName.{OpName}
-use Rattle.tss_base.specs.declared.operand.Task.{Task}
 use Rattle.tss_base.specs.declared.machine.Machine.{Machine}
 use Rattle.tss_base.specs.declared.event.Event.TheVariants as event
 use Rattle.tss_base.specs.Names.{Numbered}
@@ -24,8 +23,6 @@ use Rattle.tss_phases.proofs.SettlingLemmas.{name_from_test}
 use Rattle.tss_phases.proofs.Tests.{something, not_both}
 use Rattle.tss_control.specs.Members.{total}
 use Rattle.tss_control.specs.Entries.{HasEntryOf, HasCause, HasEntries, HasRetirement}
-use Rattle.tss_control.specs.Readers.{Arrivals}
-use Rattle.tss_control.specs.Control.{HasGroundwork, IsControlled}
 use Rattle.tss_control.proofs.rounds.EntriesFrames.{DecodesNoMore, HasEntries-same}
 use Rattle.tss_control.proofs.entries.Decoded.{later_decodes_none}
 use Rattle.tss_control.proofs.entries.OfVersions.{entry_of_version, entry_awake_of, released_within, registered_within}

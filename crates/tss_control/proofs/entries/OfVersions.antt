@@ -1,18 +1,13 @@
 -- The entry of a registered version's object, and how many readers it knows.
-use Rattle.std.proofs.Common.{◌≡◌, ℕ, ◌+◌, ◌≤◌, inl, inr, Bool, true, false, List, Some, None, refl, sym, ap, ◌∙◌, subst, arith}
+use Rattle.std.proofs.Common.{◌≡◌, ℕ, ◌+◌, ◌≤◌, inl, inr, Bool, true, false, Some, None, refl, sym, ap, ◌∙◌, subst, arith}
 use Rattle.std.specs.FinMap.{get}
 use Rattle.std.proofs.lemmas.Option.{none-some}
-use Rattle.tss_base.specs.declared.range.Range.{Range}
 use Rattle.tss_base.specs.declared.operand.OpName.{OpName}
 use Rattle.tss_base.specs.declared.operand.Operand.{Operand}
-use Rattle.tss_base.specs.declared.operand.Task.{Task}
 use Rattle.tss_base.specs.declared.machine.Machine.{Machine}
-use Rattle.tss_maps.proofs.Changes.{decide_get}
-use Rattle.tss_protocol.specs.State.{State, Entry, Version}
+use Rattle.tss_protocol.specs.State.{State, Version}
 use Rattle.tss_control.specs.Members.{operand_among, IsVersionOf, IsMember, registered_of, opening_reader, uses_of, total}
 use Rattle.tss_control.specs.Entries.{HasEntryOf, IsLeaving, IsRetiring}
-use Rattle.tss_control.specs.Readers.{Arrivals}
-use Rattle.tss_control.specs.Control.{HasGroundwork, IsControlled}
 use Rattle.tss_control.proofs.rounds.ReadersCounts.{few_released}
 use Rattle.tss_control.proofs.rounds.EntryOf.{decide_entry_of}
 use Rattle.tss_control.proofs.rounds.Facts.{Facts}

@@ -4,7 +4,6 @@ use Rattle.std.specs.Prelude.{is_some}
 use Rattle.std.specs.FinMap.{get}
 use Rattle.std.proofs.lemmas.Option.{none-some}
 use Rattle.tss_base.specs.declared.operand.OpName.{OpName}
-use Rattle.tss_base.specs.declared.operand.Task.{Task}
 use Rattle.tss_base.specs.declared.machine.Machine.{Machine}
 use Rattle.tss_base.specs.declared.event.Event.TheVariants as event
 use Rattle.tss_base.specs.declared.marks.How.{How}
@@ -20,8 +19,6 @@ use Rattle.tss_phases.specs.Orderly.{AreOrderly}
 use Rattle.tss_phases.proofs.Tests.{something}
 use Rattle.tss_control.specs.Chains.{HasChains}
 use Rattle.tss_control.specs.Entries.{HasEntries, HasRetirement}
-use Rattle.tss_control.specs.Readers.{Arrivals}
-use Rattle.tss_control.specs.Control.{HasGroundwork, IsControlled}
 use Rattle.tss_protocol.proofs.SentLemmas.{AllSent, AllSent-append}
 use Rattle.tss_protocol.proofs.SettleCases.{OthersSettled}
 use Rattle.tss_control.proofs.chains.Registered.{Registers}

@@ -12,7 +12,6 @@ use Rattle.tss_protocol.specs.State.{State, Flying, Busy}
 use Rattle.tss_protocol.specs.UnitMachine.{IsEnabled, after_event, without, after_take, ready_message_taken, link_message_taken, after_start, start_task, after_exec, after_finish, bye_message_taken}
 use Rattle.tss_phases.specs.Orderly.{AreOrderly}
 use Rattle.tss_control.specs.Entries.{HasEntries, HasRetirement}
-use Rattle.tss_control.specs.Control.{HasGroundwork}
 use Rattle.tss_protocol.proofs.SentLemmas.{AllSent, after_ready-all, after_link-all, flight_after_finish-all}
 use Rattle.tss_names.proofs.AskingLemmas.{IsAside, decodes_aside}
 use Rattle.tss_control.proofs.rounds.EntriesFrames.{DecodesNoMore, HasEntries-same}

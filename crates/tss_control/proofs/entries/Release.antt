@@ -21,9 +21,7 @@ use Rattle.tss_phases.proofs.Tests.{something}
 use Rattle.tss_control.specs.Members.{operand_among}
 use Rattle.tss_control.specs.Chains.{HasChains}
 use Rattle.tss_control.specs.Entries.{IsLeaving, IsRetiring, HasEntries, HasRetirement}
-use Rattle.tss_control.specs.Readers.{Arrivals}
 use Rattle.tss_control.specs.Holders.{IsOwnOrRead}
-use Rattle.tss_control.specs.Control.{HasGroundwork, IsControlled}
 use Rattle.tss_protocol.proofs.SentLemmas.{AllSent, AllSent-append}
 use Rattle.tss_control.proofs.chains.Alike.{AreAlike}
 use Rattle.tss_control.proofs.chains.Settled.{HasChains-written}

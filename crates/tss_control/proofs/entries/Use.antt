@@ -1,5 +1,5 @@
 -- A use keeps the entries, and asking and refusing.
-use Rattle.std.proofs.Common.{◌≡◌, ℕ, suc, ◌≤◌, inl, inr, Bool, true, false, List, Option, Some, None, refl, sym, ap, ◌∙◌, subst, arith}
+use Rattle.std.proofs.Common.{◌≡◌, ℕ, suc, ◌≤◌, inl, inr, Bool, true, false, Option, Some, None, refl, sym, ap, ◌∙◌, subst, arith}
 use Rattle.std.proofs.lemmas.Bool.Decides.{nat_tests}
 use Rattle.std.specs.Prelude.{is_some, ◌&&◌, ◌==◌, is_none, not}
 use Rattle.std.specs.FinMap.{get, insert, remove}
@@ -7,7 +7,6 @@ use Rattle.std.proofs.lemmas.Option.{none-some, same_Some}
 use Rattle.tss_base.specs.declared.range.Range.{Range}
 use Rattle.tss_base.specs.declared.operand.OpName.{OpName}
 use Rattle.tss_base.specs.declared.operand.Operand.{Operand}
-use Rattle.tss_base.specs.declared.operand.Task.{Task}
 use Rattle.tss_base.specs.declared.machine.Machine.{Machine}
 use Rattle.tss_base.specs.declared.event.Event.TheVariants as event
 use Rattle.tss_base.specs.Names.{Named}
@@ -22,8 +21,6 @@ use Rattle.tss_phases.proofs.Tests.{something}
 use Rattle.tss_control.specs.Members.{operand_among, IsMember}
 use Rattle.tss_control.specs.Entries.{HasEntries, HasRetirement}
 use Rattle.tss_protocol.specs.Settled.{IsSettled}
-use Rattle.tss_control.specs.Readers.{Arrivals}
-use Rattle.tss_control.specs.Control.{HasGroundwork, IsControlled}
 use Rattle.tss_protocol.proofs.SentLemmas.{AllSent}
 use Rattle.tss_names.proofs.AskingLemmas.{IsAside}
 use Rattle.tss_control.proofs.chains.Alike.{AreAlike}

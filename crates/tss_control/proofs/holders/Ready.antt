@@ -35,7 +35,6 @@ use Rattle.tss_control.specs.Members.{operand_among}
 use Rattle.tss_control.specs.Chains.{HasChains}
 use Rattle.tss_control.specs.Readers.{Arrivals, Has, HasReaders}
 use Rattle.tss_control.specs.Holders.{IsTrue, IsOwnOrRead, HasHolders}
-use Rattle.tss_control.specs.Control.{HasGroundwork, IsControlled}
 use Rattle.tss_protocol.proofs.SentLemmas.{AllSent}
 use Rattle.tss_control.proofs.rounds.ReadersLists.{has_newer}
 use Rattle.tss_control.proofs.rounds.HoldersNext.{WaitsBehind, held_waits}

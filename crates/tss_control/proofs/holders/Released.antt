@@ -1,21 +1,19 @@
 -- What operands hold after a release.
-use Rattle.std.proofs.Common.{◌≡◌, ◌≢◌, Bool, true, false, List, ◌++◌, Option, Some, None, refl, sym, ap, ◌∙◌, subst, inl, inr, true≢false}
+use Rattle.std.proofs.Common.{◌≡◌, ◌≢◌, Bool, true, false, ◌++◌, Option, Some, None, refl, sym, ap, ◌∙◌, subst, inl, inr, true≢false}
 use Rattle.std.specs.Prelude.{is_some}
 use Rattle.std.specs.FinMap.{get}
 use Rattle.std.proofs.lemmas.Option.{none-some, same_Some}
 use Rattle.tss_base.specs.declared.operand.OpName.{OpName}
 use Rattle.tss_base.specs.declared.operand.Operand.{Operand}
-use Rattle.tss_base.specs.declared.operand.Task.{Task}
 use Rattle.tss_base.specs.declared.machine.Machine.{Machine}
 use Rattle.tss_base.specs.declared.event.Event.TheVariants as event
-use Rattle.tss_base.specs.Names.{Named}
 use Rattle.tss_maps.proofs.Keys.{name_order, decide_key}
 use Rattle.tss_maps.proofs.Changes.{at_inserted, beside_inserted, one_value}
 use Rattle.tss_model.specs.Access.{writes}
-use Rattle.tss_protocol.specs.Mail.{Source, StorageName, ReleaseContents, Message}
+use Rattle.tss_protocol.specs.Mail.{Source, StorageName}
 use Rattle.tss_protocol.specs.State.{State, OperandState, Version}
 use Rattle.tss_protocol.specs.Stations.{operand_at}
-use Rattle.tss_protocol.specs.Versions.{Versioned, ready_with, head_ready, settled}
+use Rattle.tss_protocol.specs.Versions.{ready_with, head_ready}
 use Rattle.tss_protocol.specs.UnitMachine.{is_enabled, IsEnabled, after_event}
 use Rattle.tss_phases.specs.Phase.{Waiting, Told, Leaving, Left, LookUps, look_ups, phase_at, phase_of}
 use Rattle.tss_phases.specs.Told.{tells, phase_told}
@@ -26,17 +24,16 @@ use Rattle.tss_phases.specs.Orderly.{IsInformed, IsOrderly}
 use Rattle.tss_phases.proofs.Received.{received_all}
 use Rattle.tss_phases.proofs.News.{untold, told}
 use Rattle.tss_phases.proofs.ToldPhases.{second_tells}
-use Rattle.tss_phases.proofs.ReleaseEvent.{versions_released, heads_told, bye_promised, sent_by_release}
+use Rattle.tss_phases.proofs.ReleaseEvent.{heads_told, bye_promised, sent_by_release}
 use Rattle.tss_phases.proofs.OrderlyLemmas.{releasing_stands}
 use Rattle.tss_phases.proofs.Tests.{something}
 use Rattle.tss_locality.proofs.LeftFields.{Leaves-after_event}
 use Rattle.tss_control.specs.Members.{operand_among}
-use Rattle.tss_control.specs.Readers.{Arrivals, Has, head_of, oldest_of}
+use Rattle.tss_control.specs.Readers.{Has, head_of, oldest_of}
 use Rattle.tss_control.specs.Holders.{IsTrue, IsOwnOrRead, HasHolders, PromiseFits}
-use Rattle.tss_control.specs.Control.{HasGroundwork, IsControlled}
 use Rattle.tss_protocol.proofs.SentLemmas.{AllSent, AllSent-append}
 use Rattle.tss_control.proofs.rounds.ReadersLists.{has_oldest}
-use Rattle.tss_control.proofs.rounds.ReleaseFacts.{Releases, releases_facts}
+use Rattle.tss_control.proofs.rounds.ReleaseFacts.{releases_facts}
 use Rattle.tss_control.proofs.holders.Fits.{Holding, LinksFit, HoldsIn, HasOpened, HasCome, Needs, holding_of, holding_mapped, holders_by}
 use Rattle.tss_control.proofs.holders.Moves.{TellsTrue, told_true, holding_told_by}
 use Rattle.tss_control.proofs.holders.Leaves.{holding_released}

@@ -1,11 +1,9 @@
 -- A version that may retire is the last of its object, and all its readers have released it.
-use Rattle.std.proofs.Common.{◌≡◌, inl, inr, ℕ, ◌≤◌, Bool, true, false, List, Option, Some, None, refl, sym, ap, ◌∙◌, subst, arith}
+use Rattle.std.proofs.Common.{◌≡◌, inl, inr, ℕ, ◌≤◌, Bool, true, false, Some, refl, sym, ap, ◌∙◌, subst, arith}
 use Rattle.std.specs.Prelude.{is_some}
 use Rattle.std.specs.FinMap.{get}
 use Rattle.std.proofs.lemmas.Option.{same_Some}
-use Rattle.tss_base.specs.declared.range.Range.{Range}
 use Rattle.tss_base.specs.declared.operand.OpName.{OpName}
-use Rattle.tss_base.specs.declared.operand.Task.{Task}
 use Rattle.tss_base.specs.declared.machine.Machine.{Machine}
 use Rattle.tss_base.specs.declared.event.Event.TheVariants as event
 use Rattle.tss_maps.proofs.Keys.{name_order, decide_key}
@@ -22,7 +20,6 @@ use Rattle.tss_locality.proofs.LeftFields.{Leaves-after_event}
 use Rattle.tss_control.proofs.rounds.EntryOf.{decide_entry_of}
 use Rattle.tss_control.specs.Chains.{HasChains}
 use Rattle.tss_control.specs.Entries.{HasEntryOf, IsLastVersion, HasEntries}
-use Rattle.tss_control.specs.Control.{HasGroundwork}
 use Rattle.tss_control.specs.Readers.{Arrivals, HasReaders}
 use Rattle.tss_control.proofs.rounds.ReadersKept.{alike_same, same_version}
 use Rattle.tss_control.proofs.rounds.ReadersStates.{StaysOrGone, readers_kept, readers_fewer}

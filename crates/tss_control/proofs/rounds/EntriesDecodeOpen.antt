@@ -1,11 +1,10 @@
 -- Entries after a decode that sends an open: the new version is the latest of its object, with its first readers.
-use Rattle.std.proofs.Common.{◌≡◌, ◌≢◌, ℕ, ◌+◌, ◌≤◌, ◌⊎◌, inl, inr, true, false, List, Option, Some, None, refl, sym, ap, ◌∙◌, subst, arith}
+use Rattle.std.proofs.Common.{◌≡◌, ◌≢◌, ℕ, ◌+◌, ◌≤◌, ◌⊎◌, inl, inr, true, false, Option, Some, None, refl, sym, ap, ◌∙◌, subst, arith}
 use Rattle.std.specs.FinMap.{get, insert}
 use Rattle.std.proofs.lemmas.Option.{none-some, same_Some}
 use Rattle.tss_base.specs.declared.range.Range.{Range}
 use Rattle.tss_base.specs.declared.operand.OpName.{OpName}
 use Rattle.tss_base.specs.declared.operand.Operand.{Operand}
-use Rattle.tss_base.specs.declared.operand.Task.{Task}
 use Rattle.tss_base.specs.declared.machine.Machine.{Machine}
 use Rattle.tss_maps.proofs.Keys.{nat_order, name_order, decide_key}
 use Rattle.tss_maps.proofs.Changes.{at_inserted, beside_inserted, from_inserted}
@@ -21,7 +20,6 @@ use Rattle.tss_control.proofs.rounds.EntryOf.{no_entry_at, entry_of_new, entry_o
 use Rattle.tss_control.specs.Members.{operand_among, IsWriterOn, IsOpenOf, IsMember, registered_of, first_reader, opening_reader, uses_of, total}
 use Rattle.tss_control.specs.Entries.{HasEntryOf, IsLeaving, IsUsed, IsAbsent, IsLive, IsRetiring, HasEntries}
 use Rattle.tss_control.specs.Chains.{HasChains}
-use Rattle.tss_control.specs.Control.{HasGroundwork}
 use Rattle.tss_control.proofs.rounds.EntriesLeaving.{SameLeaving, leaving_turned, version_back, going_back, leaving_back, last_version_still}
 use Rattle.tss_control.proofs.rounds.EntriesNames.{object_of_entry, decode_among, none_later, member_operand, no_version, no_open, no_use_of, no_latest}
 use Rattle.tss_control.proofs.rounds.Facts.{Basis}

@@ -1,16 +1,15 @@
 -- Entries after a decode that sends a use: one more reader is directed to the latest version of its object.
-use Rattle.std.proofs.Common.{◌≡◌, ◌≢◌, ℕ, suc, ◌+◌, ◌≤◌, ◌⊎◌, inl, inr, true, false, List, Some, sym, ap, ◌∙◌, subst, arith}
+use Rattle.std.proofs.Common.{◌≡◌, ◌≢◌, ℕ, suc, ◌+◌, ◌≤◌, ◌⊎◌, inl, inr, true, false, Some, sym, ap, ◌∙◌, subst, arith}
 use Rattle.std.specs.FinMap.{get, insert}
-use Rattle.std.proofs.lemmas.Option.{none-some, same_Some}
+use Rattle.std.proofs.lemmas.Option.{same_Some}
 use Rattle.tss_base.specs.declared.range.Range.{Range}
 use Rattle.tss_base.specs.declared.operand.OpName.{OpName}
 use Rattle.tss_base.specs.declared.operand.Mode.TheVariants.{Input}
 use Rattle.tss_base.specs.declared.operand.Operand.{Operand}
-use Rattle.tss_base.specs.declared.operand.Task.{Task}
 use Rattle.tss_base.specs.declared.machine.Machine.{Machine}
 use Rattle.tss_maps.specs.Sums.{one_if}
 use Rattle.tss_maps.proofs.Keys.{nat_order, name_order}
-use Rattle.tss_maps.proofs.Changes.{at_inserted, beside_inserted, from_inserted}
+use Rattle.tss_maps.proofs.Changes.{from_inserted}
 use Rattle.tss_maps.proofs.Sums.{sum_added}
 use Rattle.tss_model.specs.Access.{writes}
 use Rattle.tss_protocol.specs.Names.{same_name}
@@ -22,7 +21,6 @@ use Rattle.tss_phases.proofs.Tests.{not_both}
 use Rattle.tss_control.proofs.rounds.EntryOf.{entry_of_new, entry_of_still}
 use Rattle.tss_control.specs.Members.{operand_among, IsWriterOn, IsOpenOf, IsMember, registered_of, opening_reader, uses_of, total}
 use Rattle.tss_control.specs.Entries.{HasEntryOf, IsUsed, IsAbsent, IsLive, IsRetiring, HasEntries}
-use Rattle.tss_control.specs.Control.{HasGroundwork}
 use Rattle.tss_control.proofs.rounds.EntriesLeaving.{SameLeaving, leaving_turned, version_back, going_back, leaving_back, last_version_still}
 use Rattle.tss_control.proofs.rounds.EntriesNames.{decode_among, no_use, object_of_entry}
 use Rattle.tss_control.proofs.rounds.Facts.{Basis}

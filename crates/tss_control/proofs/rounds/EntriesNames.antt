@@ -23,7 +23,6 @@ use Rattle.tss_locality.proofs.RoundObjects.{finds_own}
 use Rattle.tss_names.specs.Tasks.{taken_by, IsTaken, IsOperandOf, HasTaskNumbers, IsUndecoded}
 use Rattle.tss_names.specs.Names.{IsDecoded}
 use Rattle.tss_control.specs.Members.{first_there, operand_among, IsMember}
-use Rattle.tss_control.specs.Control.{HasGroundwork}
 use Rattle.tss_control.specs.Chains.{HasChains}
 use Rattle.tss_control.specs.Entries.{HasEntries}
 use Rattle.tss_control.proofs.rounds.EntriesQuiet.{decoded_shows, decoded_from}

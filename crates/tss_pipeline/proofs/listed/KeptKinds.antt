@@ -7,7 +7,6 @@ use Rattle.tss_base.specs.declared.operand.OpName.{OpName}
 use Rattle.tss_base.specs.declared.operand.Operand.{Operand}
 use Rattle.tss_base.specs.declared.operand.Mode.{Mode}
 use Rattle.tss_base.specs.declared.operand.Mode.TheVariants.{Input, Output, Inout}
-use Rattle.tss_base.specs.declared.operand.Task.{Task}
 use Rattle.tss_base.specs.declared.machine.Machine.{Machine}
 use Rattle.tss_base.specs.declared.event.Event.{Event}
 use Rattle.tss_base.specs.declared.event.Event.TheVariants as event
@@ -24,7 +23,6 @@ use Rattle.tss_protocol.specs.UnitMachine.{is_enabled, after_event, can_decode_m
 use Rattle.tss_control.proofs.rounds.EntriesQuiet.{quiet_objects}
 use Rattle.tss_mail.specs.declared.kind.Kind.{Kind}
 use Rattle.tss_mail.specs.declared.kind.Kind.TheVariants as kind
-use Rattle.tss_mail.specs.KindNames.{names_of_kind}
 use Rattle.tss_pipeline.specs.declared.enabling.Source.{Source}
 use Rattle.tss_pipeline.specs.declared.enabling.Source.TheVariants as source
 use Rattle.tss_pipeline.specs.declared.units.Units.{Units}

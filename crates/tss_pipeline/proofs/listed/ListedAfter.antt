@@ -1,12 +1,12 @@
 -- What an event changes of the lists of names: nothing but for its suspects.
-use Rattle.std.proofs.Common.{◌≡◌, ◌≢◌, ◌⊎◌, Bool, true, false, Option, Some, None, refl, sym, ap, ◌∙◌, subst, inl, inr}
+use Rattle.std.proofs.Common.{◌≡◌, ◌≢◌, ◌⊎◌, true, false, Some, None, refl, sym, ap, ◌∙◌, subst, inl, inr}
 use Rattle.std.specs.Prelude.{is_some}
 use Rattle.std.specs.FinMap.{get, remove}
 use Rattle.tss_base.specs.declared.operand.OpName.{OpName}
 use Rattle.tss_base.specs.declared.machine.Machine.{Machine}
 use Rattle.tss_base.specs.declared.event.Event.{Event}
 use Rattle.tss_base.specs.declared.event.Event.TheVariants as event
-use Rattle.tss_maps.proofs.Keys.{name_order, decide_key}
+use Rattle.tss_maps.proofs.Keys.{name_order}
 use Rattle.tss_maps.proofs.Changes.{beside_removed, from_removed}
 use Rattle.std.proofs.lemmas.Option.{none-some, same_Some}
 use Rattle.tss_protocol.specs.Counts.{message_limit}
@@ -26,7 +26,7 @@ use Rattle.tss_pipeline.specs.Fit.{IsFit}
 use Rattle.tss_pipeline.specs.Does.{Does}
 use Rattle.tss_pipeline.specs.Listing.{Names, is_listed, is_there, marked, may_happen, FitsBeside, FitsIn, AreListed, WereListed, name_taken, suspects_of, suspects_of_open, suspects_of_use}
 use Rattle.tss_pipeline.proofs.listed.ListedNames.{value_of, happens_there, one_tested}
-use Rattle.tss_pipeline.proofs.listed.WaitingLemmas.{open_waits, use_waits, decode_others, open_letters, KeepsUses, use_letters}
+use Rattle.tss_pipeline.proofs.listed.WaitingLemmas.{open_waits, use_waits, decode_others, open_letters, use_letters}
 
 not_both : false ≡ true → ⊥
 not_both e = cc

@@ -1,10 +1,10 @@
 -- A set of those keys of a map that pass a test has them in the order in which the map has them.
-use Rattle.std.proofs.Common.{◌≡◌, Bool, true, false, cond, List, [], ◌∷◌, map, length, Option, Some, None, refl, sym, ap, ◌∙◌}
+use Rattle.std.proofs.Common.{◌≡◌, Bool, true, false, cond, List, [], ◌∷◌, map, Option, Some, None, refl, sym, ap, ◌∙◌}
 use Rattle.std.specs.Prelude.{filter, is_some, T, ◌&&◌}
 use Rattle.std.specs.declared.cmp.Ordering.{Ordering}
 use Rattle.std.specs.Ordering.{is_lt}
 use Rattle.std.specs.FinMap.{FinMap, get, keys, entries, entries_sorted, from_sorted, entries-from_sorted, get-from_sorted, get-from_entries}
-use Rattle.std.specs.FinMap.Entries.{find, below_all, is_sorted}
+use Rattle.std.specs.FinMap.Entries.{below_all, is_sorted}
 use Rattle.tss_maps.specs.Parts.{keys_in, keys_where, key_where}
 use Rattle.tss_maps.proofs.Keys.{IsKeyOrder}
 use Rattle.tss_maps.proofs.Changes.{same_by_get}

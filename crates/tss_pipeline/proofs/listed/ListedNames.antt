@@ -2,7 +2,7 @@
 -- through, and the list is the events of the kind that may happen, in order.
 use Rattle.std.proofs.Common.{◌≡◌, ◌≢◌, ◌⊎◌, ℕ, ◌+◌, ◌<◌, ◌≤◌, Bool, true, false, List, map, length, Option, Some, None, option_map, refl, sym, ap, ◌∙◌, subst, inl, inr, arith}
 use Rattle.std.specs.Prelude.{filter, is_some, slice_get}
-use Rattle.std.specs.FinMap.{get, insert, remove, empty, len, keys, entries, len-entries, get-empty}
+use Rattle.std.specs.FinMap.{get, insert, empty, len, keys, entries, len-entries, get-empty}
 use Rattle.std.proofs.lemmas.List.{length-map}
 use Rattle.std.proofs.lemmas.Option.{none-some, same_Some, slice_get-map, slice_get_within}
 use Rattle.tss_base.specs.declared.operand.OpName.{OpName}
@@ -11,7 +11,7 @@ use Rattle.tss_base.specs.declared.event.Event.TheVariants as event
 use Rattle.tss_base.specs.Names.{Named, name_cmp}
 use Rattle.tss_maps.specs.Ordered.{key_at}
 use Rattle.tss_maps.proofs.Keys.{name_order, decide_key}
-use Rattle.tss_maps.proofs.Changes.{decide_get, at_inserted, beside_inserted, at_removed, beside_removed, from_inserted, insert_same}
+use Rattle.tss_maps.proofs.Changes.{at_inserted, beside_inserted, at_removed, beside_removed, from_inserted, insert_same}
 use Rattle.tss_maps.proofs.Entries.{len_added, len_at_most}
 use Rattle.tss_maps.proofs.OrderedLemmas.{key_from_get}
 use Rattle.tss_protocol.specs.Mail.{OpenContents, Mail, message_count}

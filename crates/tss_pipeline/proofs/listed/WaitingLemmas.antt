@@ -1,6 +1,6 @@
 -- While an open or a use waits for a version, the version isn't removed: it is registered, or it is being opened. So an
 -- event that opens no version leaves it alone whether they may be taken.
-use Rattle.std.proofs.Common.{◌≡◌, ◌≢◌, Bool, true, false, List, [], ◌∷◌, Option, Some, None, refl, sym, ap, ◌∙◌, inl, inr}
+use Rattle.std.proofs.Common.{◌≡◌, ◌≢◌, [], ◌∷◌, Option, Some, None, refl, sym, ap, ◌∙◌, inl, inr}
 use Rattle.std.specs.Prelude.{is_some}
 use Rattle.std.specs.FinMap.{get, remove, contains_key}
 use Rattle.tss_base.specs.declared.range.Range.{Range}
@@ -12,13 +12,13 @@ use Rattle.tss_base.specs.declared.machine.Machine.{Machine}
 use Rattle.tss_base.specs.declared.marks.Follow.{Follow}
 use Rattle.tss_base.specs.declared.event.Event.TheVariants as event
 use Rattle.tss_maps.proofs.Keys.{name_order}
-use Rattle.tss_maps.proofs.Changes.{beside_inserted, beside_removed}
+use Rattle.tss_maps.proofs.Changes.{beside_inserted}
 use Rattle.tss_locality.proofs.LeftFields.{left_versions}
 use Rattle.tss_protocol.specs.Mail.{OpenContents, Mail, Ack, posted_all, taken}
 use Rattle.tss_protocol.specs.State.{State, Entry}
 use Rattle.tss_protocol.specs.Renaming.{sent_by_decode, live_message}
-use Rattle.tss_protocol.specs.Versions.{is_followable, can_open, after_open, after_use}
-use Rattle.tss_protocol.specs.UnitMachine.{after_event, without, tables_of, can_open_message, can_use_message, open_message_taken, use_message_taken, decode_message_taken}
+use Rattle.tss_protocol.specs.Versions.{is_followable, can_open}
+use Rattle.tss_protocol.specs.UnitMachine.{after_event, without, can_open_message, can_use_message, open_message_taken, use_message_taken, decode_message_taken}
 use Rattle.tss_protocol.proofs.SentLemmas.{posted_all-later, after_open-later, after_use-later}
 use Rattle.tss_names.proofs.OpeningFrames.{VersionsFrom, all_from, Before}
 use Rattle.tss_names.proofs.VersionObjects.{objects_use}

@@ -24,7 +24,6 @@ use Rattle.tss_protocol.specs.Names.{bank_of, operand_name}
 use Rattle.tss_protocol.specs.Mail.{Source}
 use Rattle.tss_protocol.specs.State.{Flying, OperandState}
 use Rattle.tss_protocol.specs.Stations as stations
-use Rattle.tss_protocol.specs.Stations.{flight_after_start}
 use Rattle.tss_protocol.specs.Workers as cores
 use Rattle.tss_protocol.specs.Workers.{Stores, can_start, busy_at_start, outputs_zeroed}
 use Rattle.tss_protocol.specs.UnitMachine as machine

@@ -1,5 +1,5 @@
 -- A quiet state without a task in flight: nothing is in any table, and where no event is enabled the state is finished.
-use Rattle.std.proofs.Common.{◌≡◌, ℕ, ◌⊎◌, Bool, true, false, List, length, Option, Some, None, refl, sym, ap, ◌∙◌, inl, inr, arith, true≢false}
+use Rattle.std.proofs.Common.{◌≡◌, ℕ, ◌⊎◌, Bool, true, false, length, Option, Some, None, refl, sym, ap, ◌∙◌, inl, inr, arith, true≢false}
 use Rattle.std.specs.Prelude.{◌==◌, ◌&&◌, ◌||◌, not, is_none, is_some}
 use Rattle.std.specs.declared.cmp.Ordering.{Ordering}
 use Rattle.std.specs.FinMap.{FinMap, get, len}
@@ -31,8 +31,6 @@ use Rattle.tss_protocol.specs.UnitMachine.{is_enabled, can_take}
 use Rattle.tss_locality.proofs.Flights.{record_in}
 use Rattle.tss_phases.specs.Phase.{Left, is_ahead, look_ups, phase_of, is_decoded}
 use Rattle.tss_phases.proofs.OrderlyLemmas.{decoding_stands, ahead_by_test, left_by_absence}
-use Rattle.tss_control.specs.Readers.{Arrivals}
-use Rattle.tss_control.specs.Control.{HasGroundwork, IsControlled}
 use Rattle.tss_control.proofs.rounds.EntriesNames.{name_decoded}
 use Rattle.tss_progress.proofs.progress.Choice.{IsStuck}
 use Rattle.tss_progress.proofs.progress.Stuck.{IsQuiet}

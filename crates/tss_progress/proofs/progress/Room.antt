@@ -1,6 +1,6 @@
 -- A decode of the oldest task in flight of a quiet state finds room: the entries and places of its bank go to other
 -- operands of the task, no two to one.
-use Rattle.std.proofs.Common.{◌≡◌, ◌≢◌, ℕ, ◌+◌, ◌≤◌, Bool, true, false, List, length, Some, None, refl, sym, ap, ◌∙◌, subst, inl, inr, arith, true≢false}
+use Rattle.std.proofs.Common.{◌≡◌, ◌≢◌, ℕ, ◌+◌, ◌≤◌, Bool, true, false, length, Some, None, refl, sym, ap, ◌∙◌, subst, inl, inr, arith, true≢false}
 use Rattle.std.specs.Prelude.{◌==◌, slice_get, is_some, is_none}
 use Rattle.std.specs.declared.cmp.Ordering.{Ordering}
 use Rattle.std.specs.Ordering.{nat_cmp}
@@ -12,7 +12,6 @@ use Rattle.std.proofs.lemmas.Option.{none-some, same_Some, slice_get_within}
 use Rattle.tss_base.specs.declared.range.Range.{Range}
 use Rattle.tss_base.specs.declared.operand.OpName.{OpName}
 use Rattle.tss_base.specs.declared.operand.Operand.{Operand}
-use Rattle.tss_base.specs.declared.operand.Task.{Task}
 use Rattle.tss_base.specs.declared.machine.Machine.{Machine}
 use Rattle.tss_base.specs.declared.event.Event.TheVariants as event
 use Rattle.tss_base.specs.Machine.{IsAdmissible}
@@ -31,8 +30,6 @@ use Rattle.tss_phases.specs.Phase.{Phase, Decoding, Left, look_ups, phase_of}
 use Rattle.tss_phases.proofs.PhaseLemmas.{phase_decoding}
 use Rattle.tss_phases.proofs.OrderlyLemmas.{decoding_stands}
 use Rattle.tss_control.specs.Members.{operand_among}
-use Rattle.tss_control.specs.Readers.{Arrivals}
-use Rattle.tss_control.specs.Control.{HasGroundwork, IsControlled}
 use Rattle.tss_control.proofs.rounds.EntriesNames.{decode_among, object_of_entry}
 use Rattle.tss_control.proofs.rounds.EntryOf.{decide_entry_of}
 use Rattle.tss_control.specs.Entries.{HasEntryOf}

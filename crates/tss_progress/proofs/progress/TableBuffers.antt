@@ -19,8 +19,6 @@ use Rattle.tss_protocol.specs.State.{State, Flying, Busy, Entry}
 use Rattle.tss_protocol.specs.Renaming.{takes_buffer, buffers_after_decode, live_message, decode_message, may_retire, idle_by}
 use Rattle.tss_protocol.specs.MainEvent.{main_by, after_call}
 use Rattle.tss_protocol.specs.UnitMachine.{without, after_take, decode_message_taken, ready_message_taken, link_message_taken, after_start, start_task, after_exec, after_finish, bye_message_taken, idle_message_taken}
-use Rattle.tss_control.specs.Readers.{Arrivals}
-use Rattle.tss_control.specs.Control.{HasGroundwork, IsControlled}
 use Rattle.tss_protocol.proofs.SentLemmas.{after_ready-all, after_link-all, flight_after_finish-all}
 use Rattle.tss_names.proofs.HeldEvents.{HoldsNothing, decodes_nothing}
 use Rattle.tss_progress.proofs.progress.Drained.{HaveHolders}

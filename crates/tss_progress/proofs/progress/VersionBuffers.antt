@@ -4,7 +4,6 @@ use Rattle.std.specs.Prelude.{not, is_some}
 use Rattle.std.specs.FinMap.{get, insert, remove}
 use Rattle.std.proofs.lemmas.Option.{same_Some}
 use Rattle.tss_base.specs.declared.operand.OpName.{OpName}
-use Rattle.tss_base.specs.declared.operand.Task.{Task}
 use Rattle.tss_base.specs.declared.machine.Machine.{Machine}
 use Rattle.tss_base.specs.declared.event.Event.{Event}
 use Rattle.tss_base.specs.declared.event.Event.TheVariants as event
@@ -17,8 +16,6 @@ use Rattle.tss_protocol.specs.Mail.{OpenContents, ReleaseContents, Message, Bye,
 use Rattle.tss_protocol.specs.State.{State, Version}
 use Rattle.tss_protocol.specs.Versions.{Versioned, put_version, ready_with, first_version, new_version, followed, opened_how, opened_by, is_followable, enlisted, used_alone, used_behind, used_at, head_ready, produced_now, released_once, released_by, released_at, is_last, refused_once, nacked_at, settled}
 use Rattle.tss_protocol.specs.UnitMachine.{without, can_open_message, open_message_taken, use_message_taken, release_message_taken}
-use Rattle.tss_control.specs.Readers.{Arrivals}
-use Rattle.tss_control.specs.Control.{HasGroundwork, IsControlled}
 use Rattle.tss_protocol.proofs.SentLemmas.{AllSent, AllSent-append}
 use Rattle.tss_names.proofs.PlainLemmas.{name_apart}
 use Rattle.tss_names.proofs.HeldEvents.{HoldsNothing}

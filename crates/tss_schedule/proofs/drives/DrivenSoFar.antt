@@ -7,7 +7,7 @@ use Rattle.tss_protocol.specs.Counts.{counts_of, greater_counts, peaks_of}
 use Rattle.tss_protocol.specs.Run.{after_events}
 use Rattle.tss_protocol.specs.Result.{IsFinished}
 use Rattle.tss_protocol.specs.Schedule as judging
-use Rattle.tss_protocol.specs.Schedule.{LogFault, Judgement}
+use Rattle.tss_protocol.specs.Schedule.{LogFault}
 use Rattle.tss_log.specs.declared.log.Log.{Ghosts}
 use Rattle.tss_log.specs.Logs.{event_line, followed_by, Stays, Grows, HoldsPart}
 use Rattle.tss_schedule.specs.declared.driving.ScheduleFault.{ScheduleFault}

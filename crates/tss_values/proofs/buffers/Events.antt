@@ -23,8 +23,8 @@ use Rattle.tss_protocol.specs.Run.{IsRun}
 use Rattle.tss_protocol.specs.UnitMachine.{IsEnabled, is_enabled, after_event}
 use Rattle.tss_locality.specs.Rounds.{IsRounded}
 use Rattle.tss_values.specs.Buffers.{HasBuffer, HasBuffers}
-use Rattle.tss_control.specs.Readers.{Arrivals, no_arrivals}
-use Rattle.tss_control.specs.Control.{HasGroundwork, IsControlled}
+use Rattle.tss_control.specs.Readers.{no_arrivals}
+use Rattle.tss_control.specs.Control.{IsControlled}
 use Rattle.tss_names.proofs.PlainLemmas.{zero_from_test}
 use Rattle.tss_names.proofs.SpawnLemmas.{IsNext-spawn_of}
 use Rattle.tss_phases.proofs.OrderlyEvents.{orderly_at_first}

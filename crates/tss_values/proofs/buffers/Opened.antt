@@ -5,7 +5,6 @@ use Rattle.std.specs.FinMap.{get}
 use Rattle.tss_base.specs.declared.operand.OpName.{OpName}
 use Rattle.tss_base.specs.declared.operand.Mode.{Mode}
 use Rattle.tss_base.specs.declared.operand.Mode.TheVariants.{Input, Output, Inout}
-use Rattle.tss_base.specs.declared.operand.Task.{Task}
 use Rattle.tss_base.specs.declared.machine.Machine.{Machine}
 use Rattle.tss_base.specs.declared.event.Event.TheVariants as event
 use Rattle.tss_base.specs.declared.marks.How.{How}
@@ -20,8 +19,6 @@ use Rattle.tss_protocol.specs.UnitMachine.{IsEnabled, is_enabled, after_event, w
 use Rattle.tss_phases.proofs.Tests.{something}
 use Rattle.tss_control.specs.Chains.{HasChains}
 use Rattle.tss_values.specs.Buffers.{HasBuffer, HasBuffers}
-use Rattle.tss_control.specs.Readers.{Arrivals}
-use Rattle.tss_control.specs.Control.{HasGroundwork, IsControlled}
 use Rattle.tss_protocol.proofs.SentLemmas.{AllSent, posted_all-later, settled-later}
 use Rattle.tss_names.proofs.JointLemmas.{posted_all-append}
 use Rattle.tss_names.proofs.PlainLemmas.{still_none}

@@ -4,7 +4,6 @@ use Rattle.std.specs.Prelude.{◌++◌, is_some, not}
 use Rattle.std.specs.FinMap.{get}
 use Rattle.std.proofs.lemmas.Option.{none-some}
 use Rattle.tss_base.specs.declared.operand.OpName.{OpName}
-use Rattle.tss_base.specs.declared.operand.Task.{Task}
 use Rattle.tss_base.specs.declared.machine.Machine.{Machine}
 use Rattle.tss_base.specs.declared.event.Event.TheVariants as event
 use Rattle.tss_base.specs.Names.{Named}
@@ -14,8 +13,6 @@ use Rattle.tss_protocol.specs.Versions.{Versioned, put_version, head_ready, prod
 use Rattle.tss_protocol.specs.UnitMachine.{IsEnabled, is_enabled, after_event, without, with_versioned, release_message_taken}
 use Rattle.tss_control.specs.Chains.{HasChains}
 use Rattle.tss_values.specs.Buffers.{HasBuffers}
-use Rattle.tss_control.specs.Readers.{Arrivals}
-use Rattle.tss_control.specs.Control.{HasGroundwork, IsControlled}
 use Rattle.tss_protocol.proofs.SentLemmas.{AllSent, AllSent-append, posted_all-later, settled-later}
 use Rattle.tss_names.proofs.JointLemmas.{posted_all-append}
 use Rattle.tss_names.proofs.HeldEvents.{HoldsNothing, posted_all-nothing}

@@ -8,9 +8,8 @@ use Rattle.tss_base.specs.declared.operand.OpName.{OpName}
 use Rattle.tss_base.specs.declared.operand.Operand.{Operand}
 use Rattle.tss_base.specs.declared.operand.Task.{Task}
 use Rattle.tss_base.specs.declared.machine.Machine.{Machine}
-use Rattle.tss_base.specs.Range.{end_of}
 use Rattle.tss_base.specs.Image.{ImageState}
-use Rattle.tss_model.specs.Memory.{covers, byte_at, bytes_of}
+use Rattle.tss_model.specs.Memory.{byte_at, bytes_of}
 use Rattle.tss_protocol.specs.Mail.{OpenContents}
 use Rattle.tss_protocol.specs.State.{State}
 use Rattle.tss_phases.specs.Phase.{is_decoded, phase_of}

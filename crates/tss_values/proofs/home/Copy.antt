@@ -1,26 +1,21 @@
 -- What stands at home after a copy: it writes in the object that is copied alone, which has an entry that retires.
-use Rattle.std.proofs.Common.{◌≡◌, ℕ, ◌+◌, ◌≤◌, Bool, true, false, List, Option, Some, None, refl, sym, ap, ◌∙◌, subst, inl, inr, arith}
+use Rattle.std.proofs.Common.{◌≡◌, ℕ, ◌+◌, ◌≤◌, Bool, true, false, Some, refl, sym, ap, ◌∙◌, subst, inl, inr, arith}
 use Rattle.std.specs.Prelude.{is_some}
 use Rattle.std.specs.FinMap.{get}
 use Rattle.tss_base.specs.declared.range.Range.{Range}
 use Rattle.tss_base.specs.declared.operand.OpName.{OpName}
-use Rattle.tss_base.specs.declared.operand.Operand.{Operand}
-use Rattle.tss_base.specs.declared.operand.Task.{Task}
 use Rattle.tss_base.specs.declared.machine.Machine.{Machine}
 use Rattle.tss_base.specs.declared.event.Event.TheVariants as event
 use Rattle.tss_base.specs.Image.{ImageState}
 use Rattle.tss_model.specs.Memory.{Memory}
 use Rattle.tss_protocol.specs.Mail.{OpenContents, posted_all}
-use Rattle.tss_protocol.specs.State.{State, Entry, CopyState}
+use Rattle.tss_protocol.specs.State.{State, CopyState}
 use Rattle.tss_protocol.specs.Buffers.{buffer_bytes, piece_of, home_after_copy, is_last_piece, sent_by_copy}
 use Rattle.tss_protocol.specs.UnitMachine.{IsEnabled, is_enabled, after_event, after_copy}
 use Rattle.tss_phases.specs.Orderly.{AreOrderly}
 use Rattle.tss_phases.proofs.Tests.{something}
 use Rattle.tss_locality.proofs.LeftFields.{Leaves-after_event}
-use Rattle.tss_control.specs.Members.{operand_among}
-use Rattle.tss_control.specs.Readers.{Arrivals}
 use Rattle.tss_control.specs.Entries.{IsGoingHome, HasEntryOf}
-use Rattle.tss_control.specs.Control.{HasGroundwork, IsControlled}
 use Rattle.tss_program_order.proofs.FlatWrites.{map_put-beside}
 use Rattle.tss_program_order.proofs.StoreFrames.{length-piece}
 use Rattle.tss_control.proofs.holders.KeepsOrder.{AreOrderly-controlled}

@@ -1,7 +1,6 @@
 -- What stands at home is right after a decode: an operand that opens the first version of its object is the first of it
 -- that wasn't decoded.
-use Rattle.std.proofs.Common.{◌≡◌, ◌≢◌, ◌⊎◌, ◌≤◌, ◌<◌, ℕ, zero, suc, true, false, List, [], ◌∷◌, length, Option, Some, None, refl, sym, ap, ◌∙◌, subst, inl, inr, arith, true≢false}
-use Rattle.std.specs.Prelude.{Any}
+use Rattle.std.proofs.Common.{◌≡◌, ◌≢◌, ◌⊎◌, ◌≤◌, ◌<◌, ℕ, true, false, [], ◌∷◌, Option, Some, None, refl, sym, ap, ◌∙◌, subst, inl, inr, arith, true≢false}
 use Rattle.std.specs.FinMap.{get, insert}
 use Rattle.std.proofs.lemmas.Option.{none-some, same_Some}
 use Rattle.tss_base.specs.declared.range.Range.{Range}
@@ -9,12 +8,11 @@ use Rattle.tss_base.specs.declared.operand.OpName.{OpName}
 use Rattle.tss_base.specs.declared.operand.Mode.{Mode}
 use Rattle.tss_base.specs.declared.operand.Mode.TheVariants.{Input, Output, Inout}
 use Rattle.tss_base.specs.declared.operand.Operand.{Operand}
-use Rattle.tss_base.specs.declared.operand.Task.{Task}
 use Rattle.tss_base.specs.declared.machine.Machine.{Machine}
 use Rattle.tss_base.specs.declared.event.Event.TheVariants as event
 use Rattle.tss_base.specs.Image.{ImageState}
 use Rattle.tss_maps.proofs.Keys.{name_order, nat_order, decide_key}
-use Rattle.tss_maps.proofs.Changes.{at_inserted, beside_inserted, from_inserted, decide_get}
+use Rattle.tss_maps.proofs.Changes.{at_inserted, beside_inserted, from_inserted}
 use Rattle.tss_model.specs.Memory.{bytes_of}
 use Rattle.tss_protocol.specs.Names.{bank_of}
 use Rattle.tss_protocol.specs.Mail.{OpenContents, Ack, taken, posted_all}
@@ -22,17 +20,13 @@ use Rattle.tss_protocol.specs.Renaming.{HasTurn, entry_after_decode, live_messag
 use Rattle.tss_protocol.specs.UnitMachine.{is_enabled, IsEnabled, after_event, without, can_decode_message, decode_message_taken}
 use Rattle.tss_protocol.specs.State.{State, Entry}
 use Rattle.tss_protocol.proofs.TurnLemmas.{decode_in_turn}
-use Rattle.tss_phases.specs.Phase.{is_ahead, is_decoded, look_ups, phase_of, LookUps}
+use Rattle.tss_phases.specs.Phase.{is_decoded, phase_of, LookUps}
 use Rattle.tss_phases.specs.Orderly.{AreOrderly}
-use Rattle.tss_names.specs.Tasks.{IsTaken}
 use Rattle.tss_control.specs.Members.{operand_among}
 use Rattle.tss_phases.proofs.DecodeEvent.{decoding_before, phase_of-decode, phase_of-decode-other, look_ups-decode-other}
 use Rattle.tss_phases.proofs.Tests.{something}
 use Rattle.tss_locality.proofs.LeftFields.{Leaves-after_event}
-use Rattle.tss_control.specs.Readers.{Arrivals}
 use Rattle.tss_program_order.specs.MainInOrder.{flat_beside}
-use Rattle.tss_control.specs.Control.{HasGroundwork, IsControlled}
-use Rattle.tss_names.proofs.NumberLemmas.{number_within}
 use Rattle.tss_control.proofs.rounds.DecodeFacts.{earlier_decoded}
 use Rattle.tss_control.proofs.rounds.EntriesNames.{decode_among}
 use Rattle.tss_values.proofs.Values.{Starts, bytes_before, IsFirstAhead, HasHome, IsInside, IsUnclaimed}

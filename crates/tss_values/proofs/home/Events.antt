@@ -1,9 +1,9 @@
 -- What stands at home stays right after each event that leaves it: all but those of main, decode, start, exec, copy and
 -- gone.
-use Rattle.std.proofs.Common.{◌≡◌, ℕ, Bool, true, false, List, Option, Some, None, refl, sym, ap, ◌∙◌, inl, inr, arith}
+use Rattle.std.proofs.Common.{◌≡◌, ℕ, Bool, true, false, Option, Some, None, refl, sym, ap, ◌∙◌, inl, inr, arith}
 use Rattle.std.specs.Prelude.{slice_get, ◌||◌, nat_lt}
 use Rattle.std.specs.FinMap.{get}
-use Rattle.std.proofs.lemmas.Option.{none-some, same_Some}
+use Rattle.std.proofs.lemmas.Option.{same_Some}
 use Rattle.tss_base.specs.declared.operand.OpName.{OpName}
 use Rattle.tss_base.specs.declared.operand.Operand.{Operand}
 use Rattle.tss_base.specs.declared.operand.Task.{Task}
@@ -29,8 +29,6 @@ use Rattle.tss_model.specs.Access.{operands_of}
 use Rattle.tss_locality.proofs.LeftFields.{Leaves-after_event}
 use Rattle.tss_names.specs.Tasks.{task_at}
 use Rattle.tss_control.specs.Members.{operand_among}
-use Rattle.tss_control.specs.Readers.{Arrivals}
-use Rattle.tss_control.specs.Control.{HasGroundwork, IsControlled}
 use Rattle.tss_protocol.proofs.FrontLemmas.{is_of_front}
 use Rattle.tss_protocol.proofs.SentLemmas.{posted_all-later, after_open-later, after_use-later, after_release-later, after_nack-later, after_idle-later, sent_by_retire-later}
 use Rattle.tss_control.proofs.rounds.EntriesQuiet.{quiet_objects}

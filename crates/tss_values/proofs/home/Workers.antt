@@ -1,7 +1,6 @@
 -- What stands at home after a worker's start, and after a stretch.
-use Rattle.std.proofs.Common.{◌≡◌, ℕ, List, false, refl, sym, ap, ◌∙◌}
+use Rattle.std.proofs.Common.{◌≡◌, ℕ, false, refl, sym, ap, ◌∙◌}
 use Rattle.std.specs.FinMap.{get}
-use Rattle.tss_base.specs.declared.operand.Task.{Task}
 use Rattle.tss_base.specs.declared.machine.Machine.{Machine}
 use Rattle.tss_base.specs.declared.event.Event.{Event}
 use Rattle.tss_base.specs.declared.event.Event.TheVariants as event
@@ -11,19 +10,14 @@ use Rattle.tss_protocol.specs.Mail.{OpenContents}
 use Rattle.tss_protocol.specs.State.{State, Entry}
 use Rattle.tss_protocol.specs.UnitMachine.{IsEnabled, after_event, stores_of}
 use Rattle.tss_locality.proofs.LeftFields.{Leaves-after_event}
-use Rattle.tss_values.specs.Buffers.{HasBuffers}
-use Rattle.tss_control.specs.Readers.{Arrivals}
-use Rattle.tss_control.specs.Control.{HasGroundwork, IsControlled}
 use Rattle.tss_control.proofs.rounds.EntriesFrames.{SameObjects}
 use Rattle.tss_control.proofs.rounds.EntriesQuiet.{quiet_objects}
 use Rattle.tss_protocol.proofs.FrontLemmas.{is_of_front}
 use Rattle.tss_control.proofs.holders.KeepsOrder.{AreOrderly-controlled}
-use Rattle.tss_program_order.proofs.RunKeeps.{HasGround}
-use Rattle.tss_values.proofs.Values.{HasWorkers, HasHome}
+use Rattle.tss_values.proofs.Values.{HasHome}
 use Rattle.tss_values.proofs.home.Beside.{home_left}
 use Rattle.tss_values.proofs.home.Kept.{decoded_kept, later_unclaimed}
 use Rattle.tss_values.proofs.workers.Unseen.{LeavesAway, away_start, away_exec}
-use Rattle.tss_control.proofs.rounds.Facts.{Facts}
 use Rattle.tss_values.proofs.WorkerFacts.{WorkerFacts}
 
 module _ (m : Machine) (i : ImageState) (S : State) (work : WorkerFacts m i S) (h : HasHome m i work.ts S) where

@@ -1,5 +1,5 @@
 -- What is brought home after a copy: the next bytes of the buffer, and after the last ones all of them.
-use Rattle.std.proofs.Common.{◌≡◌, ◌≢◌, ℕ, ◌+◌, ◌-◌, ◌<◌, ◌≤◌, ◌⊎◌, nat_le, Bool, true, false, List, length, take, min, Option, Some, None, refl, sym, ap, ◌∙◌, subst, inl, inr, arith}
+use Rattle.std.proofs.Common.{◌≡◌, ◌≢◌, ℕ, ◌+◌, ◌-◌, ◌<◌, ◌≤◌, ◌⊎◌, nat_le, Bool, true, false, List, length, take, min, Some, refl, sym, ap, ◌∙◌, subst, inl, inr, arith}
 use Rattle.std.proofs.lemmas.Bool.Decides.{nat_tests}
 use Rattle.std.specs.Prelude.{is_some, slice_index}
 use Rattle.std.specs.FinMap.{get}
@@ -15,15 +15,13 @@ use Rattle.tss_model.specs.Memory.{byte_at, bytes_of, covers}
 use Rattle.tss_model.specs.InOrder.{Started}
 use Rattle.tss_protocol.specs.Names.{bank_of}
 use Rattle.tss_protocol.specs.Mail.{Buffer, GoneContents, posted_all}
-use Rattle.tss_protocol.specs.State.{State, Entry, CopyState}
+use Rattle.tss_protocol.specs.State.{State, CopyState}
 use Rattle.tss_protocol.specs.Versions.{retired}
 use Rattle.tss_protocol.specs.Buffers.{buffer_bytes, piece_len, is_last_piece, home_after_copy, copies_after_copy, sent_by_copy}
 use Rattle.tss_protocol.specs.UnitMachine.{IsEnabled, is_enabled, after_event, after_copy, stores_of}
 use Rattle.tss_phases.proofs.Tests.{something}
 use Rattle.tss_locality.specs.Rounds.{object_in, IsIn}
 use Rattle.tss_locality.proofs.LeftFields.{Leaves-after_event}
-use Rattle.tss_locality.proofs.RoundObjects.{arrival_operand, found_in_round}
-use Rattle.tss_control.specs.Members.{operand_among}
 use Rattle.tss_control.specs.Entries.{HasEntryOf, IsGoingHome}
 use Rattle.tss_program_order.proofs.FlatNames.{covers-meet}
 use Rattle.tss_program_order.proofs.StoreRuns.{stored_by}

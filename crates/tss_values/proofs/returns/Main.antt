@@ -22,7 +22,6 @@ use Rattle.tss_protocol.specs.UnitMachine.{after_event}
 use Rattle.tss_locality.specs.Rounds.{object_in, IsIn}
 use Rattle.tss_locality.proofs.LeftFields.{Leaves-after_event}
 use Rattle.tss_control.specs.Members.{operand_among}
-use Rattle.tss_control.specs.Control.{HasGroundwork}
 use Rattle.tss_program_order.proofs.FlatNames.{Has, covers-touch, same_range-refl}
 use Rattle.tss_program_order.proofs.FlatNaming.{named_not_loaded}
 use Rattle.tss_program_order.proofs.MainEvent.{main_stores}

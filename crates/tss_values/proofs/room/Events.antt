@@ -37,10 +37,8 @@ use Rattle.tss_phases.proofs.Records.{task_of_record}
 use Rattle.tss_control.specs.Members.{operand_among}
 use Rattle.tss_values.specs.Buffers.{HasBuffers}
 use Rattle.tss_control.specs.Chains.{FollowsAs}
-use Rattle.tss_control.specs.Readers.{Arrivals}
 use Rattle.tss_control.specs.Runners.{is_late}
 use Rattle.tss_control.specs.Holders.{IsOwnOrRead}
-use Rattle.tss_control.specs.Control.{HasGroundwork, IsControlled}
 use Rattle.tss_names.proofs.UnreadyTasks.{unready}
 use Rattle.tss_control.proofs.rounds.Spawned.{operand_among-more}
 use Rattle.tss_control.proofs.rounds.ReleaseFacts.{releases_facts}

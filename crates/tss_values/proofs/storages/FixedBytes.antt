@@ -23,10 +23,7 @@ use Rattle.tss_protocol.specs.Buffers.{buffer_bytes}
 use Rattle.tss_protocol.specs.MainEvent.{flat_of, call_next, after_call, main_by}
 use Rattle.tss_protocol.specs.UnitMachine.{after_event, start_task, after_start, after_exec, after_copy, stores_of}
 use Rattle.tss_locality.proofs.LeftFields.{left_home}
-use Rattle.tss_values.specs.Buffers.{HasBuffers}
 use Rattle.tss_names.specs.Tasks.{task_at, with_spawned, spawned_by_main, spawned_after_event}
-use Rattle.tss_control.specs.Readers.{Arrivals}
-use Rattle.tss_control.specs.Control.{HasGroundwork, IsControlled}
 use Rattle.tss_program_order.proofs.FlatEpoch.{spawn_of-spawned}
 use Rattle.tss_program_order.proofs.FlatFixed.{IsFixed, fixed_apart, fixed_unstored}
 use Rattle.tss_program_order.proofs.FlatMain.{NeverStored, main_stretch-leaves}
@@ -35,10 +32,9 @@ use Rattle.tss_control.proofs.rounds.Spawned.{among_object}
 use Rattle.tss_program_order.proofs.RunKeeps.{HasGround}
 use Rattle.tss_program_order.proofs.StoreBytes.{covers_parts}
 use Rattle.tss_program_order.proofs.StoreFrames.{IsBeside, exec_stretch-left, outputs_zeroed-left, copy-beside}
-use Rattle.tss_values.proofs.Values.{HasWorkers, HasReturns}
+use Rattle.tss_values.proofs.Values.{HasReturns}
 use Rattle.tss_values.proofs.workers.Runs.{worker_separate}
 use Rattle.tss_values.proofs.storages.FixedOutputs.{HasOutputs}
-use Rattle.tss_control.proofs.rounds.Facts.{Facts}
 use Rattle.tss_values.proofs.WorkerFacts.{WorkerFacts}
 
 -- ---- operands of spawned tasks

@@ -28,7 +28,6 @@ use Rattle.tss_protocol.specs.UnitMachine.{IsEnabled, is_enabled, after_event, w
 use Rattle.tss_locality.proofs.LeftFields.{Leaves-after_event, left_buffers}
 use Rattle.tss_phases.specs.Orderly.{AreOrderly}
 use Rattle.tss_control.specs.Members.{operand_among}
-use Rattle.tss_control.specs.Control.{HasGroundwork}
 use Rattle.tss_control.proofs.rounds.Spawned.{operand_among-more}
 use Rattle.tss_control.proofs.rounds.EntriesNames.{decode_among}
 use Rattle.tss_control.proofs.rounds.Facts.{Basis}

@@ -1,13 +1,10 @@
 -- Where an object has a version, it isn't on its way home: nothing of it is copied.
-use Rattle.std.proofs.Common.{◌≡◌, inl, inr, ℕ, Bool, true, false, List, Some, refl, sym, subst}
+use Rattle.std.proofs.Common.{◌≡◌, inl, inr, ℕ, Bool, true, false, Some, refl, sym, subst}
 use Rattle.std.specs.FinMap.{get}
 use Rattle.tss_base.specs.declared.operand.OpName.{OpName}
-use Rattle.tss_base.specs.declared.operand.Task.{Task}
 use Rattle.tss_base.specs.declared.machine.Machine.{Machine}
 use Rattle.tss_protocol.specs.State.{State, Version, CopyState}
 use Rattle.tss_control.specs.Entries.{HasEntryOf, IsGoingHome}
-use Rattle.tss_control.specs.Readers.{Arrivals}
-use Rattle.tss_control.specs.Control.{HasGroundwork, IsControlled}
 use Rattle.tss_control.proofs.entries.OfVersions.{entry_of_version}
 use Rattle.tss_control.proofs.rounds.Facts.{Facts}
 

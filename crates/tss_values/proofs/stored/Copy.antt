@@ -1,5 +1,5 @@
 -- The bytes in the storages of versions after a copy, which brings home an object without a version.
-use Rattle.std.proofs.Common.{◌≡◌, ℕ, ◌≤◌, length, Some, refl, sym, ap, ◌∙◌, subst}
+use Rattle.std.proofs.Common.{◌≡◌, ℕ, ◌≤◌, length, Some, refl, sym, ap, ◌∙◌}
 use Rattle.std.specs.Prelude.{is_some, take}
 use Rattle.std.specs.FinMap.{get}
 use Rattle.tss_base.specs.declared.operand.OpName.{OpName}
@@ -13,8 +13,6 @@ use Rattle.tss_protocol.specs.UnitMachine.{IsEnabled, is_enabled, after_event}
 use Rattle.tss_phases.proofs.QuietEvents.{phase_of-copy}
 use Rattle.tss_phases.proofs.Tests.{something}
 use Rattle.tss_locality.proofs.LeftFields.{Leaves-after_event}
-use Rattle.tss_locality.specs.Rounds.{IsIn}
-use Rattle.tss_control.proofs.rounds.EntriesNames.{object_of_operand}
 use Rattle.tss_values.proofs.storages.Homes.{not_copied_home}
 use Rattle.tss_values.proofs.Values.{content, HasStored, HasReturns}
 use Rattle.tss_values.proofs.returns.Returns.{same_at_home}

@@ -19,7 +19,6 @@ use Rattle.tss_protocol.specs.Buffers.{buffer_bytes, contents_after_gone}
 use Rattle.tss_protocol.specs.Workers.{Stores, placed_in, storage_byte, outputs_zeroed}
 use Rattle.tss_protocol.specs.UnitMachine.{stores_of, after_event, after_copy, gone_message_taken, without}
 use Rattle.tss_locality.proofs.LeftFields.{Leaves-after_event}
-use Rattle.tss_control.specs.Members.{operand_among}
 use Rattle.tss_program_order.proofs.FlatFixed.{IsFixed}
 use Rattle.tss_program_order.proofs.RunKeeps.{after_event-ground, outputs_zeroed-ranges}
 use Rattle.tss_values.proofs.room.Stores.{bytes_beside_gone}

@@ -5,7 +5,6 @@ use Rattle.std.specs.Prelude.{slice_get, option_map}
 use Rattle.std.specs.FinMap.{get}
 use Rattle.std.proofs.lemmas.Bool.{both_ways, false_from_ne_true}
 use Rattle.std.proofs.lemmas.Option.{none-some, same_Some, slice_get-map}
-use Rattle.tss_base.specs.declared.range.Range.{Range}
 use Rattle.tss_base.specs.declared.operand.OpName.{OpName}
 use Rattle.tss_base.specs.declared.operand.Operand.{Operand}
 use Rattle.tss_base.specs.declared.operand.Task.{Task}
@@ -22,15 +21,12 @@ use Rattle.tss_phases.specs.Alone.{HasRecord}
 use Rattle.tss_phases.specs.Orderly.{FitsPhase}
 use Rattle.tss_phases.proofs.Records.{operand_in}
 use Rattle.tss_locality.specs.Rounds.{IsIn}
-use Rattle.tss_locality.proofs.RoundObjects.{arrival_operand}
 use Rattle.tss_control.specs.Members.{operand_among}
 use Rattle.tss_values.specs.Buffers.{HasBuffers}
 use Rattle.tss_control.specs.Readers.{Arrivals}
 use Rattle.tss_control.specs.Runners.{is_late}
 use Rattle.tss_control.specs.Holders.{IsOwnOrRead}
-use Rattle.tss_control.proofs.rounds.Rounds.{found_among}
 use Rattle.tss_control.proofs.holders.Order.{ready_in}
-use Rattle.tss_program_order.proofs.FlatNames.{covers-meet}
 use Rattle.tss_control.proofs.rounds.RoundTasks.{among_tasks}
 use Rattle.tss_values.proofs.storages.Shares.{HoldsStorage, record_holds, one_buffer, one_version, reads_produced, writes_open}
 use Rattle.tss_program_order.proofs.StoreFrames.{IsElsewhere}

@@ -16,8 +16,6 @@ use Rattle.tss_protocol.specs.State.{State, Flying, Busy}
 use Rattle.tss_protocol.specs.Stations.{is_gone, has_finished, remaining_tasks, entered, storages_of, finished_in, awaited, task_after_ready}
 use Rattle.tss_protocol.specs.Workers.{busy_at_start}
 use Rattle.tss_protocol.specs.UnitMachine.{IsEnabled, after_event}
-use Rattle.tss_control.specs.Control.{HasGroundwork, IsControlled}
-use Rattle.tss_control.specs.Readers.{Arrivals}
 use Rattle.tss_protocol.proofs.FrontLemmas.{KeepsFront}
 use Rattle.tss_names.proofs.TakeLemmas.{TakesTask}
 use Rattle.tss_names.proofs.NumberLemmas.{taken_newest, last_taken_before}

@@ -23,23 +23,18 @@ use Rattle.tss_protocol.specs.Buffers.{buffer_bytes}
 use Rattle.tss_protocol.specs.Workers.{Stores}
 use Rattle.tss_protocol.specs.UnitMachine.{stores_of, after_event, start_task, after_start, after_exec}
 use Rattle.tss_locality.specs.Rounds.{object_in}
-use Rattle.tss_control.specs.Members.{operand_among, IsVersionOf}
-use Rattle.tss_values.specs.Buffers.{HasBuffers}
-use Rattle.tss_control.specs.Readers.{Arrivals}
+use Rattle.tss_control.specs.Members.{IsVersionOf}
 use Rattle.tss_control.specs.Entries.{IsGoingHome}
-use Rattle.tss_control.specs.Control.{HasGroundwork, IsControlled}
 use Rattle.tss_names.proofs.QueueLemmas.{in_queue, at_front}
-use Rattle.tss_program_order.proofs.RunKeeps.{HasGround}
 use Rattle.tss_names.proofs.StageLemmas.{queued≢finished}
 use Rattle.tss_values.proofs.storages.Beside.{copy_elsewhere, going_apart}
 use Rattle.tss_values.proofs.storages.Shares.{HoldsStorage}
 use Rattle.tss_program_order.proofs.StoreBytes.{covers_parts}
 use Rattle.tss_program_order.proofs.StoreViews.{AreUnseen, outputs_zeroed-unseen, exec_stretch-unseen, home_unseen, buffer_unseen}
-use Rattle.tss_values.proofs.Values.{HasWorkers, IsInside, IsLoose}
+use Rattle.tss_values.proofs.Values.{IsInside, IsLoose}
 use Rattle.tss_values.proofs.workers.Apart.{held}
 use Rattle.tss_values.proofs.workers.Hold.{IsHeld, writes_own, holder_named}
 use Rattle.tss_values.proofs.workers.Runs.{worker_holds, worker_separate}
-use Rattle.tss_control.proofs.rounds.Facts.{Facts}
 use Rattle.tss_values.proofs.WorkerFacts.{WorkerFacts}
 use Rattle.tss_values.proofs.LiveObjects.{inside_covers, one_covered, member_named, going_named}
 use Rattle.tss_control.proofs.entries.OfVersions.{entry_of_version}

@@ -1,7 +1,7 @@
 -- The names of the task, one by one, until another's.
-use Rattle.std.proofs.Common.{◌≡◌, ℕ, suc, ◌+◌, ◌<◌, ◌≤◌, length, drop, get_or, refl, sym, ap, ◌∙◌, arith}
+use Rattle.std.proofs.Common.{◌≡◌, suc, ◌+◌, drop, get_or, refl, sym, ap, ◌∙◌, arith}
 use Rattle.tss_gateway.specs.declared.names.Held.{Held}
-use Rattle.tss_gateway.specs.Names.{names_in, more_of, run_at}
+use Rattle.tss_gateway.specs.Names.{names_in, more_of}
 use Rattle.tss_gateway.proofs.RunLemmas.{run_there, more_same, more_other}
 use Rattle.tss_gateway.proofs.SetLemmas.{name_at, length-names_in}
 use Rattle.tss_gateway.proofs.names.run_length.Goals as goal

@@ -4,9 +4,8 @@ use Rattle.tss_base.specs.declared.machine.Key.TheVariants.{MaxOperands}
 use Rattle.tss_run.specs.declared.outcome.Refusal.TheVariants as refusal
 use Rattle.tss_run.specs.declared.outcome.Report.TheVariants as report
 use Rattle.tss_run.specs.Outcomes.{files_seen, FailedToRead}
-use Rattle.tss_run.specs.Reading.{Found}
 use Rattle.tss_run.specs.Words.{Names, InOrder}
-use Rattle.tss_run.specs.Work.{Deed, program_reading, in_order_deed, in_order_found, work_of}
+use Rattle.tss_run.specs.Work.{program_reading, in_order_deed, in_order_found, work_of}
 use Rattle.tss_run.proofs.ReadingLemmas.{err_is, stops_with, goes_on}
 use Rattle.tss_run.proofs.OutcomeLemmas.{refused, ran_out, does}
 use Rattle.tss_run.proofs.answering.in_order.Goals as goal

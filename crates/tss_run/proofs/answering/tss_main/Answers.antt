@@ -1,5 +1,5 @@
 -- The outcome is due to the words, and it is told.
-use Rattle.tss_run.specs.Call.{Call, called}
+use Rattle.tss_run.specs.Call.{called}
 use Rattle.tss_run.proofs.CallLemmas.{is_answered, is_complete, appends_expected, appends_partly, changes_no_file}
 use Rattle.tss_run.proofs.RunStateLemmas.{is_of_its_state}
 use Rattle.tss_run.proofs.answering.tss_main.Goals as goal

@@ -1,6 +1,5 @@
 -- The digits of what was parsed are compared with the word.
-use Rattle.std.proofs.Common.{sym, ◌∙◌, ◌≢◌, ◌≡◌, List, ℕ, subst}
-use Rattle.std.specs.Prelude.{decimal}
+use Rattle.std.proofs.Common.{sym, ◌∙◌, ◌≢◌, subst}
 use Rattle.tss_run.proofs.NumberLemmas.{number_is, number_none, parsed_below, other_number, no_number, texts_same, texts_differ}
 use Rattle.tss_run.proofs.command.number.Goals as goal
 

@@ -4,7 +4,7 @@ use Rattle.tss_outside.specs.Outside.{AppendsTo}
 use Rattle.tss_protocol.specs.Text.{lines_of}
 use Rattle.tss_run.specs.declared.outcome.Report.TheVariants as report
 use Rattle.tss_run.specs.Outcomes.{files_seen, FailedToRead, AppendsPartTo}
-use Rattle.tss_run.specs.Reading.{Found, Gives, bytes_found}
+use Rattle.tss_run.specs.Reading.{Found, Gives}
 use Rattle.tss_run.specs.Words.{Migrate, LogNames}
 use Rattle.tss_run.specs.Work.{migrated_log, migration_deed, log_judged, schedule_reading, work_of}
 use Rattle.tss_run.proofs.ReadingLemmas.{err_is, stops_with, goes_on}

@@ -1,5 +1,5 @@
 -- The registers go out one after another.
-use Rattle.std.proofs.Common.{ℕ, List, [], ◌∷◌, ◌++◌, ◌+◌, ap, sym, ◌∙◌, append-nil, arith}
+use Rattle.std.proofs.Common.{ℕ, List, ◌++◌, ◌+◌, ap, ◌∙◌, append-nil, arith}
 use Rattle.std.specs.Prelude.{codes}
 use Rattle.tss_model.specs.Registers.{Registers, register_at}
 use Rattle.tss_report.specs.Digits.{hex_word}

@@ -1,5 +1,4 @@
 -- The operands go out after their task.
-use Rattle.std.proofs.Common.{◌++◌}
 use Rattle.std.specs.FinMap.{get}
 use Rattle.tss_report.proofs.PieceLemmas.{same_text}
 use Rattle.tss_state_lines.specs.Lines.{task_line}

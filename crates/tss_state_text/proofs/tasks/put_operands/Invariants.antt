@@ -1,9 +1,6 @@
 -- The operands before this one were put.
 use Rattle.std.specs.FinMap.{get}
-use Rattle.tss_protocol.specs.Names.{operand_name}
-use Rattle.tss_protocol.specs.Stations.{operand_at}
 use Rattle.tss_report.proofs.PieceLemmas.{HasPut}
-use Rattle.tss_state_lines.specs.Lines.{operand_line}
 use Rattle.tss_state_lines.specs.StateText.{operands_text, text_if}
 use Rattle.tss_state_lines.proofs.Ranges.{texts_from}
 use Rattle.tss_state_text.proofs.TaskLemmas.{operand_text}

@@ -1,9 +1,8 @@
 -- The task is the one that is shown.
-use Rattle.std.proofs.Common.{◌≡◌, Bor, sym, ap, ◌∙◌}
-use Rattle.std.specs.Prelude.{Some, option_and_then, option_map}
+use Rattle.std.proofs.Common.{Bor, sym, ap, ◌∙◌}
+use Rattle.std.specs.Prelude.{option_and_then, option_map}
 use Rattle.tss_base.specs.declared.operand.Task.{Task}
 use Rattle.tss_base.specs.declared.marks.Stage.{Stage}
-use Rattle.tss_maps.specs.Ordered.{key_at}
 use Rattle.tss_stations.specs.Reading.{found_in}
 use Rattle.tss_report.proofs.PieceLemmas.{same_text}
 use Rattle.tss_state_text.proofs.ShownTexts.{nothing_put}

@@ -5,8 +5,7 @@ use Rattle.tss_base.specs.declared.machine.Machine.{Machine}
 use Rattle.tss_base.specs.declared.machine.Key.TheVariants as key
 use Rattle.tss_banks.proofs.BankCounts.{bank_of_base_below}
 use Rattle.std.proofs.Common.{refl}
-use Rattle.tss_pipeline.specs.BankParts.{versions_at}
-use Rattle.tss_state_text.specs.Versions.{next_entry, shown}
+use Rattle.tss_state_text.specs.Versions.{shown}
 use Rattle.tss_state_text.proofs.NextEntries.{IsFirst}
 use Rattle.tss_state_text.proofs.EarlierVersions.{IsBefore, earlier_entry, shown_earlier, first_of_none, first_with, first_of_all}
 use Rattle.tss_state_text.proofs.versions.next_version.Goals as goal

@@ -1,5 +1,5 @@
 -- A name that is there goes, and no other.
-use Rattle.std.proofs.Common.{◌≡◌, None, Some, true, false, refl, sym, ap, subst, ◌∙◌}
+use Rattle.std.proofs.Common.{◌≡◌, Some, refl, sym, ap, subst, ◌∙◌}
 use Rattle.std.specs.Prelude.{slice_get}
 use Rattle.std.specs.FinMap.{get, remove, get-from_entries}
 use Rattle.std.proofs.lemmas.Bool.{false≢true}

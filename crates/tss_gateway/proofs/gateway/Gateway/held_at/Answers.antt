@@ -1,10 +1,9 @@
 -- A run less before the one that is asked for, and the run at the start.
-use Rattle.std.proofs.Common.{◌≡◌, ℕ, suc, ◌+◌, ◌-◌, ◌<◌, ◌≤◌, length, drop, get_or, Option, Some, None, refl, sym, ap, ◌∙◌, arith}
+use Rattle.std.proofs.Common.{◌≡◌, suc, ◌+◌, ◌-◌, drop, Some, sym, ap, ◌∙◌, arith}
 use Rattle.std.specs.Prelude.{slice_get}
-use Rattle.tss_base.specs.declared.operand.OpName.{OpName}
-use Rattle.tss_protocol.specs.Gateway.{HeldTask, runs_of, held_tasks}
+use Rattle.tss_protocol.specs.Gateway.{runs_of, held_tasks}
 use Rattle.tss_gateway.specs.declared.names.Held.{Held}
-use Rattle.tss_gateway.specs.Names.{names_in, run_at}
+use Rattle.tss_gateway.specs.Names.{names_in}
 use Rattle.tss_gateway.specs.Seen.{told_at}
 use Rattle.tss_gateway.proofs.RunLemmas.{runs_at, no_runs}
 use Rattle.tss_gateway.proofs.SetLemmas.{name_at, length-names_in, keys-set_of}

@@ -1,8 +1,8 @@
 -- The list of names is as long as their set.
-use Rattle.std.proofs.Common.{◌≡◌, length, sym, ap, ◌∙◌}
+use Rattle.std.proofs.Common.{length, sym, ap, ◌∙◌}
 use Rattle.std.specs.Prelude.{◌==◌}
 use Rattle.std.proofs.lemmas.List.{length-map}
-use Rattle.std.specs.FinMap.{len, keys, entries, len-entries}
+use Rattle.std.specs.FinMap.{entries, len-entries}
 use Rattle.tss_protocol.specs.Gateway.{is_idle}
 use Rattle.tss_gateway.specs.Names.{names_in, set_of}
 use Rattle.tss_gateway.proofs.SetLemmas.{length-names_in, keys-set_of}

@@ -1,7 +1,7 @@
 -- A run more, and none left.
-use Rattle.std.proofs.Common.{◌≡◌, ◌+◌, ◌<◌, ◌≤◌, length, drop, sym, ap, ◌∙◌, arith}
+use Rattle.std.proofs.Common.{◌≡◌, ◌+◌, length, drop, sym, ap, ◌∙◌, arith}
 use Rattle.tss_protocol.specs.Gateway.{runs_of, held_tasks}
-use Rattle.tss_gateway.specs.Names.{names_in, run_at}
+use Rattle.tss_gateway.specs.Names.{names_in}
 use Rattle.tss_gateway.proofs.RunLemmas.{runs_at, no_runs}
 use Rattle.tss_gateway.proofs.SetLemmas.{length-names_in, keys-set_of}
 use Rattle.tss_gateway.proofs.gateway.Gateway.tasks.Goals as goal

@@ -1,5 +1,5 @@
 -- The name is of the first table in which the place lies.
-use Rattle.std.proofs.Common.{◌≡◌, ◌≤◌, ◌<◌, ◌+◌, ◌-◌, suc, length, Some, None, sym, ap, subst, ◌∙◌, arith, drop}
+use Rattle.std.proofs.Common.{◌≡◌, ◌+◌, ◌-◌, suc, length, Some, sym, ap, ◌∙◌, arith, drop}
 use Rattle.std.specs.Prelude.{slice_get}
 use Rattle.tss_protocol.specs.Mail.{message_names}
 use Rattle.tss_mail.specs.Letters.{mail_of}

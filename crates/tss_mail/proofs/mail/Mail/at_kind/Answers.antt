@@ -1,5 +1,5 @@
 -- The name is that of the kind's table.
-use Rattle.std.proofs.Common.{◌≡◌, Some, None, sym, ap, ◌∙◌, option_map}
+use Rattle.std.proofs.Common.{Some, sym, ap, ◌∙◌, option_map}
 use Rattle.std.specs.Prelude.{slice_get}
 use Rattle.tss_mail.specs.Letters.{mail_of}
 use Rattle.tss_mail.specs.Kinds.{event_of}

@@ -1,5 +1,5 @@
 -- Each table is empty, as all are together.
-use Rattle.std.proofs.Common.{◌≡◌, sym, ap, ◌∙◌, arith}
+use Rattle.std.proofs.Common.{sym, ap, ◌∙◌}
 use Rattle.tss_protocol.specs.Mail.{message_count}
 use Rattle.tss_mail.specs.Letters.{mail_of}
 use Rattle.tss_mail.proofs.TableLemmas.{counted}

@@ -1,5 +1,5 @@
 -- The count is that of the tables.
-use Rattle.std.proofs.Common.{sym, ap, subst, ◌∙◌, ◌≤◌, arith}
+use Rattle.std.proofs.Common.{sym, ap, ◌∙◌, arith}
 use Rattle.tss_protocol.specs.Mail.{message_count}
 use Rattle.tss_mail.specs.Letters.{mail_of}
 use Rattle.tss_mail.proofs.TableLemmas.{counted}

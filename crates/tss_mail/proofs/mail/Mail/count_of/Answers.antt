@@ -1,5 +1,5 @@
 -- There are as many as the kind's table has.
-use Rattle.std.proofs.Common.{◌≡◌, ap, ◌∙◌, length}
+use Rattle.std.proofs.Common.{ap, ◌∙◌, length}
 use Rattle.tss_mail.specs.Letters.{mail_of}
 use Rattle.tss_mail.specs.KindNames.{names_of_kind}
 use Rattle.tss_mail.proofs.KeptLemmas.{now_in}

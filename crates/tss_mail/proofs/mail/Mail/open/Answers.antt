@@ -1,5 +1,5 @@
 -- Twelve empty tables.
-use Rattle.std.proofs.Common.{◌≡◌, ◌<◌, length, sym, ap, subst, ◌∙◌, arith, get_or}
+use Rattle.std.proofs.Common.{◌≡◌, sym, ap, subst, ◌∙◌, arith, get_or}
 use Rattle.std.proofs.Math.ListN.{replicate}
 use Rattle.std.specs.FinMap.{len}
 use Rattle.tss_mail.specs.Kept.{AreLetters, letters_of}

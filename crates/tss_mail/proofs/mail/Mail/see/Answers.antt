@@ -1,5 +1,5 @@
 -- The message of a name is the one in its kind's table.
-use Rattle.std.proofs.Common.{◌≡◌, sym, ap, ◌∙◌, option_map}
+use Rattle.std.proofs.Common.{sym, ap, ◌∙◌, option_map}
 use Rattle.tss_protocol.specs.Mail.{message_at}
 use Rattle.tss_events.specs.Events.{message_of}
 use Rattle.tss_mail.specs.Letters.{mail_of, letter_at}

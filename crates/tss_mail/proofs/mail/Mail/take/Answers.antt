@@ -1,6 +1,6 @@
 -- A message less, or none.
-use Rattle.std.proofs.Common.{◌≡◌, None, Some, sym, ap, subst, ◌∙◌, arith, option_map}
-use Rattle.tss_protocol.specs.Mail.{message_at, taken}
+use Rattle.std.proofs.Common.{sym, ap, ◌∙◌, option_map}
+use Rattle.tss_protocol.specs.Mail.{message_at}
 use Rattle.tss_events.specs.Events.{message_of}
 use Rattle.tss_mail.specs.Letters.{mail_of, letter_at, without_letter}
 use Rattle.tss_mail.proofs.TableLemmas.{event_of_address, taken-without_letter}

@@ -1,5 +1,5 @@
 -- What an append to a file in memory leaves.
-use Rattle.std.proofs.Common.{false, ◌≡◌, subst, true, ◌≤◌, ◌+◌, ◌≢◌, ◌++◌, ◌-◌, [], ℕ, List, Bool, inl, Option, Some, None, sym, ap, ◌∙◌, refl, arith, length, Result, Ok, Err}
+use Rattle.std.proofs.Common.{false, ◌≡◌, subst, true, ◌+◌, ◌≢◌, ◌++◌, ◌-◌, [], ℕ, List, Bool, inl, Option, Some, None, sym, ap, ◌∙◌, refl, arith, length, Result, Ok, Err}
 use Rattle.std.proofs.Math.ListN.{set}
 use Rattle.std.specs.Prelude.{nat_lt, ◌||◌, ◌↔◌, IsErr, IsTrue, position, is_some, OnOk, OnErr, unwrap_or}
 use Rattle.std.specs.Option.{option_and_then, option_map_or}

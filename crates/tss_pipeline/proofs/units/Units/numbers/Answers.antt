@@ -1,5 +1,5 @@
 -- The number of each kind, in order.
-use Rattle.std.proofs.Common.{◌≡◌, ◌∷◌, [], refl, ◌∙◌}
+use Rattle.std.proofs.Common.{◌∷◌, [], refl, ◌∙◌}
 use Rattle.tss_base.specs.declared.event.Event.TheVariants as event
 use Rattle.tss_protocol.specs.UnitMachine.{is_enabled}
 use Rattle.tss_mail.specs.declared.kind.Kind.TheVariants as kind

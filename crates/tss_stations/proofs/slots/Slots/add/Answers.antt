@@ -1,11 +1,11 @@
 -- A slot more.
-use Rattle.std.proofs.Common.{◌≡◌, ◌<◌, ◌+◌, None, sym, ap, subst, ◌∙◌, arith, get_or, set}
+use Rattle.std.proofs.Common.{◌+◌, sym, ap, subst, ◌∙◌, get_or, set}
 use Rattle.std.specs.Prelude.{nat_lt, IsTrue}
 use Rattle.std.specs.FinMap.{get, insert}
 use Rattle.tss_protocol.specs.Names.{station_of}
 use Rattle.tss_protocol.specs.Stations.{has_slot}
 use Rattle.tss_stations.specs.Views.{flight_of}
-use Rattle.tss_stations.specs.Slots.{taken_in, AreSlots}
+use Rattle.tss_stations.specs.Slots.{AreSlots}
 use Rattle.tss_stations.proofs.ViewLemmas.{tasks_in-flight_of}
 use Rattle.tss_stations.proofs.KeptLemmas.{count_read, room_read, kept_added, room_added}
 use Rattle.tss_stations.proofs.slots.Slots.add.Goals as goal

@@ -1,5 +1,5 @@
 -- A slot less, where its task has left.
-use Rattle.std.proofs.Common.{◌≡◌, ◌-◌, ◌≤◌, Some, sym, ap, subst, ◌∙◌, arith, get_or, set}
+use Rattle.std.proofs.Common.{◌≡◌, ◌-◌, ◌≤◌, Some, sym, ap, subst, ◌∙◌, get_or, set}
 use Rattle.std.specs.FinMap.{get, remove}
 use Rattle.std.proofs.lemmas.Option.{same_Some}
 use Rattle.tss_protocol.specs.Names.{station_of}

@@ -1,6 +1,5 @@
 -- As many slots of each station are taken.
-use Rattle.std.proofs.Common.{sym, ap, subst, ◌∙◌, refl}
-use Rattle.std.specs.FinMap.{insert}
+use Rattle.std.proofs.Common.{sym, subst}
 use Rattle.tss_base.specs.declared.marks.Stage.TheVariants as stage
 use Rattle.tss_stations.specs.Slots.{AreSlots}
 use Rattle.tss_stations.proofs.KeptLemmas.{kept_written}

@@ -1,5 +1,5 @@
 -- A task that runs.
-use Rattle.std.proofs.Common.{◌≡◌, ap, sym, ◌∙◌}
+use Rattle.std.proofs.Common.{ap, sym, ◌∙◌}
 use Rattle.std.specs.FinMap.{get}
 use Rattle.tss_stations.specs.Views.{flight_of}
 use Rattle.tss_stations.specs.Slots.{StationsState, slots_after_start}

@@ -1,5 +1,5 @@
 -- An operand's farewell, and the slot freed where its task has left.
-use Rattle.std.proofs.Common.{◌≡◌, Some, ap, sym, ◌∙◌}
+use Rattle.std.proofs.Common.{ap, sym, ◌∙◌}
 use Rattle.tss_stations.specs.Views.{flight_of, view_in}
 use Rattle.tss_stations.specs.Slots.{StationsState, slots_after_bye}
 use Rattle.tss_stations.proofs.RowLemmas.{bye_flight}

@@ -1,5 +1,5 @@
 -- The slot of a task that enters is its first record.
-use Rattle.std.proofs.Common.{None, sym, ap, ◌∙◌}
+use Rattle.std.proofs.Common.{ap, ◌∙◌}
 use Rattle.std.specs.FinMap.{get, insert}
 use Rattle.tss_maps.proofs.Keys.{nat_order}
 use Rattle.tss_maps.proofs.MappedLemmas.{mapped-insert}

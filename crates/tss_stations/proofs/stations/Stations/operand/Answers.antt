@@ -1,8 +1,7 @@
 -- What is known of an operand is its record.
-use Rattle.std.proofs.Common.{None, Some, sym, ap, ◌∙◌, option_map}
+use Rattle.std.proofs.Common.{sym, ap, ◌∙◌, option_map}
 use Rattle.std.specs.Prelude.{option_and_then}
 use Rattle.std.specs.FinMap.{get}
-use Rattle.tss_stations.specs.declared.slot.Slot.{Slot}
 use Rattle.tss_stations.specs.Views.{state_of, view_at}
 use Rattle.tss_stations.proofs.ViewLemmas.{operand_at-flight_of}
 use Rattle.tss_stations.proofs.stations.Stations.operand.Goals as goal

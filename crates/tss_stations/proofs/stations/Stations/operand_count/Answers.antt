@@ -1,5 +1,5 @@
 -- The slot of a task has as many.
-use Rattle.std.proofs.Common.{Some, None, length, option_map, sym, ap, ◌∙◌}
+use Rattle.std.proofs.Common.{Some, length, option_map, sym, ap, ◌∙◌}
 use Rattle.std.specs.FinMap.{get}
 use Rattle.tss_stations.specs.declared.slot.Slot.{Slot}
 use Rattle.tss_stations.specs.Views.{views_of}

@@ -1,5 +1,5 @@
 -- An operand that is told its version, and the task queued where it is complete.
-use Rattle.std.proofs.Common.{◌≡◌, Some, ap, sym, ◌∙◌}
+use Rattle.std.proofs.Common.{ap, sym, ◌∙◌}
 use Rattle.std.specs.Prelude.{is_some}
 use Rattle.tss_events.specs.Events.{source_of, messages_of}
 use Rattle.tss_protocol.specs.Stations.{after_ready}
