@@ -30,7 +30,7 @@ pub const MAX_OPERANDS: u32 = 7;
 /// The most bytes of an object.
 pub const MAX_OBJECT_BYTES: u32 = 65_536;
 
-/// The most objects that main may name in an epoch.
+/// The most objects that main may have named at one time.
 pub const MAX_EPOCH_OBJECTS: u32 = 65_536;
 
 /// The most bytes that main may print.

@@ -3,7 +3,7 @@ ghost use Rattle.std.specs.Prelude.{◌≡◌};
 ghost use Rattle.tss_base.specs.Machine.{key_name};
 
 /// What a program may use: instructions of main and of each task, tasks of a run, operands listed per task, bytes per
-/// object, objects named per epoch, and bytes printed.
+/// object, objects named at one time, and bytes printed.
 #[derive(Clone, Copy, Debug, PartialEq, Eq)]
 pub struct Limits {
     pub main_budget: u64,

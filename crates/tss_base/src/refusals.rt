@@ -23,7 +23,7 @@ pub const OBJECT_OUTSIDE: u32 = 7;
 /// It meets a named object or an earlier one of its list in part.
 pub const OVERLAP: u32 = 8;
 
-/// More objects named than an epoch may have.
+/// More objects named at one time than main may have: a barrier takes back all of them, an await one.
 pub const EPOCH_FULL: u32 = 9;
 
 /// As many tasks as a run may have.
