@@ -12,7 +12,8 @@ pub enum AsmFault {
     /// A label that is used was never placed. The entry counts as used.
     #[error("a label is used and was never placed")]
     UnknownLabel,
-    /// The target of a branch is 4,096 bytes or more away, or that of a jump 1,048,576 or more.
+    /// The target of a branch is 4,096 bytes or more ahead or more than 4,096 back, or that of a jump 1,048,576 or more
+    /// ahead or more than 1,048,576 back.
     #[error("a branch or a jump doesn't reach its label")]
     FarTarget,
     /// A field of an instruction is out of its range.

@@ -23,8 +23,8 @@ pub enum Deny {
 }
 
 /// The rule of access for main. `within` is whether the range of memory in which the access lies wholly can be
-/// written, and none where it lies in no single range; `touched` is whether it meets an object that main has named in
-/// this epoch. Main loads in every range and stores in one that can be written, and touches what it has named.
+/// written, and none where it lies in no single range; `touched` is whether it meets an object that main has named and
+/// hasn't taken back. Main loads in every range and stores in one that can be written, and touches what it has named.
 #[inline(always)]
 pub fn main_access(purpose: Purpose, within: Option<bool>, touched: bool) -> Result<(), Deny>
     ensures exact { result ≡ allowed (main_answer (purpose_of purpose) within touched) }

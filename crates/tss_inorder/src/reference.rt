@@ -66,7 +66,7 @@ impl Reference {
 
 /// Runs an image in program order: main instruction by instruction, and each task that it spawns at once, to its end or
 /// its trap. Memory of the process is taken at the beginning alone: for the image's memory and code, the objects that
-/// an epoch may name, the bytes and pieces that may be printed, and the scratch of one task.
+/// may be named at one time, the bytes and pieces that may be printed, and the scratch of one task.
 pub fn run_in_order(alloc: Global, image: &Image, limits: &Limits) -> Result<Reference, NoMemory>
     requires { limits.now.max_operands ≤ MAX_OPERANDS }
     ensures exact { IfOk result (λ r. r ≡ in_order image.now limits.now) }

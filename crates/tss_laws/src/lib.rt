@@ -62,9 +62,9 @@ pub fn no_false_wait()
 /// order after as many steps of main, and home has its bytes wherever main may load, the first holds again after the
 /// event, or the task that it spawned traps in program order. A task that went to the inbox is the one that program
 /// order starts there. Home still agrees with program order at each address where it did, but for the objects of that
-/// task, which main may not load from then on; so a barrier, after which main may load more, adds nothing to that. Once a
-/// task that main has spawned traps, program order ends with it, and what main has printed with fewer tasks spawned stays
-/// its output. Whatever went before, the event changes home only at addresses that main may load.
+/// task, which main may not load from then on; so a barrier or an await, after which main may load more, adds nothing to
+/// that. Once a task that main has spawned traps, program order ends with it, and what main has printed with fewer tasks
+/// spawned stays its output. Whatever went before, the event changes home only at addresses that main may load.
 pub fn main_event()
     ensures in_order { MainInOrderLaw }
     ensures cut_off { MainCutOffLaw }

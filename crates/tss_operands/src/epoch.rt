@@ -11,8 +11,8 @@ use std::alloc::Global;
 use std::marker::Model;
 use tss_base::{NoMemory, Range, Task};
 
-/// The objects that main has named since the last barrier, in order of naming, each once, and the most that it may
-/// name.
+/// The objects that main has named since the last barrier and hasn't awaited since, in order of naming, each once, and the
+/// most that may be named at one time.
 #[derive(Drop, Debug)]
 pub struct Epoch {
     limit: u32,

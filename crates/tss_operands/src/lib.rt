@@ -1,5 +1,6 @@
 //! What main names and spawns. A contract sees an `Epoch` as its limit and the list of the objects that main has named
-//! since the last barrier, in order of naming; a second list in address order makes each test a binary search.
+//! since the last barrier and hasn't awaited since, in order of naming; a second list in address order makes each test a
+//! binary search.
 //! `read_spawn` reads an operand list in memory and answers the task, or the first check that fails. It names nothing:
 //! its caller does so, and runs the task.
 #![tactic(auto)]

@@ -32,7 +32,7 @@ impl Pipeline {
         self.units.main.spawned()
     }
 
-    /// How many objects are named in this epoch.
+    /// How many objects are named now: since the last barrier, and not awaited since.
     pub fn epoch_count(&self) -> u32
         ensures { result ≡ length self.now.state.main.epoch }
     {

@@ -17,8 +17,8 @@ use tss_memory::{Code, Space};
 use tss_operands::Epoch;
 
 /// Main, with the limits that it runs under: its registers, the number of tasks that it has spawned, the objects that it
-/// has named in this epoch, what it has printed, and its ending where it has ended. Memory of the process is taken as it
-/// is opened, and not after.
+/// has named and not taken back, what it has printed, and its ending where it has ended. Memory of the process is taken as
+/// it is opened, and not after.
 #[derive(Drop, Debug)]
 pub struct Main {
     pub(crate) limits: Limits,
