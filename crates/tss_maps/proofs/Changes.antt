@@ -142,7 +142,7 @@ module _ {K X : Type 0} {R : K → K → Ordering} (order : IsKeyOrder R) where
       ])
 
   -- an insertion after a removal at its key is the insertion alone
-  pub insert_emptied : (m : FinMap R X) (k : K) (v : X) → insert (remove m k) k v ≡ insert m k v
+  insert_emptied : (m : FinMap R X) (k : K) (v : X) → insert (remove m k) k v ≡ insert m k v
   insert_emptied m k v =
       same_at_key _ _ k (at_inserted _ k v ∙ sym (at_inserted m k v)) (λ q apart. beside_inserted _ k v q apart
       ∙ beside_removed m k q apart ∙ sym (beside_inserted m k v q apart))

@@ -1,14 +1,17 @@
 -- How many entries a finite map has, induction over its entries, and a search among them.
-use Rattle.std.proofs.Common.{◌≡◌, ◌≢◌, ℕ, zero, suc, ◌+◌, ◌-◌, ◌<◌, ◌≤◌, Bool, true, false, cond, Some, None, refl, sym, ap, ◌∙◌, subst, arith, inl, inr, ◌⊎◌}
+use Rattle.std.proofs.Common.{◌≡◌, ℕ, zero, suc, ◌+◌, ◌-◌, ◌<◌, ◌≤◌, Bool, true, false, cond, Some, None, refl, sym, ap}
+use Rattle.std.proofs.Common.{◌∙◌, subst, arith, inl, inr, ◌⊎◌}
 use Rattle.std.specs.Prelude.{is_some, List, [], ◌∷◌, length}
 use Rattle.std.specs.declared.cmp.Ordering.{Ordering}
 use Rattle.std.specs.Ordering.{nat_cmp}
-use Rattle.std.specs.FinMap.{FinMap, empty, get, insert, remove, len, entries, get-entries, len-entries, get-empty, len-empty, len-insert, len-remove, empty_of_len}
+use Rattle.std.specs.FinMap.{FinMap, empty, get, insert, remove, len, entries, get-entries, len-entries, get-empty}
+use Rattle.std.specs.FinMap.{len-empty, len-insert, len-remove, empty_of_len}
 use Rattle.std.specs.FinMap.Entries.{find}
 use Rattle.std.proofs.lemmas.Option.{none-some}
 use Rattle.tss_maps.specs.Below.{all_below}
 use Rattle.tss_maps.proofs.Keys.{IsKeyOrder, nat_order, decide_key, same_key}
-use Rattle.tss_maps.proofs.Changes.{decide_get, apart_absent, at_inserted, beside_inserted, at_removed, beside_removed, from_inserted, insert_removed, remove_inserted}
+use Rattle.tss_maps.proofs.Changes.{decide_get, apart_absent, at_inserted, beside_inserted, at_removed, beside_removed}
+use Rattle.tss_maps.proofs.Changes.{from_inserted, insert_removed, remove_inserted}
 
 module _ {K X : Type 0} {R : K → K → Ordering} where
   -- where something stands, the map isn't empty
@@ -98,13 +101,13 @@ module _ {K X : Type 0} {R : K → K → Ordering} (order : IsKeyOrder R) where
       one_more m k v new (inr none) = at_new m k v (p k v) refl none
 
 -- each entry of the first map goes to an entry of the second, which f names
-abbrev pub GoesInto : {K X J Y : Type 0} {R : K → K → Ordering} {S : J → J → Ordering} → (K → X → J) → FinMap R X →
+abbrev GoesInto : {K X J Y : Type 0} {R : K → K → Ordering} {S : J → J → Ordering} → (K → X → J) → FinMap R X →
     FinMap S Y →
     Type 0
 GoesInto {K} {X} {J} {Y} f m n = (k : K) (x : X) → get m k ≡ Some x → (y : Y) × (get n (f k x) ≡ Some y)
 
 -- no two entries have one name by f
-abbrev pub AreNamedApart : {K X J : Type 0} {R : K → K → Ordering} → (K → X → J) → FinMap R X → Type 0
+abbrev AreNamedApart : {K X J : Type 0} {R : K → K → Ordering} → (K → X → J) → FinMap R X → Type 0
 AreNamedApart {K} {X} f m = (k q : K) (x y : X) → get m k ≡ Some x → get m q ≡ Some y → f k x ≡ f q y → k ≡ q
 
 module _ {K X J Y : Type 0} {R : K → K → Ordering} {S : J → J → Ordering} (order : IsKeyOrder R) (other : IsKeyOrder S)
@@ -130,7 +133,7 @@ module _ {K X J Y : Type 0} {R : K → K → Ordering} {S : J → J → Ordering
       omega (arith, rest, more, less)
 
   -- a map whose entries go into another, no two to one entry, has at most as many
-  pub len_into : (m : FinMap R X) (n : FinMap S Y) → GoesInto f m n → AreNamedApart f m → len m ≤ len n
+  len_into : (m : FinMap R X) (n : FinMap S Y) → GoesInto f m n → AreNamedApart f m → len m ≤ len n
   len_into = map_induction order (λ m. (n : FinMap S Y) → GoesInto f m n → AreNamedApart f m → len m ≤ len n)
       (λ n goes apart. let z = len-empty R X in omega (arith, z)) into_more
 
@@ -182,18 +185,3 @@ len_within_places order place m n within apart =
 -- a map under numbers below n has at most n entries
 pub len_below : {X : Type 0} (m : FinMap nat_cmp X) (n : ℕ) → ((k : ℕ) (x : X) → get m k ≡ Some x → k < n) → len m ≤ n
 len_below m n within = len_within_places nat_order (λ k x. k) m n within (λ k q x y e g same. same)
-
--- a map that has as many entries as there are numbers below n, and none but under those, has each
-pub len_full : {X : Type 0} (m : FinMap nat_cmp X) (n k : ℕ) → ((q : ℕ) (x : X) → get m q ≡ Some x → q < n) →
-    len m ≡ n →
-    k < n → get m k ≢ None
-len_full m n k within full h absent = elim (some_entry nat_order m) [
-  | inl none ↦ absurd (omega (arith, none, full, h))
-  | inr there ↦
-      let more = len_added nat_order m k there.1 absent in
-      let few = len_below (insert m k there.1) n (λ q x e. elim (from_inserted nat_order m k there.1 q x e) [
-        | inl same ↦ let here = same.0 in omega (arith, here, h)
-        | inr before ↦ within q x before.1
-      ]) in
-      omega (arith, more, few, full)
-]

@@ -44,13 +44,6 @@ module _ {K : Type 0} {R : K → K → Ordering} (order : IsKeyOrder R) where
   pub turned : (q k : K) (r : Ordering) → R q k ≡ r → R k q ≡ ordering_reverse r
   turned q k r e = order.total.antisymm k q ∙ ap ordering_reverse e
 
-  -- two keys aren't each below the other
-  pub not_both_below : (q k : K) → R q k ≡ Less → R k q ≡ Less → ⊥
-  not_both_below q k below above = not_turned (R k q) above (turned q k Less below)
-    where
-      not_turned : (r : Ordering) → r ≡ Less → r ≡ Greater → ⊥
-      not_turned r less greater = cc
-
   compare_by : (q k : K) (r : Ordering) → R q k ≡ r → (R q k ≡ Less) ⊎ ((q ≡ k) ⊎ (R k q ≡ Less))
   compare_by q k Less e = inl e
   compare_by q k Equal e = inr (inl (order.exact q k e))

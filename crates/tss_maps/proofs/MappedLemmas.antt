@@ -1,9 +1,11 @@
 -- What stands at a key of a mapped finite map, its changes, its keys, and counts over it.
-use Rattle.std.proofs.Common.{◌≡◌, ◌≢◌, ◌⊎◌, ℕ, suc, ◌+◌, Bool, true, false, cond, List, [], ◌∷◌, length, Option, Some, None, refl, sym, ap, subst, ◌∙◌, inl, inr, option_map}
+use Rattle.std.proofs.Common.{◌≡◌, ◌≢◌, ◌⊎◌, ℕ, suc, ◌+◌, Bool, true, false, cond, List, [], ◌∷◌, length, Some, refl}
+use Rattle.std.proofs.Common.{sym, ap, subst, ◌∙◌, inl, inr, option_map}
 use Rattle.std.specs.Prelude.{T, ◌&&◌, map}
 use Rattle.std.specs.declared.cmp.Ordering.{Ordering}
 use Rattle.std.specs.Ordering.{is_lt, eq_by_cmp}
-use Rattle.std.specs.FinMap.{FinMap, empty, get, insert, remove, len, entries, keys, entries_sorted, entries-from_sorted, get-entries, get-empty, len-entries}
+use Rattle.std.specs.FinMap.{FinMap, empty, get, insert, remove, len, entries, keys, entries_sorted}
+use Rattle.std.specs.FinMap.{entries-from_sorted, get-entries, get-empty, len-entries}
 use Rattle.std.specs.FinMap.Entries.{find, is_sorted, below_all}
 use Rattle.tss_maps.specs.Sums.{weigh, sum_of, count_of, one_if}
 use Rattle.tss_maps.specs.Mapped.{map_entries, mapped}
@@ -22,7 +24,8 @@ module _ {K X Y : Type 0} (R : K → K → Ordering) (f : X → Y) where
   find-map_entries : (q : K) (es : List (K × X)) → find R q (map_entries f es) ≡ option_map f (find R q es)
   find-map_entries q [] = refl
   find-map_entries q (e ∷ es) =
-      elim (eq_by_cmp R q e.0) as (λ b. cond b (Some (f e.1)) (find R q (map_entries f es)) ≡ option_map f (cond b (Some e.1) (find R q es))) [
+      elim (eq_by_cmp R q e.0) as (λ b. cond b (Some (f e.1)) (find R q (map_entries f es))
+      ≡ option_map f (cond b (Some e.1) (find R q es))) [
         | true ↦ refl
         | false ↦ find-map_entries q es
       ]
@@ -43,10 +46,11 @@ module _ {K X Y : Type 0} (f : X → Y) where
 
 module _ {K X Y : Type 0} {R : K → K → Ordering} (f : X → Y) where
   -- its entries
-  pub entries-mapped : (m : FinMap R X) → entries (mapped f m) ≡ map_entries f (entries m)
+  entries-mapped : (m : FinMap R X) → entries (mapped f m) ≡ map_entries f (entries m)
   unfolding mapped
   entries-mapped m =
-      entries-from_sorted R (map_entries f (entries m)) (subst T (sym (is_sorted-map_entries R f (entries m))) (entries_sorted m))
+      entries-from_sorted R (map_entries f (entries m))
+      (subst T (sym (is_sorted-map_entries R f (entries m))) (entries_sorted m))
 
   -- at a key stands the function of what stood there
   pub get-mapped : (m : FinMap R X) (q : K) → get (mapped f m) q ≡ option_map f (get m q)
@@ -105,12 +109,3 @@ module _ {K X Y : Type 0} {R : K → K → Ordering} (order : IsKeyOrder R) (f :
           ap (option_map f) (beside_removed order m k q apart)
           ∙ sym (get-mapped f m q)
           ∙ sym (beside_removed order (mapped f m) k q apart)
-
-  -- a function of a function is one function
-  pub mapped-mapped : {Z : Type 0} (g : Y → Z) (m : FinMap R X) → mapped g (mapped f m) ≡ mapped (λ x. g (f x)) m
-  mapped-mapped {Z} g m = same_by_get order _ _ (λ q.
-      get-mapped g (mapped f m) q ∙ ap (option_map g) (get-mapped f m q) ∙ by (get m q) ∙ sym (get-mapped (λ x. g (f x)) m q))
-    where
-      by : (o : Option X) → option_map g (option_map f o) ≡ option_map (λ x. g (f x)) o
-      by None = refl
-      by (Some x) = refl

@@ -1,16 +1,15 @@
 -- The entries of a finite map by place, its keys in order, the least key and the least above another.
-use Rattle.std.proofs.Common.{◌≡◌, ℕ, zero, suc, ◌<◌, ◌≤◌, ◌≢◌, true, false, Option, Some, None, refl, sym, ap, ◌∙◌, arith, inl, inr}
-use Rattle.std.specs.Prelude.{slice_get, map, option_map}
+use Rattle.std.proofs.Common.{◌≡◌, ℕ, zero, suc, ◌<◌, ◌≢◌, true, false, Option, Some, None, refl, sym, ap, ◌∙◌, arith}
+use Rattle.std.proofs.Common.{inl, inr}
+use Rattle.std.specs.Prelude.{slice_get, option_map}
 use Rattle.std.specs.declared.cmp.Ordering.{Ordering}
 use Rattle.std.specs.declared.cmp.Ordering.TheVariants.{Less, Equal, Greater}
 use Rattle.std.specs.Ordering.{is_lt}
-use Rattle.std.specs.Cmp.{tied_itself}
-use Rattle.std.specs.FinMap.{FinMap, get, insert, len, entries, keys, entries_sorted, entries-insert, get-entries, len-entries}
-use Rattle.std.proofs.lemmas.Option.{none-some, same_Some, slice_get_within, slice_get-map, slice_get_past}
+use Rattle.std.specs.FinMap.{FinMap, get, len, entries, keys, entries_sorted, get-entries, len-entries}
+use Rattle.std.proofs.lemmas.Option.{none-some, same_Some, slice_get_within, slice_get-map}
 use Rattle.tss_maps.specs.Ordered.{key_at, least, least_above}
-use Rattle.tss_maps.proofs.Keys.{IsKeyOrder, nat_order, below_from_less, decide_key, not_both_below, compare_keys, apart_below, turned}
-use Rattle.tss_maps.proofs.Entries.{absent_empty}
-use Rattle.tss_maps.proofs.Places.{not_past, find_first, find_there, find_nowhere, entry_of_key, rising, find_at, place_of, keys_put}
+use Rattle.tss_maps.proofs.Keys.{IsKeyOrder, nat_order, below_from_less, compare_keys}
+use Rattle.tss_maps.proofs.Places.{not_past, find_there, entry_of_key, rising, find_at, place_of}
 
 -- what the test of an answer says
 less_from_test : (r : Ordering) → is_lt r ≡ true → r ≡ Less
@@ -40,7 +39,7 @@ module _ {K X : Type 0} {R : K → K → Ordering} (order : IsKeyOrder R) where
   key_at-entries m i = slice_get-map (λ e. e.0) (entries m) i
 
   -- a key at a place has its entry there
-  pub entry_from_key : (m : FinMap R X) (i : ℕ) (k : K) → key_at m i ≡ Some k →
+  entry_from_key : (m : FinMap R X) (i : ℕ) (k : K) → key_at m i ≡ Some k →
       (x : X) × (slice_get (entries m) i ≡ Some (k, x))
   unfolding key_at
   entry_from_key m i k e = entry_of_key (entries m) i k e
@@ -62,14 +61,6 @@ module _ {K X : Type 0} {R : K → K → Ordering} (order : IsKeyOrder R) where
       let b = entry_from_key m j q g in
       rising R (entries m) i j k q a.0 b.0 (entries_sorted m) l a.1 b.1
 
-  -- a key is at one place
-  pub one_place : (m : FinMap R X) (i j : ℕ) (k : K) → key_at m i ≡ Some k → key_at m j ≡ Some k → i ≡ j
-  one_place m i j k e g = elim (compare_keys nat_order i j) [
-    | inl below ↦ absurd (apart_below order k k (keys_rise m i j k k (below_from_less i j below) e g) refl)
-    | inr (inl same) ↦ same
-    | inr (inr above) ↦ absurd (apart_below order k k (keys_rise m j i k k (below_from_less j i above) g e) refl)
-  ]
-
   -- a key's place is below the number of entries
   pub key_at_within : (m : FinMap R X) (i : ℕ) (k : K) → key_at m i ≡ Some k → i < len m
   key_at_within m i k e =
@@ -85,24 +76,6 @@ module _ {K X : Type 0} {R : K → K → Ordering} (order : IsKeyOrder R) where
       by : (o : Option (K × X)) → slice_get (entries m) i ≡ o → (k : K) × (key_at m i ≡ Some k)
       by None e = let n = len-entries m in absurd (not_past (entries m) i (omega (arith, n, h)) e)
       by (Some p) e = (p.0, key_at-entries m i ∙ ap (option_map (λ (e : K × X). e.0)) e)
-
-  -- past the entries is no key
-  pub key_at_past : (m : FinMap R X) (i : ℕ) → len m ≤ i → key_at m i ≡ None
-  key_at_past m i h =
-      let n = len-entries m in
-      key_at-entries m i ∙ ap (option_map (λ (e : K × X). e.0)) (slice_get_past (entries m) i (omega (arith, n, h)))
-
-  -- a write where something stands leaves the keys as they are
-  pub keys_written : (m : FinMap R X) (k : K) (u v : X) → get m k ≡ Some u → keys (insert m k v) ≡ keys m
-  keys_written m k u v e =
-      ap (map (λ (e : K × X). e.0)) (entries-insert order.total m k v)
-      ∙ keys_put order (entries m) k u v (entries_sorted m) (sym (get-entries m k) ∙ e)
-
-  -- and each at its place
-  pub key_at_written : (m : FinMap R X) (k : K) (u v : X) (i : ℕ) → get m k ≡ Some u →
-      key_at (insert m k v) i ≡ key_at m i
-  unfolding key_at
-  key_at_written m k u v i e = ap (λ ks. slice_get ks i) (keys_written m k u v e)
 
 -- k is a key of the map, and each other key is above it
 pub record IsLeast {K X : Type 0} {R : K → K → Ordering} (m : FinMap R X) (k : K) : Type 0 where
@@ -135,21 +108,6 @@ module _ {K X : Type 0} {R : K → K → Ordering} (order : IsKeyOrder R) where
       by zero h = refl
       by (suc n) h = let t = some_key_at order m 0 (omega (arith, h)) in absurd (none-some t.0 (sym e ∙ t.1))
 
-  -- what is the least is the least key
-  pub least_is : (m : FinMap R X) (k : K) → IsLeast m k → least m ≡ Some k
-  least_is m k is = by (least m) refl
-    where
-      by : (o : Option K) → least m ≡ o → o ≡ Some k
-      by None e = absurd (none-some is.there.0 (sym (absent_empty m k (least_none m e)) ∙ is.there.1))
-      by (Some q) e = elim (decide_key order q k) [
-        | inl same ↦ ap Some same
-        | inr apart ↦
-            let q_least = least_some m q e in
-            let up = is.others q q_least.there.0 q_least.there.1 apart in
-            let down = q_least.others k is.there.0 is.there.1 (λ same. apart (sym same)) in
-            absurd (not_both_below order q k down up)
-      ]
-
   above_by : (m : FinMap R X) (q p : K) (i j : ℕ) → key_at m i ≡ Some q → key_at m j ≡ Some p → (j < i → ⊥) → p ≢ q →
       R q p ≡ Less
   above_by m q p i j at_q at_p not_before apart = elim (compare_keys nat_order i j) [
@@ -170,43 +128,3 @@ module _ {K X : Type 0} {R : K → K → Ordering} (order : IsKeyOrder R) where
             let s = key_from_get order m p y g in
             above_by m q p t.0 s.0 t.1 s.1 (λ l. test_not_less (R k p) up (t.3 s.0 p l s.1)) apart;
       }
-
-  -- where there is none, no key is above the other
-  pub least_above_none : (m : FinMap R X) (k : K) → least_above R m k ≡ None → (q : K) (y : X) → get m q ≡ Some y →
-      R k q ≢ Less
-  unfolding least_above key_at
-  least_above_none m k e q y g up =
-      let s = key_from_get order m q y g in
-      test_not_less (R k q) up (find_nowhere (λ q. is_lt (R k q)) (keys m) e s.0 q s.1)
-
-  -- what is the least above another is the least key above it
-  pub least_above_is : (m : FinMap R X) (k q : K) → IsLeastAbove m k q → least_above R m k ≡ Some q
-  least_above_is m k q is = by (least_above R m k) refl
-    where
-      by : (o : Option K) → least_above R m k ≡ o → o ≡ Some q
-      by None e = absurd (least_above_none m k e q is.there.0 is.there.1 is.above)
-      by (Some p) e = elim (decide_key order p q) [
-        | inl same ↦ ap Some same
-        | inr apart ↦
-            let found = least_above_some m k p e in
-            let up = is.others p found.there.0 found.there.1 found.above apart in
-            let down = found.others q is.there.0 is.there.1 is.above (λ same. apart (sym same)) in
-            absurd (not_both_below order p q down up)
-      ]
-
-  -- above the key at a place the least is the key at the next place
-  pub least_above_place : (m : FinMap R X) (i : ℕ) (k : K) → key_at m i ≡ Some k → least_above R m k ≡ key_at m (suc i)
-  unfolding least_above key_at
-  least_above_place m i k at =
-      find_first (λ q. is_lt (R k q)) (keys m) (suc i) (λ j q l e. not_above j q l e)
-      (λ q e. ap is_lt (keys_rise order m i (suc i) k q (omega arith) at e))
-    where
-      not_above : (j : ℕ) (q : K) → j < suc i → key_at m j ≡ Some q → is_lt (R k q) ≡ false
-      not_above j q l e = elim (compare_keys nat_order j i) [
-        | inl below ↦ ap is_lt (turned order q k Less (keys_rise order m j i q k (below_from_less j i below) e at))
-        | inr (inl same) ↦
-            let here : q ≡ k = same_Some q k (sym e ∙ ap (key_at m) same ∙ at) in
-            let tied : R k q ≡ Equal = ap (R k) here ∙ tied_itself order.total k in
-            ap is_lt tied
-        | inr (inr above) ↦ let h = below_from_less i j above in absurd (omega (arith, h, l))
-      ]

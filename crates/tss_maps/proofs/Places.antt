@@ -1,13 +1,14 @@
 -- Lists of entries in the order of their keys, by place, and the first of a list that passes a test.
-use Rattle.std.proofs.Common.{◌≡◌, option_map, ℕ, zero, suc, ◌<◌, Bool, true, false, cond, Option, Some, None, refl, sym, ap, ◌∙◌, arith}
+use Rattle.std.proofs.Common.{◌≡◌, option_map, ℕ, zero, suc, ◌<◌, Bool, true, false, cond, Option, Some, None, refl}
+use Rattle.std.proofs.Common.{sym, ap, ◌∙◌, arith}
 use Rattle.std.specs.Prelude.{T, length, ◌&&◌, slice_get, map, List, [], ◌∷◌}
 use Rattle.std.specs.declared.cmp.Ordering.{Ordering}
 use Rattle.std.specs.declared.cmp.Ordering.TheVariants.{Less, Equal, Greater}
 use Rattle.std.specs.Ordering.{is_eq, is_lt, eq_by_cmp}
 use Rattle.std.specs.List.{find as find_if}
-use Rattle.std.specs.FinMap.Entries.{put, find, is_sorted, below_all, by_order}
+use Rattle.std.specs.FinMap.Entries.{find, is_sorted, below_all}
 use Rattle.std.proofs.lemmas.Option.{none-some, same_Some, slice_get-map}
-use Rattle.tss_maps.proofs.Keys.{IsKeyOrder, same_key, other_key, apart_below, not_both_below}
+use Rattle.tss_maps.proofs.Keys.{IsKeyOrder, same_key, other_key, apart_below}
 
 first : (a b : Bool) → T (a && b) → T a
 first true b p = tt
@@ -39,7 +40,7 @@ find_first p (x ∷ xs) (suc j) before at =
     ∙ find_first p xs j (λ i y h e. before (suc i) y (omega arith) e) at
 
 -- y passes and stands at a place of the list, and none before it passes
-abbrev pub PassesFirst : {A : Type 0} → (A → Bool) → List A → A → Type 0
+abbrev PassesFirst : {A : Type 0} → (A → Bool) → List A → A → Type 0
 PassesFirst {A} p xs y =
     (i : ℕ) × (slice_get xs i ≡ Some y) × (p y ≡ true) × ((j : ℕ) (x : A) → j < i → slice_get xs j ≡ Some x →
     p x ≡ false)
@@ -90,7 +91,7 @@ module _ {K X : Type 0} where
 
 module _ {K X : Type 0} (R : K → K → Ordering) where
   -- a key that is below all of a list is below the one at each place
-  pub below_at : (k : K) (es : List (K × X)) (i : ℕ) (q : K) (x : X) → T (below_all R k es) →
+  below_at : (k : K) (es : List (K × X)) (i : ℕ) (q : K) (x : X) → T (below_all R k es) →
       slice_get es i ≡ Some (q, x) →
       R k q ≡ Less
   below_at k [] i q x h e = absurd (none-some (q, x) e)
@@ -140,31 +141,3 @@ module _ {K X : Type 0} {R : K → K → Ordering} (order : IsKeyOrder R) where
   pub place_of : (es : List (K × X)) (k : K) (x : X) → find R k es ≡ Some x → (i : ℕ) × (slice_get es i ≡ Some (k, x))
   place_of [] k x e = absurd (none-some x e)
   place_of (p ∷ es) k x e = place_by p es k x (R k p.0) refl (place_of es k x) e
-
-  -- a key that is found isn't below the first
-  not_below_first : (p : K × X) (es : List (K × X)) (k : K) (u : X) → T (is_sorted R (p ∷ es)) →
-      find R k (p ∷ es) ≡ Some u →
-      R k p.0 ≡ Less → ⊥
-  not_below_first p es k u h e below = by (place_of (p ∷ es) k u e)
-    where
-      by : (i : ℕ) × (slice_get (p ∷ es) i ≡ Some (k, u)) → ⊥
-      by (zero, at) = apart_below order k p.0 below (λ i. (sym (same_Some p (k, u) at) i).0)
-      by (suc i, at) =
-          let above = below_at R p.0 es i k u (first (below_all R p.0 es) (is_sorted R es) h) at in
-          not_both_below order k p.0 below above
-
-  put_by : (p : K × X) (es : List (K × X)) (k : K) (u v : X) (r : Ordering) → R k p.0 ≡ r → (r ≡ Less → ⊥) →
-      (find R k es ≡ Some u → map (λ e. e.0) (put R k v es) ≡ map (λ e. e.0) es) →
-      cond (is_eq r) (Some p.1) (find R k es) ≡ Some u →
-      map (λ e. e.0) (by_order r ((k, v) ∷ p ∷ es) ((p.0, v) ∷ es) (p ∷ put R k v es)) ≡ p.0 ∷ map (λ e. e.0) es
-  put_by p es k u v Less e not_less later found = absurd (not_less refl)
-  put_by p es k u v Equal e not_less later found = refl
-  put_by p es k u v Greater e not_less later found = ap (λ ks. p.0 ∷ ks) (later found)
-
-  -- a put at a key that is found leaves the keys as they are
-  pub keys_put : (es : List (K × X)) (k : K) (u v : X) → T (is_sorted R es) → find R k es ≡ Some u →
-      map (λ e. e.0) (put R k v es) ≡ map (λ e. e.0) es
-  keys_put [] k u v h e = absurd (none-some u e)
-  keys_put (p ∷ es) k u v h e =
-      put_by p es k u v (R k p.0) refl (not_below_first p es k u h e)
-      (keys_put es k u v (second (below_all R p.0 es) (is_sorted R es) h)) e

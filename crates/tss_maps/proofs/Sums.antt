@@ -1,15 +1,17 @@
 -- Sums of weights over the entries of a finite map, and counts, which are sums of ones.
-use Rattle.std.proofs.Common.{◌≡◌, ℕ, suc, ◌+◌, ◌*◌, ◌<◌, ◌≤◌, ◌≢◌, Bool, true, false, cond, List, [], ◌∷◌, length, Option, Some, None, refl, sym, ap, ◌∙◌, arith, inl, inr}
-use Rattle.std.specs.Prelude.{T, ◌&&◌, is_some, not}
+use Rattle.std.proofs.Common.{◌≡◌, ℕ, suc, ◌+◌, ◌≤◌, Bool, true, false, cond, List, [], ◌∷◌, length, Option, Some, None}
+use Rattle.std.proofs.Common.{refl, sym, ap, ◌∙◌, arith}
+use Rattle.std.specs.Prelude.{T, ◌&&◌, is_some}
 use Rattle.std.specs.declared.cmp.Ordering.{Ordering}
 use Rattle.std.specs.declared.cmp.Ordering.TheVariants.{Less, Equal, Greater}
 use Rattle.std.specs.Ordering.{is_eq}
-use Rattle.std.specs.FinMap.{FinMap, empty, get, insert, remove, len, entries, entries_sorted, entries-insert, get-entries, len-entries, len-empty}
+use Rattle.std.specs.FinMap.{FinMap, empty, get, insert, remove, len, entries, entries_sorted, entries-insert}
+use Rattle.std.specs.FinMap.{get-entries, len-entries, len-empty}
 use Rattle.std.specs.FinMap.Entries.{put, find, is_sorted, below_all, by_order, length-put}
 use Rattle.tss_maps.specs.Sums.{weigh, weight_at, sum_of, one_if, count_of}
 use Rattle.tss_maps.proofs.Keys.{IsKeyOrder}
-use Rattle.tss_maps.proofs.Changes.{decide_get, apart_absent, at_inserted, beside_inserted, at_removed, beside_removed, from_removed, insert_removed}
-use Rattle.tss_maps.proofs.Entries.{map_induction, len_added, decide_entry}
+use Rattle.tss_maps.proofs.Changes.{apart_absent, at_inserted, beside_inserted, at_removed, insert_removed}
+use Rattle.tss_maps.proofs.Entries.{map_induction, len_added}
 
 second : (a b : Bool) → T (a && b) → T b
 second true b p = p
@@ -81,16 +83,8 @@ module _ {K X : Type 0} {R : K → K → Ordering} (order : IsKeyOrder R) (f : K
       no_entries (x ∷ es) e = absurd (omega arith)
 
   -- no entry weighs more than all
-  pub weight_in_sum : (m : FinMap R X) (k : K) (x : X) → get m k ≡ Some x → f k x ≤ sum_of f m
+  weight_in_sum : (m : FinMap R X) (k : K) (x : X) → get m k ≡ Some x → f k x ≤ sum_of f m
   weight_in_sum m k x e = let less = sum_removed m k x e in omega (arith, less)
-
-  -- two entries weigh no more than all
-  pub two_in_sum : (m : FinMap R X) (k q : K) (x y : X) → q ≢ k → get m k ≡ Some x → get m q ≡ Some y →
-      f k x + f q y ≤ sum_of f m
-  two_in_sum m k q x y apart e g =
-      let less = sum_removed m k x e in
-      let rest = weight_in_sum (remove m k) q y (beside_removed order m k q apart ∙ g) in
-      omega (arith, less, rest)
 
 module _ {K X : Type 0} {R : K → K → Ordering} (order : IsKeyOrder R) (f g : K → X → ℕ) where
   -- where each entry weighs no more by f than by g, nor do all
@@ -126,24 +120,6 @@ module _ {K X : Type 0} {R : K → K → Ordering} (order : IsKeyOrder R) (f g :
       let down = sum_at_most order g f m (λ k x e. let h = each k x e in omega (arith, h)) in
       omega (arith, up, down)
 
-  -- weights that agree at each entry but one have sums that differ as at that one
-  pub sum_reweighed : (m : FinMap R X) (k : K) → ((q : K) (x : X) → q ≢ k → get m q ≡ Some x → f q x ≡ g q x) →
-      sum_of f m + weight_at g k (get m k) ≡ sum_of g m + weight_at f k (get m k)
-  sum_reweighed m k beside = elim (decide_get m k) [
-    | inl none ↦
-        let same = sum_same m (λ q x e. beside q x (apart_absent m q k x e none) e) in
-        let a = ap (weight_at f k) none in
-        let b = ap (weight_at g k) none in
-        omega (arith, same, a, b)
-    | inr there ↦
-        let same = sum_same (remove m k) (λ q x e. let t = from_removed order m k q x e in beside q x t.0 t.1) in
-        let a = ap (weight_at f k) there.1 in
-        let b = ap (weight_at g k) there.1 in
-        let c = sum_removed order f m k there.0 there.1 in
-        let d = sum_removed order g m k there.0 there.1 in
-        omega (arith, same, a, b, c, d)
-  ]
-
 module _ {K X : Type 0} {R : K → K → Ordering} (order : IsKeyOrder R) where
   -- a one for each entry gives their number
   pub sum_ones : (m : FinMap R X) → sum_of (λ k x. 1) m ≡ len m
@@ -163,46 +139,11 @@ module _ {K X : Type 0} {R : K → K → Ordering} (order : IsKeyOrder R) where
   pub sum_none : (f : K → X → ℕ) (m : FinMap R X) → ((k : K) (x : X) → get m k ≡ Some x → f k x ≡ 0) → sum_of f m ≡ 0
   sum_none f m each = sum_same order f (λ k x. 0) m each ∙ sum_zeros m
 
-  -- in a sum that is zero no entry weighs anything
-  pub none_in_sum : (f : K → X → ℕ) (m : FinMap R X) → sum_of f m ≡ 0 → (k : K) (x : X) → get m k ≡ Some x → f k x ≡ 0
-  none_in_sum f m nothing k x e = let most = weight_in_sum order f m k x e in omega (arith, most, nothing)
-
-  -- where each entry weighs at most w, all weigh at most w times their number
-  pub sum_within : (f : K → X → ℕ) (w : ℕ) (m : FinMap R X) → ((k : K) (x : X) → get m k ≡ Some x → f k x ≤ w) →
-      sum_of f m ≤ len m * w
-  sum_within f w = map_induction order
-      (λ m. ((k : K) (x : X) → get m k ≡ Some x → f k x ≤ w) → sum_of f m ≤ len m * w)
-      (λ each. let a = sum_empty order f in omega (arith, a))
-      (λ m k v new before each.
-      let here = each k v (at_inserted order m k v) in
-      let rest = before (λ q x e. each q x (beside_inserted order m k v q (apart_absent m q k x e new) ∙ e)) in
-      let a = sum_added order f m k v new in
-      let b = ap (λ n. n * w) (len_added order m k v new) in
-      omega (arith, here, rest, a, b))
-
 pub one_if-le-one : (b : Bool) → one_if b ≤ 1
 one_if-le-one true = omega arith
 one_if-le-one false = omega arith
 
-one_if_both : (b : Bool) → one_if b + one_if (not b) ≡ 1
-one_if_both true = omega arith
-one_if_both false = omega arith
-
 module _ {K X : Type 0} {R : K → K → Ordering} (order : IsKeyOrder R) (p : K → X → Bool) where
-  -- no more pass than there are
-  pub count_within : (m : FinMap R X) → count_of p m ≤ len m
-  count_within m =
-      let most = sum_at_most order (λ k x. one_if (p k x)) (λ k x. 1) m (λ k x e. one_if-le-one (p k x)) in
-      let ones = sum_ones order m in
-      omega (arith, most, ones)
-
-  -- each entry passes or doesn't
-  pub count_split : (m : FinMap R X) → count_of p m + count_of (λ k x. not (p k x)) m ≡ len m
-  count_split m =
-      sym (sum_both order (λ k x. one_if (p k x)) (λ k x. one_if (not (p k x))) m)
-      ∙ sum_same order (λ k x. one_if (p k x) + one_if (not (p k x))) (λ k x. 1) m (λ k x e. one_if_both (p k x))
-      ∙ sum_ones order m
-
   -- where no entry passes the count is zero
   pub count_none : (m : FinMap R X) → ((k : K) (x : X) → get m k ≡ Some x → p k x ≡ false) → count_of p m ≡ 0
   count_none m each = sum_none order (λ k x. one_if (p k x)) m (λ k x e. ap one_if (each k x e))
@@ -216,10 +157,3 @@ module _ {K X : Type 0} {R : K → K → Ordering} (order : IsKeyOrder R) (p : K
   pub counted : (m : FinMap R X) (k : K) (x : X) → get m k ≡ Some x → p k x ≡ true → 1 ≤ count_of p m
   counted m k x e passes =
       let one = weight_in_sum order (λ k x. one_if (p k x)) m k x e in let w = ap one_if passes in omega (arith, one, w)
-
-  -- where the count isn't zero some entry passes
-  pub some_counted : (m : FinMap R X) → 0 < count_of p m → (k : K) × (x : X) × (get m k ≡ Some x) × (p k x ≡ true)
-  some_counted m some = elim (decide_entry order p m) [
-    | inl t ↦ t
-    | inr none ↦ let z = count_none m none in absurd (omega (arith, z, some))
-  ]
