@@ -1,23 +1,29 @@
 -- A step completes one instruction, so a task stays within its budget.
-use Rattle.std.proofs.Common.{◌≡◌, ℕ, zero, suc, ◌+◌, ◌%◌, ◌<◌, ◌≤◌, Bool, true, false, List, Option, Some, None, refl, ap, arith}
+use Rattle.std.proofs.Common.{◌≡◌, ℕ, zero, suc, ◌+◌, ◌%◌, ◌<◌, ◌≤◌, Bool, true, false, List, Option, Some, None, refl}
+use Rattle.std.proofs.Common.{ap, arith}
 use Rattle.std.specs.Prelude.{◌==◌, nat_le, if◌then◌else◌, slice_set}
 use Rattle.std.proofs.lemmas.Bool.{leb-false}
 use Rattle.tss_base.specs.Image.{SegmentState}
 use Rattle.tss_isa.specs.declared.instr.LoadKind.{LoadKind}
 use Rattle.tss_isa.specs.declared.instr.StoreKind.{StoreKind}
 use Rattle.tss_isa.specs.declared.instr.Instr.{Instr}
-use Rattle.tss_isa.specs.declared.instr.Instr.TheVariants.{Lui, Auipc, Jal, Jalr, Branch, Load, Store, OpImm, Op, Fence, Ecall, Ebreak}
+use Rattle.tss_isa.specs.declared.instr.Instr.TheVariants.{Lui, Auipc, Jal, Jalr, Branch, Load, Store, OpImm, Op, Fence}
+use Rattle.tss_isa.specs.declared.instr.Instr.TheVariants.{Ecall, Ebreak}
 use Rattle.tss_isa.specs.InstrTable.{instr_of}
 use Rattle.tss_model.specs.Access.{Actor, Loads, Stores, Access, Granted, Denied, Touch, access_of}
-use Rattle.tss_base.specs.declared.causes.TheConstants.{JUMP_MISALIGNED, LOAD_MISALIGNED, STORE_MISALIGNED, BUDGET_SPENT}
+use Rattle.tss_base.specs.declared.causes.TheConstants.{JUMP_MISALIGNED, LOAD_MISALIGNED, STORE_MISALIGNED}
+use Rattle.tss_base.specs.declared.causes.TheConstants.{BUDGET_SPENT}
 use Rattle.tss_model.specs.Registers.{Registers, register_at, with_register, next_pc, completed, trap_of}
 use Rattle.tss_model.specs.Memory.{code_word}
-use Rattle.tss_model.specs.Core.{Write, Stepped, Executed, Called, Ended, Trapped, Touched, result_in, jump_to, branch_if, passes, load_on, load_from, loaded_value, load_range, load_width, store_on, store_to, stored_value, store_range, store_width, execute, execute_word, execute_fetched, moved, core_step}
+use Rattle.tss_model.specs.Core.{Write, Stepped, Executed, Called, Ended, Trapped, Touched, result_in, jump_to}
+use Rattle.tss_model.specs.Core.{branch_if, passes, load_on, load_from, loaded_value, load_range, load_width, store_on}
+use Rattle.tss_model.specs.Core.{store_to, stored_value, store_range, store_width, execute, execute_word}
+use Rattle.tss_model.specs.Core.{execute_fetched, moved, core_step}
 use Rattle.tss_model.specs.TaskRun.{TaskState, is_over, repeated, task_byte, task_trapped, task_on, task_step}
 use Rattle.tss_base.specs.declared.addresses.TheConstants.{END_PC}
 
 -- an instruction that is executed is one more
-abbrev pub CompletesOne : Registers → Stepped → Type 0
+abbrev CompletesOne : Registers → Stepped → Type 0
 CompletesOne r (Executed q w) = q.done ≡ r.done + 1
 CompletesOne r Called = Unit {0}
 CompletesOne r Ended = Unit {0}
@@ -102,7 +108,7 @@ module _ (actor : Actor) (byte : ℕ → ℕ) (r : Registers) where
   completes-fetched None = tt
 
   -- so a step of a core is
-  pub completes-core_step : (word : ℕ → Option ℕ) → CompletesOne r (core_step actor byte word r)
+  completes-core_step : (word : ℕ → Option ℕ) → CompletesOne r (core_step actor byte word r)
   unfolding core_step
   completes-core_step word =
       elim (r.pc == END_PC) as (λ b. CompletesOne r (if b then Ended else execute_fetched actor byte r (word r.pc))) [

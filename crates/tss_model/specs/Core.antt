@@ -1,6 +1,8 @@
 -- One step of an actor. It reads by two functions, the byte at each address and the word at each pc, and answers with
 -- the registers and the write that it leaves, or why it leaves nothing.
-use Rattle.std.specs.Prelude.{ℕ, ◌+◌, ◌-◌, ◌*◌, ◌/◌, ◌%◌, ◌^◌, ◌==◌, nat_lt, nat_le, not, Bool, if◌then◌else◌, List, Option, Some, None, ℤ, pos, negsuc, ◌*ℤ◌, int_lt, int_div, int_rem, bit_and, bit_or, bit_xor}
+use Rattle.std.specs.Prelude.{ℕ, ◌+◌, ◌-◌, ◌*◌, ◌/◌, ◌%◌, ◌^◌, ◌==◌, nat_lt, nat_le, not, Bool, if◌then◌else◌, List}
+use Rattle.std.specs.Prelude.{Option, Some, None, ℤ, pos, negsuc, ◌*ℤ◌, int_lt, int_div, int_rem, bit_and, bit_or}
+use Rattle.std.specs.Prelude.{bit_xor}
 use Rattle.std.specs.Int.{cast_signed, w32, bytes_low_first}
 use Rattle.tss_base.specs.declared.range.Range.{Range}
 use Rattle.tss_base.specs.declared.ending.Trap.{Trap}
@@ -13,15 +15,18 @@ use Rattle.tss_isa.specs.declared.instr.StoreKind.TheVariants.{Sb, Sh, Sw}
 use Rattle.tss_isa.specs.declared.instr.ImmOp.{ImmOp}
 use Rattle.tss_isa.specs.declared.instr.ImmOp.TheVariants.{Addi, Slli, Slti, Sltiu, Xori, Srli, Srai, Ori, Andi}
 use Rattle.tss_isa.specs.declared.instr.RegOp.{RegOp}
-use Rattle.tss_isa.specs.declared.instr.RegOp.TheVariants.{Add, Sub, Sll, Slt, Sltu, Xor, Srl, Sra, Or, And, Mul, Mulh, Mulhsu, Mulhu, Div, Divu, Rem, Remu}
+use Rattle.tss_isa.specs.declared.instr.RegOp.TheVariants.{Add, Sub, Sll, Slt, Sltu, Xor, Srl, Sra, Or, And, Mul, Mulh}
+use Rattle.tss_isa.specs.declared.instr.RegOp.TheVariants.{Mulhsu, Mulhu, Div, Divu, Rem, Remu}
 use Rattle.tss_isa.specs.declared.instr.Instr.{Instr}
-use Rattle.tss_isa.specs.declared.instr.Instr.TheVariants.{Lui, Auipc, Jal, Jalr, Branch, Load, Store, OpImm, Op, Fence, Ecall, Ebreak}
+use Rattle.tss_isa.specs.declared.instr.Instr.TheVariants.{Lui, Auipc, Jal, Jalr, Branch, Load, Store, OpImm, Op, Fence}
+use Rattle.tss_isa.specs.declared.instr.Instr.TheVariants.{Ecall, Ebreak}
 use Rattle.tss_isa.specs.Fields.{signed}
 use Rattle.tss_isa.specs.InstrTable.{instr_of, twos}
 use Rattle.tss_model.specs.Memory.{number_at}
 use Rattle.tss_model.specs.Access.{Actor, Loads, Stores, Access, Granted, Denied, Touch, access_of}
 use Rattle.tss_model.specs.Registers.{Registers, register_at, with_register, next_pc, completed, onward, trap_of}
-use Rattle.tss_base.specs.declared.causes.TheConstants.{JUMP_MISALIGNED, FETCH_OUTSIDE, ILLEGAL, BREAKPOINT, LOAD_MISALIGNED, LOAD_DENIED, STORE_MISALIGNED, STORE_DENIED}
+use Rattle.tss_base.specs.declared.causes.TheConstants.{JUMP_MISALIGNED, FETCH_OUTSIDE, ILLEGAL, BREAKPOINT}
+use Rattle.tss_base.specs.declared.causes.TheConstants.{LOAD_MISALIGNED, LOAD_DENIED, STORE_MISALIGNED, STORE_DENIED}
 use Rattle.tss_base.specs.declared.addresses.TheConstants.{END_PC}
 
 -- bytes to be written from an address on

@@ -1,5 +1,6 @@
 -- Execution in program order, on one flat memory: main step by step, and each spawned task at once, to its end or trap.
-use Rattle.std.specs.Prelude.{ℕ, suc, ◌==◌, Bool, true, false, ◌&&◌, if◌then◌else◌, List, Option, Some, None, unwrap_or, option_map}
+use Rattle.std.specs.Prelude.{ℕ, suc, ◌==◌, Bool, true, false, ◌&&◌, if◌then◌else◌, List, Option, Some, None, unwrap_or}
+use Rattle.std.specs.Prelude.{option_map}
 use Rattle.tss_base.specs.declared.operand.Task.{Task}
 use Rattle.tss_base.specs.declared.ending.Trap.{Trap}
 use Rattle.tss_base.specs.declared.ending.Ending.{Ending}
@@ -9,7 +10,8 @@ use Rattle.tss_base.specs.Image.{SegmentState, ImageState}
 use Rattle.tss_model.specs.Memory.{Memory, loaded, frozen}
 use Rattle.tss_model.specs.TaskRun.{repeated, TaskEnd, task_end}
 use Rattle.tss_base.specs.declared.refusals.TheConstants.{MAIN_BUDGET_SPENT}
-use Rattle.tss_model.specs.MainStep.{MainState, Flat, Call, main_start, main_ended, main_step, next_call, main_call, output_of}
+use Rattle.tss_model.specs.MainStep.{MainState, Flat, Call, main_start, main_ended, main_step, next_call, main_call}
+use Rattle.tss_model.specs.MainStep.{output_of}
 
 -- the image with main before its first instruction
 abbrev pub flat_start : ImageState → Flat

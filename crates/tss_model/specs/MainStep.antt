@@ -1,6 +1,7 @@
 -- Main: its state, a step of it that is no call, and its calls. Both machines take these, the one in program order and
 -- the unit machine: only what becomes of a spawned task differs.
-use Rattle.std.specs.Prelude.{ℕ, suc, ◌+◌, ◌==◌, Bool, ◌||◌, nat_lt, nat_le, if◌then◌else◌, List, [], ◌∷◌, ◌++◌, length, flat_map, Option, Some, None, is_none, is_some, Result, Ok, Err}
+use Rattle.std.specs.Prelude.{ℕ, suc, ◌+◌, ◌==◌, Bool, ◌||◌, nat_lt, nat_le, if◌then◌else◌, List, [], ◌∷◌, ◌++◌, length}
+use Rattle.std.specs.Prelude.{flat_map, Option, Some, None, is_none, is_some, Result, Ok, Err}
 use Rattle.tss_base.specs.declared.calls.TheConstants.{EXIT, SPAWN, BARRIER, PRINT, AWAIT}
 use Rattle.tss_base.specs.declared.range.Range.{Range}
 use Rattle.tss_base.specs.declared.operand.Task.{Task}

@@ -1,5 +1,7 @@
 -- The memory of an image, its ranges and the byte at each of their addresses, and the words of its code as loaded.
-use Rattle.std.specs.Prelude.{ℕ, zero, suc, ◌+◌, ◌-◌, ◌*◌, ◌%◌, ◌==◌, Bool, true, ◌&&◌, nat_le, nat_lt, if◌then◌else◌, List, [], ◌∷◌, ◌++◌, map, length, filter, find, flat_map, replicate, slice_index, slice_set, Option, None, option_map, unwrap_or}
+use Rattle.std.specs.Prelude.{ℕ, zero, suc, ◌+◌, ◌-◌, ◌*◌, ◌%◌, ◌==◌, Bool, true, ◌&&◌, nat_le, nat_lt, if◌then◌else◌}
+use Rattle.std.specs.Prelude.{List, [], ◌∷◌, ◌++◌, map, length, filter, find, flat_map, replicate, slice_index}
+use Rattle.std.specs.Prelude.{slice_set, Option, None, option_map, unwrap_or}
 use Rattle.std.specs.List.{enumerate_from, range_with_len}
 use Rattle.std.specs.FinMap.{get, insert, from_entries}
 use Rattle.tss_base.specs.declared.addresses.TheConstants.{SCRATCH, STACK}

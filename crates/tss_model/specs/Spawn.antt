@@ -1,6 +1,8 @@
 -- Main's spawn: the objects that are named, the operand list with its checks in their order, the merging of equal
 -- operands, and the task.
-use Rattle.std.specs.Prelude.{ℕ, zero, suc, ◌+◌, ◌-◌, ◌*◌, ◌%◌, ◌==◌, Bool, true, ◌&&◌, ◌||◌, not, nat_lt, nat_le, if◌then◌else◌, List, [], ◌∷◌, ◌++◌, map, length, filter, replicate, Option, Some, None, is_none, Result, Ok, Err}
+use Rattle.std.specs.Prelude.{ℕ, zero, suc, ◌+◌, ◌-◌, ◌*◌, ◌%◌, ◌==◌, Bool, true, ◌&&◌, ◌||◌, not, nat_lt, nat_le}
+use Rattle.std.specs.Prelude.{if◌then◌else◌, List, [], ◌∷◌, ◌++◌, map, length, filter, replicate, Option, Some, None}
+use Rattle.std.specs.Prelude.{is_none, Result, Ok, Err}
 use Rattle.std.specs.List.{find, list_any, list_all}
 use Rattle.tss_base.specs.declared.bounds.TheConstants.{MAX_OPERANDS}
 use Rattle.tss_base.specs.declared.lists.TheConstants.{ENTRY_BYTES, INPUT, OUTPUT, INOUT}
@@ -13,7 +15,9 @@ use Rattle.tss_base.specs.declared.machine.Limits.{Limits}
 use Rattle.tss_base.specs.Range.{meets}
 use Rattle.tss_model.specs.Memory.{Memory, range_of, byte_at, number_at}
 use Rattle.tss_model.specs.Access.{touches, reads, writes}
-use Rattle.tss_base.specs.declared.refusals.TheConstants.{TOO_MANY_OPERANDS, LIST_PLACE, MAIN_TOUCH, BAD_MODE, BAD_LENGTH, BAD_BASE, OBJECT_OUTSIDE, OVERLAP, EPOCH_FULL, TOO_MANY_TASKS}
+use Rattle.tss_base.specs.declared.refusals.TheConstants.{TOO_MANY_OPERANDS, LIST_PLACE, MAIN_TOUCH, BAD_MODE}
+use Rattle.tss_base.specs.declared.refusals.TheConstants.{BAD_LENGTH, BAD_BASE, OBJECT_OUTSIDE, OVERLAP, EPOCH_FULL}
+use Rattle.tss_base.specs.declared.refusals.TheConstants.{TOO_MANY_TASKS}
 
 -- ---- named objects
 

@@ -1,12 +1,14 @@
 -- A task from its first instruction to its end. One step of it is one definition for every machine that runs tasks:
 -- what stands at addresses beyond its scratch is read and written by two functions.
-use Rattle.std.specs.Prelude.{ℕ, zero, suc, ◌-◌, ◌==◌, Bool, ◌||◌, nat_le, if◌then◌else◌, List, [], ◌∷◌, slice_index, Option, Some, None, is_some}
+use Rattle.std.specs.Prelude.{ℕ, zero, suc, ◌-◌, ◌==◌, Bool, ◌||◌, nat_le, if◌then◌else◌, List, [], ◌∷◌, slice_index}
+use Rattle.std.specs.Prelude.{Option, Some, None, is_some}
 use Rattle.tss_base.specs.declared.operand.Operand.{Operand}
 use Rattle.tss_base.specs.declared.operand.Task.{Task}
 use Rattle.tss_base.specs.declared.ending.Trap.{Trap}
 use Rattle.tss_base.specs.declared.machine.Limits.{Limits}
 use Rattle.tss_base.specs.Image.{SegmentState}
-use Rattle.tss_model.specs.Memory.{Memory, scratch_range, covers, zeros, list_put, byte_at, put_bytes, zeroed, code_word}
+use Rattle.tss_model.specs.Memory.{Memory, scratch_range, covers, zeros, list_put, byte_at, put_bytes, zeroed}
+use Rattle.tss_model.specs.Memory.{code_word}
 use Rattle.tss_model.specs.Registers.{Registers, register_at, task_registers, trap_of}
 use Rattle.tss_base.specs.declared.causes.TheConstants.{CALL_IN_TASK, BUDGET_SPENT}
 use Rattle.tss_model.specs.Access.{Actor, TaskActor, operands_of, reads}
