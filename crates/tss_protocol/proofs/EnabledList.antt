@@ -1,5 +1,6 @@
 -- The list of enabled events has every enabled event and no other.
-use Rattle.std.proofs.Common.{◌≡◌, ℕ, zero, suc, ◌+◌, ◌<◌, Bool, true, false, cond, List, [], ◌∷◌, ◌++◌, Option, Some, None, refl, sym, ap, ◌∙◌, subst, arith, inl, inr, ◌⊎◌}
+use Rattle.std.proofs.Common.{◌≡◌, ℕ, zero, suc, ◌+◌, ◌<◌, Bool, true, false, cond, List, [], ◌∷◌, ◌++◌, Option, Some}
+use Rattle.std.proofs.Common.{None, refl, sym, ap, ◌∙◌, subst, arith, inl, inr, ◌⊎◌}
 use Rattle.std.specs.Prelude.{map, filter, slice_get, is_some, nat_lt, is_none}
 use Rattle.std.proofs.lemmas.Bool.Decides.{nat_tests}
 use Rattle.std.specs.List.{range_with_len}
@@ -15,7 +16,8 @@ use Rattle.tss_maps.proofs.OrderedLemmas.{key_from_get}
 use Rattle.tss_protocol.specs.Mail.{Mail, early_names, late_names, gone_names}
 use Rattle.tss_protocol.specs.State.{State, Busy}
 use Rattle.tss_protocol.specs.Workers.{can_start, can_exec, can_finish}
-use Rattle.tss_protocol.specs.UnitMachine.{is_enabled, can_decode_message, can_open_message, can_use_message, can_retire, worker_events, copy_events, candidate_events, enabled_events}
+use Rattle.tss_protocol.specs.UnitMachine.{is_enabled, can_decode_message, can_open_message, can_use_message}
+use Rattle.tss_protocol.specs.UnitMachine.{can_retire, worker_events, copy_events, candidate_events, enabled_events}
 use Rattle.tss_protocol.proofs.DrainedStates.{first_passes}
 
 -- two answers

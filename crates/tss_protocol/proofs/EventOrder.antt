@@ -1,6 +1,7 @@
 -- The enabled events are exactly those of their list, which goes by kind and then by name, worker or bank, without
 -- repetition.
-use Rattle.std.proofs.Common.{◌≡◌, ℕ, zero, suc, ◌+◌, ◌<◌, ◌≤◌, Bool, true, false, cond, List, [], ◌∷◌, ◌++◌, Some, refl, ap, arith}
+use Rattle.std.proofs.Common.{◌≡◌, ℕ, zero, suc, ◌+◌, ◌<◌, ◌≤◌, Bool, true, false, cond, List, [], ◌∷◌, ◌++◌, Some}
+use Rattle.std.proofs.Common.{refl, ap, arith}
 use Rattle.std.specs.Prelude.{map, filter, slice_get}
 use Rattle.std.specs.List.{range_with_len}
 use Rattle.std.specs.declared.cmp.Ordering.{Ordering}
@@ -22,7 +23,7 @@ use Rattle.tss_protocol.specs.UnitMachine.{is_enabled, worker_events, copy_event
 -- ---- the order of events
 
 -- the place of an event's kind
-abbrev pub event_rank : Event → ℕ
+abbrev event_rank : Event → ℕ
 event_rank event.Main = 0
 event_rank event.Take = 1
 event_rank (event.Decode o) = 2
@@ -46,7 +47,7 @@ abbrev unit_name : ℕ → OpName
 unit_name n = record { task = n; place = 0 }
 
 -- what tells events of one kind apart
-abbrev pub event_subject : Event → OpName
+abbrev event_subject : Event → OpName
 event_subject event.Main = unit_name 0
 event_subject event.Take = unit_name 0
 event_subject (event.Decode o) = o
@@ -67,16 +68,16 @@ event_subject (event.Copy b) = unit_name b
 event_subject (event.Gone v) = v
 
 -- by kind, and then by what tells apart
-abbrev pub event_cmp : Event → Event → Ordering
+abbrev event_cmp : Event → Event → Ordering
 event_cmp d e = ordering_then (nat_cmp (event_rank d) (event_rank e)) (name_cmp (event_subject d) (event_subject e))
 
 -- an event comes before each of a list
-abbrev pub IsBefore : Event → List Event → Type 0
+abbrev IsBefore : Event → List Event → Type 0
 IsBefore d [] = Unit {0}
 IsBefore d (e ∷ es) = (event_cmp d e ≡ Less) × IsBefore d es
 
 -- each event of a list comes before all that follow it
-abbrev pub Rises : List Event → Type 0
+abbrev Rises : List Event → Type 0
 Rises [] = Unit {0}
 Rises (e ∷ es) = IsBefore e es × Rises es
 

@@ -15,16 +15,24 @@ use Rattle.tss_protocol.specs.Names.{bank_of, station_of}
 use Rattle.tss_protocol.specs.Mail.{Home, Source, OpenContents, ReleaseContents, IdleContents, Bye, Idle, no_mail}
 use Rattle.tss_protocol.specs.State.{State, Flying, Busy, Entry, Version}
 use Rattle.tss_base.specs.declared.marks.Stage.TheVariants.{Running, Finished}
-use Rattle.tss_protocol.specs.Stations.{new_operand, entered, task_after_ready, awaited, woken_in, finished_in, parted_in}
-use Rattle.tss_protocol.specs.Versions.{first_version, after_open, released_once, sending, settle, settled, settle_at, released_at}
+use Rattle.tss_protocol.specs.Stations.{new_operand, entered, task_after_ready, awaited, woken_in, finished_in}
+use Rattle.tss_protocol.specs.Stations.{parted_in}
+use Rattle.tss_protocol.specs.Versions.{first_version, after_open, released_once, sending, settle, settled, settle_at}
+use Rattle.tss_protocol.specs.Versions.{released_at}
 use Rattle.tss_protocol.specs.Workers.{can_start, busy_at_start, can_exec, exec_stretch, busy_after, can_finish}
 use Rattle.tss_protocol.specs.Renaming.{Turn, wait_or, decode_wait, decoded_by}
-use Rattle.tss_protocol.specs.UnitMachine.{is_enabled, after_event, without, tables_of, stores_of, with_decoded, can_decode_message, decode_message_taken, can_open_message, open_message_taken, with_versioned, with_woken, ready_message_taken, start_task, after_exec, after_finish, with_flight, release_message_taken, bye_message_taken}
+use Rattle.tss_protocol.specs.UnitMachine.{is_enabled, after_event, without, tables_of, stores_of, with_decoded}
+use Rattle.tss_protocol.specs.UnitMachine.{can_decode_message, decode_message_taken, can_open_message}
+use Rattle.tss_protocol.specs.UnitMachine.{open_message_taken, with_versioned, with_woken, ready_message_taken}
+use Rattle.tss_protocol.specs.UnitMachine.{start_task, after_exec, after_finish, with_flight, release_message_taken}
+use Rattle.tss_protocol.specs.UnitMachine.{bye_message_taken}
 use Rattle.tss_protocol.proofs.KnownEvents.{small}
-use Rattle.tss_protocol.proofs.RacingProgram.{with_version, x, reading, reader, after_first, one, room_for_one, own_turn, only, at_one, gone_one, again_one, at_only, gone_only, again_only, none_counted, none_held, at, idle_with, o1}
+use Rattle.tss_protocol.proofs.RacingProgram.{with_version, x, reading, reader, after_first, one, room_for_one}
+use Rattle.tss_protocol.proofs.RacingProgram.{own_turn, only, at_one, gone_one, again_one, at_only, gone_only}
+use Rattle.tss_protocol.proofs.RacingProgram.{again_only, none_counted, none_held, at, idle_with, o1}
 
 -- task 1 is taken
-abbrev pub taken_first : State
+abbrev taken_first : State
 taken_first =
     at after_first None (one o1 tt) (only 1 (entered (reader 1))) [] empty empty empty empty
     (record no_mail { decodes = one o1 reading })
@@ -43,10 +51,10 @@ takes_first = refl
 abbrev pub first_entry : Entry
 first_entry = record { object = x; latest = o1; sent = 1; retiring = false }
 
-abbrev pub opening : OpenContents
+abbrev opening : OpenContents
 opening = record { operand = reading; storage = Some Home; follows = None }
 
-abbrev pub decoded_first : State
+abbrev decoded_first : State
 decoded_first =
     at after_first None (one o1 tt) (only 1 (entered (reader 1))) [] empty (only 0x20000 first_entry) (one o1 0) empty
     (record no_mail { acks = one o1 tt; opens = one o1 opening })
@@ -72,7 +80,7 @@ decodes_first =
     (decoded_by (tables_of taken_first) o1 reading 0 (get-empty {X = Entry} nat_cmp 0x20000 i)))
 
 -- operand 1.0 is acknowledged
-abbrev pub acked_first : State
+abbrev acked_first : State
 acked_first =
     at after_first None empty (only 1 (entered (reader 1))) [] empty (only 0x20000 first_entry) (one o1 0) empty
     (record no_mail { opens = one o1 opening })
@@ -90,13 +98,13 @@ acks_first = λ i.
     }
 
 -- version 1.0 is opened
-abbrev pub source : Source
+abbrev source : Source
 source = record { version = o1; storage = Home }
 
-abbrev pub fresh : Version
+abbrev fresh : Version
 fresh = first_version o1 x (Some Home) Input
 
-abbrev pub opened : State
+abbrev opened : State
 opened =
     with_version after_first empty (only 1 (entered (reader 1))) [] empty first_entry fresh
     (record no_mail { readies = one o1 source })
@@ -114,10 +122,10 @@ opens =
     (after_open empty o1 opening))
 
 -- operand 1.0 is ready, and task 1 is queued
-abbrev pub queued : Flying
+abbrev queued : Flying
 queued = awaited (task_after_ready (entered (reader 1)) 0 (new_operand reading) source)
 
-abbrev pub readied : State
+abbrev readied : State
 readied =
     with_version after_first empty (only 1 queued) (1 ∷ []) empty first_entry fresh no_mail
 
@@ -136,13 +144,13 @@ readies =
     ∙ (λ i. record readied { flight = again_only 1 (entered (reader 1)) queued i })
 
 -- task 1 starts on worker 0
-abbrev pub running : Flying
+abbrev running : Flying
 running = record queued { stage = Running }
 
-abbrev pub busy : Busy
+abbrev busy : Busy
 busy = busy_at_start queued
 
-abbrev pub started : State
+abbrev started : State
 started =
     with_version after_first empty (only 1 running) [] (only 0 busy) first_entry fresh no_mail
 
@@ -157,10 +165,10 @@ starts =
     ∙ (λ i. record started { flight = again_only 1 queued running i })
 
 -- it runs to its end
-abbrev pub done : Busy
+abbrev done : Busy
 done = busy_after busy (exec_stretch started.code small.limits 100 busy (stores_of started))
 
-abbrev pub executed : State
+abbrev executed : State
 executed =
     with_version after_first empty (only 1 running) [] (only 0 done) first_entry fresh no_mail
 
@@ -174,13 +182,13 @@ execs =
     ap (after_exec small started 0) (at_only 0 busy) ∙ (λ i. record executed { workers = again_only 0 busy done i })
 
 -- task 1 has finished, and releases its operand
-abbrev pub finished : Flying
+abbrev finished : Flying
 finished = record running { stage = Finished }
 
-abbrev pub releasing : ReleaseContents
+abbrev releasing : ReleaseContents
 releasing = record { version = o1; producer = false }
 
-abbrev pub ended : State
+abbrev ended : State
 ended =
     with_version after_first empty (only 1 finished) [] empty first_entry fresh
     (record no_mail { releases = one o1 releasing })
@@ -199,7 +207,7 @@ finishes =
     ∙ (λ i. record ended { flight = again_only 1 running finished i })
 
 -- version 1.0 has no reader left, and asks whether it may retire
-abbrev pub left : Version
+abbrev left : Version
 left = released_once fresh o1
 
 abbrev pub asking : Version
@@ -208,7 +216,7 @@ asking = record left { asked = Some 1 }
 abbrev pub asks : IdleContents
 asks = record { base = 0x20000; count = 1 }
 
-abbrev pub released : State
+abbrev released : State
 released =
     with_version after_first empty (only 1 finished) [] empty first_entry asking
     (record no_mail { byes = one o1 false; idles = one o1 asks })
@@ -217,7 +225,7 @@ pub may_release : is_enabled small ended (event.Release o1) ≡ true
 unfolding is_enabled
 may_release = ap is_some (at_one o1 releasing)
 
-pub settles : (n : ℕ) → settle (suc n) (one o1 left) o1 ≡ record { part = one o1 asking; sent = Idle o1 asks ∷ [] }
+settles : (n : ℕ) → settle (suc n) (one o1 left) o1 ≡ record { part = one o1 asking; sent = Idle o1 asks ∷ [] }
 unfolding settle
 settles n =
     ap (settle_at (one o1 left) o1 (settle n)) (at_one o1 left)

@@ -1,5 +1,6 @@
 -- What an event leaves alone of the machine's front: the inbox, the gateway, decodes and acks, and the tasks in flight.
-use Rattle.std.proofs.Common.{◌≡◌, ℕ, zero, suc, Bool, true, false, if◌then◌else◌, List, [], ◌∷◌, map, Option, Some, None, refl, sym, ap, ◌∙◌, inl, inr, true≢false}
+use Rattle.std.proofs.Common.{◌≡◌, ℕ, zero, suc, Bool, true, false, if◌then◌else◌, List, [], ◌∷◌, map, Option, Some}
+use Rattle.std.proofs.Common.{None, refl, sym, ap, ◌∙◌, inl, inr, true≢false}
 use Rattle.std.specs.Prelude.{slice_get, slice_set}
 use Rattle.std.specs.FinMap.{get, insert, remove}
 use Rattle.tss_base.specs.declared.operand.OpName.{OpName}
@@ -14,10 +15,18 @@ use Rattle.tss_maps.proofs.Keys.{nat_order}
 use Rattle.tss_maps.proofs.Changes.{from_inserted, from_removed}
 use Rattle.tss_protocol.specs.Mail.{Source, OpenContents, ReleaseContents, IdleContents, GoneContents, Message}
 use Rattle.tss_protocol.specs.State.{State, OperandState, Flying, Busy, Version, CopyState}
-use Rattle.tss_protocol.specs.Stations.{is_complete, awaited, with_operand, is_gone, remaining_tasks, woken_in, woken_by, task_after_ready, linked_in, linked_by, operand_after_link, finished_in, parted_in, parted_by, operand_after_bye}
+use Rattle.tss_protocol.specs.Stations.{is_complete, awaited, with_operand, is_gone, remaining_tasks, woken_in}
+use Rattle.tss_protocol.specs.Stations.{woken_by, task_after_ready, linked_in, linked_by, operand_after_link}
+use Rattle.tss_protocol.specs.Stations.{finished_in, parted_in, parted_by, operand_after_bye}
 use Rattle.tss_protocol.specs.Buffers.{is_last_piece}
-use Rattle.tss_protocol.specs.UnitMachine.{after_event, with_sent, without, open_message_taken, use_message_taken, ready_message_taken, link_message_taken, after_start, start_task, after_exec, after_finish, release_message_taken, bye_message_taken, idle_message_taken, nack_message_taken, retire_version, after_copy, gone_message_taken}
-use Rattle.tss_protocol.proofs.SentLemmas.{AllSent, IsLater, posted_all-later, after_open-later, after_use-later, after_release-later, after_nack-later, after_ready-later, after_link-later, flight_after_finish-later, after_idle-later, sent_by_retire-later, sent_by_copy-later}
+use Rattle.tss_protocol.specs.UnitMachine.{after_event, with_sent, without, open_message_taken, use_message_taken}
+use Rattle.tss_protocol.specs.UnitMachine.{ready_message_taken, link_message_taken, after_start, start_task, after_exec}
+use Rattle.tss_protocol.specs.UnitMachine.{after_finish, release_message_taken, bye_message_taken, idle_message_taken}
+use Rattle.tss_protocol.specs.UnitMachine.{nack_message_taken, retire_version, after_copy, gone_message_taken}
+use Rattle.tss_protocol.proofs.SentLemmas.{AllSent, IsLater, posted_all-later, after_open-later, after_use-later}
+use Rattle.tss_protocol.proofs.SentLemmas.{after_release-later, after_nack-later, after_ready-later, after_link-later}
+use Rattle.tss_protocol.proofs.SentLemmas.{flight_after_finish-later, after_idle-later, sent_by_retire-later}
+use Rattle.tss_protocol.proofs.SentLemmas.{sent_by_copy-later}
 
 -- ---- tasks in flight
 
@@ -35,7 +44,7 @@ pub all_come : (m : Numbered Flying) → ComeFrom m m
 all_come m k y e = (y, e, record { task = refl; operands = refl })
 
 -- a change of one task
-pub come_changed : (m : Numbered Flying) (t : ℕ) (x y : Flying) → get m t ≡ Some x → IsSameTask x y
+come_changed : (m : Numbered Flying) (t : ℕ) (x y : Flying) → get m t ≡ Some x → IsSameTask x y
     → ComeFrom m (insert m t y)
 come_changed m t x y there same k z e =
     elim (from_inserted nat_order m t y k z e) [
@@ -64,7 +73,7 @@ come_remaining m t x y there same =
     ]
 
 -- a record that is written over with one of the same operand
-pub map-slice_set : {X Y : Type 0} (f : X → Y) (xs : List X) (i : ℕ) (x y : X) → slice_get xs i ≡ Some x → f y ≡ f x
+map-slice_set : {X Y : Type 0} (f : X → Y) (xs : List X) (i : ℕ) (x y : X) → slice_get xs i ≡ Some x → f y ≡ f x
     → map f (slice_set xs i y) ≡ map f xs
 map-slice_set f [] i x y e same = absurd (cc)
 map-slice_set f (z ∷ xs) zero x y e same =

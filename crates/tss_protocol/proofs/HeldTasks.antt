@@ -1,6 +1,7 @@
--- The numbers of the tasks that the gateway holds: each is that of one of its operands, they rise, and there are no more
--- of them than of any numbers that have all of these.
-use Rattle.std.proofs.Common.{◌≡◌, ◌≢◌, ℕ, zero, suc, ◌≤◌, ◌<◌, ◌⊎◌, inl, inr, Bool, true, false, List, [], ◌∷◌, length, refl, sym, ap, ◌∙◌, subst, arith}
+-- The numbers of the tasks that the gateway holds: each is that of one of its operands, they rise, and there are no
+-- more of them than of any numbers that have all of these.
+use Rattle.std.proofs.Common.{◌≡◌, ◌≢◌, ℕ, zero, suc, ◌≤◌, ◌<◌, ◌⊎◌, inl, inr, Bool, true, false, List, [], ◌∷◌, length}
+use Rattle.std.proofs.Common.{refl, sym, ap, ◌∙◌, subst, arith}
 use Rattle.std.specs.Prelude.{◌==◌, ◌&&◌, T, map, if◌then◌else◌, slice_get, slice_index_or, Some}
 use Rattle.std.specs.List.{All, AllPairs, Any}
 use Rattle.std.specs.declared.cmp.Ordering.{Ordering}
@@ -34,11 +35,11 @@ IsAmong n [] = ⊥
 IsAmong n (k ∷ ks) = (k ≡ n) ⊎ IsAmong n ks
 
 -- it is below each of them
-abbrev pub IsBelow : ℕ → List ℕ → Type 0
+abbrev IsBelow : ℕ → List ℕ → Type 0
 IsBelow n ks = (k : ℕ) → IsAmong k ks → n < k
 
 -- each is below all that follow
-abbrev pub Rise : List ℕ → Type 0
+abbrev Rise : List ℕ → Type 0
 Rise [] = Unit {0}
 Rise (k ∷ ks) = IsBelow k ks × Rise ks
 
@@ -56,7 +57,7 @@ cut n (k ∷ ks) (inr h) =
     )
 
 -- numbers that rise, all of them among others, are no more than these
-pub few_among : (ks js : List ℕ) → Rise ks → ((n : ℕ) → IsAmong n ks → IsAmong n js) → length ks ≤ length js
+few_among : (ks js : List ℕ) → Rise ks → ((n : ℕ) → IsAmong n ks → IsAmong n js) → length ks ≤ length js
 few_among [] js rise within = omega arith
 few_among (k ∷ ks) js rise within =
     let r = cut k js (within k (inl refl)) in
@@ -153,7 +154,10 @@ before_rises o (x ∷ hs) least rise = by (o.task == x.task) refl
     by false e =
         let most = least x.task (inl refl) in
         let first : o.task < x.task = grind (arith, nat_tests, e, most) in (
-          λ k h. elim h [ inl is ↦ omega (arith, first, is) | inr rest ↦ let r = rise.0 k rest in omega (arith, first, r) ],
+          λ k h. elim h [
+            | inl is ↦ omega (arith, first, is)
+            | inr rest ↦ let r = rise.0 k rest in omega (arith, first, r)
+          ],
           rise,
         )
 

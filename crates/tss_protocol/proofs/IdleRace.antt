@@ -17,11 +17,18 @@ use Rattle.tss_protocol.specs.State.{State, Flying, Entry}
 use Rattle.tss_protocol.specs.Stations.{entered}
 use Rattle.tss_protocol.specs.Renaming.{Turn, wait_or, fill_of, decode_wait, decoded_by, may_retire, idle_by}
 use Rattle.tss_protocol.specs.MainEvent.{after_call}
-use Rattle.tss_protocol.specs.UnitMachine.{is_enabled, after_event, without, tables_of, with_decoded, can_decode_message, decode_message_taken, idle_message_taken, with_entries}
+use Rattle.tss_protocol.specs.UnitMachine.{is_enabled, after_event, without, tables_of, with_decoded}
+use Rattle.tss_protocol.specs.UnitMachine.{can_decode_message, decode_message_taken, idle_message_taken, with_entries}
 use Rattle.tss_protocol.specs.Run.{after_events, IsRun}
 use Rattle.tss_protocol.proofs.KnownEvents.{small}
-use Rattle.tss_protocol.proofs.RacingProgram.{racing, with_version, reading, reader, start, before_first, after_first, goes_to_first, before_second, after_second, second_task, one, room_for_one, own_turn, only, at_one, gone_one, at_only, again_only, none_counted, idle_with, first_spawn, o1, o2}
-use Rattle.tss_protocol.proofs.FirstReader.{may_take_first, takes_first, first_entry, may_decode_first, decodes_first, may_ack_first, acks_first, may_open, opens, may_ready, readies, may_start, starts, may_exec, execs, may_finish, finishes, asking, asks, may_release, releases, parted, may_bye, byes}
+use Rattle.tss_protocol.proofs.RacingProgram.{racing, with_version, reading, reader, start, before_first, after_first}
+use Rattle.tss_protocol.proofs.RacingProgram.{goes_to_first, before_second, after_second, second_task, one}
+use Rattle.tss_protocol.proofs.RacingProgram.{room_for_one, own_turn, only, at_one, gone_one, at_only, again_only}
+use Rattle.tss_protocol.proofs.RacingProgram.{none_counted, idle_with, first_spawn, o1, o2}
+use Rattle.tss_protocol.proofs.FirstReader.{may_take_first, takes_first, first_entry, may_decode_first, decodes_first}
+use Rattle.tss_protocol.proofs.FirstReader.{may_ack_first, acks_first, may_open, opens, may_ready, readies, may_start}
+use Rattle.tss_protocol.proofs.FirstReader.{starts, may_exec, execs, may_finish, finishes, asking, asks, may_release}
+use Rattle.tss_protocol.proofs.FirstReader.{releases, parted, may_bye, byes}
 
 -- main spawns task 2
 may_go : is_enabled small (parted after_first None) event.Main ≡ true

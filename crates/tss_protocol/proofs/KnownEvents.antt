@@ -16,7 +16,8 @@ use Rattle.tss_model.specs.Memory.{Memory, zeros}
 use Rattle.tss_model.specs.Core.{core_step}
 use Rattle.tss_model.specs.TaskRun.{repeated}
 use Rattle.tss_model.specs.MainStep.{MainState, main_step}
-use Rattle.tss_protocol.specs.Mail.{OpenContents, Source, ReleaseContents, IdleContents, GoneContents, no_mail, early_count, late_count, message_count}
+use Rattle.tss_protocol.specs.Mail.{OpenContents, Source, ReleaseContents, IdleContents, GoneContents, no_mail}
+use Rattle.tss_protocol.specs.Mail.{early_count, late_count, message_count}
 use Rattle.tss_protocol.specs.State.{State, Flying, Busy, Entry, Version, CopyState, initial_state}
 use Rattle.tss_protocol.specs.MainEvent.{has_no_task, has_no_object, is_drained}
 use Rattle.tss_protocol.specs.UnitMachine.{is_enabled, after_event}

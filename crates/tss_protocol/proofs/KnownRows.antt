@@ -19,8 +19,11 @@ use Rattle.tss_protocol.specs.Names.{bank_of, same_name}
 use Rattle.tss_protocol.specs.Mail.{OpenContents, IdleContents}
 use Rattle.tss_protocol.specs.State.{State, Entry, Version}
 use Rattle.tss_protocol.specs.Renaming.{decoded_by, idle_by, may_retire}
-use Rattle.tss_protocol.specs.Versions.{Versioned, new_version, followed, after_open, settle, settled, settle_at, settle_how, opened_how, unchanged, version_changed, put_version, settle_over, unlinked}
-use Rattle.tss_protocol.specs.UnitMachine.{tables_of, without, with_decoded, decode_message_taken, with_entries, idle_message_taken, after_event}
+use Rattle.tss_protocol.specs.Versions.{Versioned, new_version, followed, after_open, settle, settled, settle_at}
+use Rattle.tss_protocol.specs.Versions.{settle_how, opened_how, unchanged, version_changed, put_version, settle_over}
+use Rattle.tss_protocol.specs.Versions.{unlinked}
+use Rattle.tss_protocol.specs.UnitMachine.{tables_of, without, with_decoded, decode_message_taken, with_entries}
+use Rattle.tss_protocol.specs.UnitMachine.{idle_message_taken, after_event}
 
 -- ---- idle against a reader that is decoded in between
 

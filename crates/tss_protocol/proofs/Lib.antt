@@ -1,4 +1,3 @@
-pub mod MessageNames
 pub mod DrainedStates
 pub mod EventOrder
 pub mod EnabledList

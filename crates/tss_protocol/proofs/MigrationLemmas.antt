@@ -1,5 +1,6 @@
 -- A log of the older format gives the same run in the present one.
-use Rattle.std.proofs.Common.{◌≡◌, ℕ, suc, Bool, true, false, cond, List, [], ◌∷◌, ◌++◌, Option, Some, None, refl, sym, ap, ◌∙◌, true≢false}
+use Rattle.std.proofs.Common.{◌≡◌, ℕ, suc, Bool, true, false, cond, List, [], ◌∷◌, ◌++◌, Option, Some, None, refl, sym}
+use Rattle.std.proofs.Common.{ap, ◌∙◌, true≢false}
 use Rattle.std.specs.Prelude.{◌==◌, if◌then◌else◌, is_none, bytes_eq, Ok}
 use Rattle.std.specs.List.{onto_first}
 use Rattle.std.proofs.lemmas.Slice.Eq.{bytes_eq-Decides}
@@ -9,7 +10,8 @@ use Rattle.tss_protocol.specs.State.{State, initial_state}
 use Rattle.tss_protocol.specs.Text.{event_of_text, lines_of, line_feed, log_header, text_of_lines}
 use Rattle.tss_protocol.specs.UnitMachine.{is_enabled, after_event}
 use Rattle.tss_protocol.specs.Result.{is_finished}
-use Rattle.tss_protocol.specs.Schedule.{NotEnabled, Short, Long, Judgement, faulted, judged_after, judged_line, judged_from, judged_lines, judged}
+use Rattle.tss_protocol.specs.Schedule.{NotEnabled, Short, Long, Judgement, faulted, judged_after, judged_line}
+use Rattle.tss_protocol.specs.Schedule.{judged_from, judged_lines, judged}
 use Rattle.tss_protocol.specs.Migration.{first_bad_line, migrated_lines, judged_later, KeepsRun}
 
 -- ---- lines
@@ -87,7 +89,8 @@ module _ (m : Machine) where
   end_by n false = refl
 
   -- the same events, and the same fault one line later
-  from_later : (ls : List (List ℕ)) (S : State) (n : ℕ) → judged_from m S (suc n) ls ≡ judged_later (judged_from m S n ls)
+  from_later : (ls : List (List ℕ)) (S : State) (n : ℕ)
+      → judged_from m S (suc n) ls ≡ judged_later (judged_from m S n ls)
   unfolding judged_from
   from_later [] S n = end_by n (is_finished S)
   from_later (l ∷ ls) S n =
@@ -103,9 +106,6 @@ header_is_line = (refl, (refl, (refl, (refl, (refl, (refl, (refl, (refl, (refl, 
 header_is_no_event : event_of_text log_header ≡ None
 unfolding event_of_text
 header_is_no_event = refl
-
-header_itself : bytes_eq log_header log_header ≡ true
-header_itself = refl
 
 -- where each line is an event's text, the first isn't the header
 not_header : (l : List ℕ) (b : Bool) → bytes_eq l log_header ≡ b → is_none (event_of_text l) ≡ false → b ≡ false

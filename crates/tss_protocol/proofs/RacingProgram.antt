@@ -1,6 +1,7 @@
 -- A program whose main spawns two tasks that read one object: its image, main around each spawn, and states of a run of
 -- it.
-use Rattle.std.proofs.Common.{◌≡◌, ℕ, Bool, true, false, List, [], ◌∷◌, ◌++◌, Option, Some, None, refl, sym, ap, ◌∙◌, inl, inr, arith}
+use Rattle.std.proofs.Common.{◌≡◌, ℕ, Bool, true, false, List, [], ◌∷◌, ◌++◌, Option, Some, None, refl, sym, ap, ◌∙◌}
+use Rattle.std.proofs.Common.{inl, inr, arith}
 use Rattle.std.specs.Prelude.{replicate, flat_map, unwrap_or, Result, Ok}
 use Rattle.std.specs.Int.{bytes_low_first}
 use Rattle.std.specs.Cmp.{nat_cmp_total}
@@ -39,7 +40,7 @@ use Rattle.tss_protocol.proofs.KnownEvents.{small}
 
 -- ---- the program: main spawns twice a task that reads four bytes at 0x20000
 
-abbrev pub words : List ℕ
+abbrev words : List ℕ
 words =
     0x10537 ∷ 0x7850513 ∷ 0x105b7 ∷ 0x8058593 ∷ 0x637 ∷ 0x160613 ∷ 0x6b7 ∷ 0x68693 ∷ 0x8b7 ∷ 0x288893 ∷ 0x73 ∷
     0x10537 ∷ 0x7850513 ∷ 0x105b7 ∷ 0x8c58593 ∷ 0x637 ∷ 0x160613 ∷ 0x6b7 ∷ 0x68693 ∷ 0x8b7 ∷ 0x288893 ∷ 0x73 ∷
@@ -76,14 +77,14 @@ reader n = record {
 
 -- ---- main up to and after each spawn
 
-abbrev pub registers_at : ℕ → ℕ → ℕ → Registers
+abbrev registers_at : ℕ → ℕ → ℕ → Registers
 registers_at list pc done = record {
   values = 0 ∷ 0 ∷ 0xFFFF0000 ∷ replicate 7 0 ++ 0x10078 ∷ list ∷ 1 ∷ 0 ∷ 0 ∷ 0 ∷ 0 ∷ 2 ∷ replicate 14 0;
   pc = pc;
   done = done;
 }
 
-abbrev pub main_at : ℕ → ℕ → ℕ → ℕ → List Range → MainState
+abbrev main_at : ℕ → ℕ → ℕ → ℕ → List Range → MainState
 main_at list pc done spawned epoch =
     record { registers = registers_at list pc done; spawned = spawned; epoch = epoch; pieces = []; ending = None }
 
@@ -101,14 +102,14 @@ unfolding after_event repeated main_step core_step instr_of
 goes_to_first = refl
 
 -- what the image has at an address
-pub byte_is : (a : ℕ) → byte_at (loaded racing) a ≡ unwrap_or (find nat_cmp a (loaded_bytes racing)) 0
+byte_is : (a : ℕ) → byte_at (loaded racing) a ≡ unwrap_or (find nat_cmp a (loaded_bytes racing)) 0
 unfolding loaded
 byte_is a = ap (λ o. unwrap_or o 0) (get-from_entries nat_cmp_total (loaded_bytes racing) a)
 
-abbrev pub listed : ListEntry
+abbrev listed : ListEntry
 listed = record { object = x; mode = 1 }
 
-pub first_list : entries_at (loaded racing) 0x10080 1 ≡ listed ∷ []
+first_list : entries_at (loaded racing) 0x10080 1 ≡ listed ∷ []
 unfolding loaded_bytes
 first_list = λ i.
     record {
@@ -117,7 +118,7 @@ first_list = λ i.
     }
     ∷ []
 
-pub second_list : entries_at (loaded racing) 0x1008C 1 ≡ listed ∷ []
+second_list : entries_at (loaded racing) 0x1008C 1 ≡ listed ∷ []
 unfolding loaded_bytes
 second_list = λ i.
     record {
@@ -127,12 +128,12 @@ second_list = λ i.
     ∷ []
 
 -- what the list of a spawn of main makes of its entries, where these objects are named and so many tasks spawned
-abbrev pub checked : MainState → List ListEntry → Result Task ℕ
+abbrev checked : MainState → List ListEntry → Result Task ℕ
 checked main es =
     task_checked small.limits (spawn_call main.registers) main.epoch main.spawned (entries_checked small.limits
     (loaded racing) main.epoch es)
 
-pub first_task : spawn_of (spawn_call before_first.registers) (loaded racing) [] small.limits 0 ≡ Ok (reader 1)
+first_task : spawn_of (spawn_call before_first.registers) (loaded racing) [] small.limits 0 ≡ Ok (reader 1)
 unfolding spawn_of entries_checked loaded zeros
 first_task = ap (checked before_first) first_list
 

@@ -1,5 +1,6 @@
 -- What is sent: facts of each message of a list, and what they leave alone in the mail.
-use Rattle.std.proofs.Common.{◌≡◌, ℕ, zero, suc, Bool, true, false, if◌then◌else◌, List, [], ◌∷◌, ◌++◌, Option, Some, None, refl, ◌∙◌}
+use Rattle.std.proofs.Common.{◌≡◌, ℕ, zero, suc, Bool, true, false, if◌then◌else◌, List, [], ◌∷◌, ◌++◌, Option, Some}
+use Rattle.std.proofs.Common.{None, refl, ◌∙◌}
 use Rattle.std.specs.FinMap.{get}
 use Rattle.tss_base.specs.declared.operand.OpName.{OpName}
 use Rattle.tss_base.specs.declared.marks.How.{How}
@@ -8,13 +9,19 @@ use Rattle.tss_base.specs.declared.marks.Follow.{Follow}
 use Rattle.tss_base.specs.declared.marks.LinkState.{LinkState}
 use Rattle.tss_base.specs.declared.marks.LinkState.TheVariants as link
 use Rattle.tss_base.specs.Names.{Named, Numbered}
-use Rattle.tss_protocol.specs.Mail.{StorageName, Home, Buffer, Source, ReleaseContents, OpenContents, Message, Decode, Ack, Open, Use, Ready, Link, Release, Bye, Idle, Nack, Retire, Gone, Mail, posted, posted_all}
+use Rattle.tss_protocol.specs.Mail.{StorageName, Home, Buffer, Source, ReleaseContents, OpenContents, Message, Decode}
+use Rattle.tss_protocol.specs.Mail.{Ack, Open, Use, Ready, Link, Release, Bye, Idle, Nack, Retire, Gone, Mail, posted}
+use Rattle.tss_protocol.specs.Mail.{posted_all}
 use Rattle.tss_base.specs.declared.range.Range.{Range}
 use Rattle.tss_model.specs.Access.{writes}
 use Rattle.tss_protocol.specs.State.{Entry, OperandState, Flying, Version, CopyState}
-use Rattle.tss_protocol.specs.Stations.{sent_by_ready, sent_by_link, release_of, releases_from, after_ready, after_link, flight_after_finish, woken_in, woken_by, linked_in, linked_by, finished_in}
+use Rattle.tss_protocol.specs.Stations.{sent_by_ready, sent_by_link, release_of, releases_from, after_ready, after_link}
+use Rattle.tss_protocol.specs.Stations.{flight_after_finish, woken_in, woken_by, linked_in, linked_by, finished_in}
 use Rattle.tss_protocol.specs.Renaming.{idle_by, after_idle}
-use Rattle.tss_protocol.specs.Versions.{Settling, ready_with, settle_how, settle_by, settle_at, settle_asking, unchanged, settle, settled, may_ask, may_die, opened_how, opened_by, after_open, used_alone, used_behind, used_at, after_use, head_ready, released_by, released_at, after_release, nacked_at, after_nack}
+use Rattle.tss_protocol.specs.Versions.{Settling, ready_with, settle_how, settle_by, settle_at, settle_asking}
+use Rattle.tss_protocol.specs.Versions.{unchanged, settle, settled, may_ask, may_die, opened_how, opened_by, after_open}
+use Rattle.tss_protocol.specs.Versions.{used_alone, used_behind, used_at, after_use, head_ready, released_by}
+use Rattle.tss_protocol.specs.Versions.{released_at, after_release, nacked_at, after_nack}
 use Rattle.tss_protocol.specs.Buffers.{sent_by_retire, sent_by_copy}
 use Rattle.tss_protocol.specs.Names.{operand_name}
 

@@ -1,6 +1,7 @@
 -- What a settle does where all other versions are settled: nothing, it asks, it gives way to one over it, or to one
 -- beside it, which asks then or not.
-use Rattle.std.proofs.Common.{◌≡◌, ◌≢◌, ℕ, zero, suc, ◌⊎◌, Bool, true, false, if◌then◌else◌, [], ◌∷◌, Option, Some, None, refl, sym, ap, ◌∙◌, subst, inl, inr, arith}
+use Rattle.std.proofs.Common.{◌≡◌, ◌≢◌, ℕ, zero, suc, ◌⊎◌, Bool, true, false, if◌then◌else◌, [], ◌∷◌, Option, Some}
+use Rattle.std.proofs.Common.{None, refl, sym, ap, ◌∙◌, subst, inl, inr, arith}
 use Rattle.std.specs.FinMap.{get, len}
 use Rattle.std.proofs.lemmas.Option.{none-some}
 use Rattle.tss_base.specs.declared.operand.OpName.{OpName}
@@ -12,9 +13,11 @@ use Rattle.tss_maps.proofs.Keys.{name_order}
 use Rattle.tss_maps.proofs.Changes.{at_inserted, beside_inserted, beside_removed, decide_get}
 use Rattle.tss_maps.proofs.Entries.{len_there}
 use Rattle.tss_protocol.specs.State.{Version}
-use Rattle.tss_protocol.specs.Versions.{Versioned, Settling, sending, drop_version, version_changed, change_version, change_named, buffer_of, died, may_die, may_ask, followed_by, unlinked, settle_over, settle_how, settle_asking, unchanged, settle_by, settle_at, settle, settled}
-use Rattle.tss_protocol.specs.Settled.{GivesWay}
-use Rattle.tss_protocol.specs.Settled.{IsSettled}
+use Rattle.tss_protocol.specs.Versions.{Versioned, Settling, sending, drop_version, version_changed, change_version}
+use Rattle.tss_protocol.specs.Versions.{change_named, buffer_of, died, may_die, may_ask, followed_by, unlinked}
+use Rattle.tss_protocol.specs.Versions.{settle_over, settle_how, settle_asking, unchanged, settle_by, settle_at, settle}
+use Rattle.tss_protocol.specs.Versions.{settled}
+use Rattle.tss_protocol.specs.Settled.{GivesWay, IsSettled}
 
 -- ---- what is known before
 

@@ -38,7 +38,7 @@ module _ (o : OpName) (line : Named (Unit {0})) where
           absurd (none p e before)
 
   -- and only there
-  pub turn_came : has_earlier o line ≡ false → (p : OpName) → get line p ≡ Some tt → p.task < o.task → ⊥
+  turn_came : has_earlier o line ≡ false → (p : OpName) → get line p ≡ Some tt → p.task < o.task → ⊥
   turn_came turn p e before =
       let test : nat_lt p.task o.task ≡ true = grind (arith, nat_tests, before) in
       let some = counted name_order (λ p x. nat_lt p.task o.task) line p tt e test in
@@ -49,12 +49,12 @@ module _ (o : OpName) (line : Named (Unit {0})) where
 
 module _ (sizes : Sizes) (bank : ℕ) (decodes : Named Operand) where
   -- what stands in the line, by what is to be decoded
-  pub get-line_of : (o : OpName)
+  get-line_of : (o : OpName)
       → get (line_of sizes bank decodes) o ≡ key_where (λ o p. bank_of sizes p.object == bank) o (get decodes o)
   get-line_of o = get-keys_where name_order (λ o p. bank_of sizes p.object == bank) decodes o
 
   -- an operand that is to be decoded in the bank stands there
-  pub in_line : (o : OpName) (p : Operand) → get decodes o ≡ Some p → bank_of sizes p.object ≡ bank
+  in_line : (o : OpName) (p : Operand) → get decodes o ≡ Some p → bank_of sizes p.object ≡ bank
       → get (line_of sizes bank decodes) o ≡ Some tt
   in_line o p e same =
       let test : (bank_of sizes p.object == bank) ≡ true = grind (arith, nat_tests, same) in
@@ -63,7 +63,7 @@ module _ (sizes : Sizes) (bank : ℕ) (decodes : Named Operand) where
       ∙ ap (λ b. cond {A = Option (Unit {0})} b (Some tt) None) test
 
   -- and no other
-  pub from_line : (o : OpName) → get (line_of sizes bank decodes) o ≡ Some tt
+  from_line : (o : OpName) → get (line_of sizes bank decodes) o ≡ Some tt
       → (p : Operand) × (get decodes o ≡ Some p) × (bank_of sizes p.object ≡ bank)
   from_line o e = by (get decodes o) refl (sym (get-line_of o) ∙ e)
     where

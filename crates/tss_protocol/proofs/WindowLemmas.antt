@@ -1,5 +1,6 @@
 -- The tasks that the gateway holds, and its window.
-use Rattle.std.proofs.Common.{◌≡◌, ℕ, zero, suc, ◌≤◌, ◌<◌, true, false, cond, List, [], ◌∷◌, length, refl, sym, ap, ◌∙◌, arith, ◌⊎◌, inl, inr}
+use Rattle.std.proofs.Common.{◌≡◌, ℕ, zero, suc, ◌≤◌, ◌<◌, true, false, cond, List, [], ◌∷◌, length, refl, sym, ap, ◌∙◌}
+use Rattle.std.proofs.Common.{arith, ◌⊎◌, inl, inr}
 use Rattle.std.specs.Prelude.{◌==◌}
 use Rattle.std.proofs.lemmas.Bool.Decides.{nat_tests}
 use Rattle.std.proofs.lemmas.List.{length-map}
@@ -22,14 +23,14 @@ runs_begin o (h ∷ hs) =
     ]
 
 -- no names have no run, and any have one
-pub some_runs : (os : List OpName) → ((os ≡ []) × (runs_of os ≡ [])) ⊎ ((1 ≤ length os) × (1 ≤ length (runs_of os)))
+some_runs : (os : List OpName) → ((os ≡ []) × (runs_of os ≡ [])) ⊎ ((1 ≤ length os) × (1 ≤ length (runs_of os)))
 some_runs [] = inl (refl, refl)
 some_runs (o ∷ os) = inr (omega arith, runs_begin o (runs_of os))
 
 -- ---- the gateway
 
 module _ (gateway : Named (Unit {0})) where
-  pub len-keys : length (keys gateway) ≡ len gateway
+  len-keys : length (keys gateway) ≡ len gateway
   len-keys = length-map (entries gateway) (λ e. e.0) ∙ sym (len-entries gateway)
 
   -- it holds no task where it is idle
@@ -40,7 +41,7 @@ module _ (gateway : Named (Unit {0})) where
   ]
 
   -- and only there
-  pub some_held : 0 < len gateway → 1 ≤ length (held_tasks gateway)
+  some_held : 0 < len gateway → 1 ≤ length (held_tasks gateway)
   some_held busy = elim (some_runs (keys gateway)) [
     | inl none ↦ let n = len-keys in let e = ap length none.0 in absurd (omega (arith, n, e, busy))
     | inr some ↦ some.1

@@ -1,5 +1,6 @@
 -- The bytes of rename buffers, and the copy engines that bring a retired version's bytes home.
-use Rattle.std.specs.Prelude.{ℕ, ◌+◌, ◌-◌, Bool, true, false, nat_le, min, List, [], ◌∷◌, take, drop, Option, Some, None, is_none, unwrap_or}
+use Rattle.std.specs.Prelude.{ℕ, ◌+◌, ◌-◌, Bool, true, false, nat_le, min, List, [], ◌∷◌, take, drop, Option, Some}
+use Rattle.std.specs.Prelude.{None, is_none, unwrap_or}
 use Rattle.std.specs.FinMap.{get, insert, remove}
 use Rattle.tss_base.specs.declared.bounds.TheConstants.{COPY_BYTES}
 use Rattle.tss_base.specs.declared.range.Range.{Range}

@@ -1,6 +1,7 @@
 -- How plain data, main, memory and messages are stored, for values that have them.
 use Rattle.std.specs.Prelude.{◌≡◌, ℕ, Bool, List, Option, Some, None, refl}
-use Rattle.std.specs.Coded.{Coded, code_by, coded×, coded_ℕ, coded_bool, coded_list, coded_option, prop_coded, Unit-prop}
+use Rattle.std.specs.Coded.{Coded, code_by, coded×, coded_ℕ, coded_bool, coded_list, coded_option, prop_coded}
+use Rattle.std.specs.Coded.{Unit-prop}
 use Rattle.std.specs.FinMap as map
 use Rattle.tss_base.specs.contracts.range.Range as range
 use Rattle.tss_base.specs.contracts.operand.OpName as name
@@ -27,7 +28,8 @@ use Rattle.tss_base.specs.Image.{SegmentState}
 use Rattle.tss_model.specs.Memory.{MemoryRange, Memory}
 use Rattle.tss_model.specs.Registers.{Registers}
 use Rattle.tss_model.specs.MainStep.{Piece, MainState}
-use Rattle.tss_protocol.specs.Mail.{StorageName, Home, Buffer, Source, OpenContents, ReleaseContents, IdleContents, GoneContents, Mail}
+use Rattle.tss_protocol.specs.Mail.{StorageName, Home, Buffer, Source, OpenContents, ReleaseContents, IdleContents}
+use Rattle.tss_protocol.specs.Mail.{GoneContents, Mail}
 
 -- ---- plain data
 

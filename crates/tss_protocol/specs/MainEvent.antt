@@ -10,7 +10,8 @@ use Rattle.tss_base.specs.Names.{Named}
 use Rattle.tss_maps.specs.Sums.{count_of}
 use Rattle.tss_model.specs.Access.{operands_of}
 use Rattle.tss_model.specs.Spawn.{same_range}
-use Rattle.tss_model.specs.MainStep.{MainState, Flat, Call, ExitCall, Spawn, Barrier, Print, Await, Unknown, next_call, main_call, main_stretch, awaited_object}
+use Rattle.tss_model.specs.MainStep.{MainState, Flat, Call, ExitCall, Spawn, Barrier, Print, Await, Unknown, next_call}
+use Rattle.tss_model.specs.MainStep.{main_call, main_stretch, awaited_object}
 use Rattle.tss_protocol.specs.Mail.{is_silent}
 use Rattle.tss_protocol.specs.State.{Entry, State}
 use Rattle.tss_protocol.specs.Gateway.{is_idle}

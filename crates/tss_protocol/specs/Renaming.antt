@@ -1,6 +1,7 @@
 -- The renaming tables, one bank at a time: an object's entry knows its latest version, and places and buffers are held
 -- under the names of the versions for which they were taken.
-use Rattle.std.specs.Prelude.{◌≡◌, ℕ, suc, ◌==◌, Bool, true, false, ◌&&◌, nat_lt, nat_le, if◌then◌else◌, List, [], ◌∷◌, Option, Some, None, is_none}
+use Rattle.std.specs.Prelude.{◌≡◌, ℕ, suc, ◌==◌, Bool, true, false, ◌&&◌, nat_lt, nat_le, if◌then◌else◌, List, [], ◌∷◌}
+use Rattle.std.specs.Prelude.{Option, Some, None, is_none}
 use Rattle.std.specs.FinMap.{get, insert, remove}
 use Rattle.tss_base.specs.declared.operand.OpName.{OpName}
 use Rattle.tss_base.specs.declared.operand.Mode.{Mode}
@@ -118,7 +119,8 @@ bank_wait sizes fill line o entry mode = wait_or (has_earlier o line) Turn (deco
 -- the same in one of all banks
 abbrev pub wait_in : Sizes → ℕ → Tables → Named Operand → OpName → Operand → Option Wait
 wait_in sizes bank t decodes o operand =
-    bank_wait sizes (fill_of sizes t bank) (line_of sizes bank decodes) o (get t.entries operand.object.base) operand.mode
+    bank_wait sizes (fill_of sizes t bank) (line_of sizes bank decodes) o
+    (get t.entries operand.object.base) operand.mode
 
 -- in the bank of the operand's object
 abbrev pub operand_wait : Sizes → Tables → Named Operand → OpName → Operand → Option Wait

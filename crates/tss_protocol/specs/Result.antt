@@ -1,5 +1,6 @@
 -- When a run is over, and its ending, number of tasks and output.
-use Rattle.std.specs.Prelude.{◌≡◌, ℕ, Bool, true, ◌&&◌, ◌||◌, nat_lt, if◌then◌else◌, List, filter, Option, Some, None, is_some}
+use Rattle.std.specs.Prelude.{◌≡◌, ℕ, Bool, true, ◌&&◌, ◌||◌, nat_lt, if◌then◌else◌, List, filter, Option, Some, None}
+use Rattle.std.specs.Prelude.{is_some}
 use Rattle.tss_base.specs.declared.ending.Ending.{Ending}
 use Rattle.tss_base.specs.declared.ending.Ending.TheVariants.{TaskTrap}
 use Rattle.tss_model.specs.MainStep.{Piece, output_of}

@@ -1,6 +1,7 @@
 -- Schedules: the choice of an event by a word, the run that a seed draws, and the run that a log gives, with its first
 -- fault.
-use Rattle.std.specs.Prelude.{ℕ, zero, suc, ◌%◌, if◌then◌else◌, List, [], ◌∷◌, length, slice_get, bytes_eq, Option, Some, None}
+use Rattle.std.specs.Prelude.{ℕ, zero, suc, ◌%◌, if◌then◌else◌, List, [], ◌∷◌, length, slice_get, bytes_eq, Option}
+use Rattle.std.specs.Prelude.{Some, None}
 use Rattle.rand_core.specs.Pcg32Seed.{pcg32_seed}
 use Rattle.rand_pcg.specs.Lcg.{Lcg}
 use Rattle.rand_pcg.specs.Pcg.{pcg32, pcg32_of_seed}

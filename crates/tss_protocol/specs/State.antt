@@ -49,8 +49,9 @@ pub record Entry : Type 0 where
   pub retiring : Bool
 
 -- a version: its object, the storage of its value where it has one, whether it is produced or still open, the readers
--- that registered and those that released it, the first reader of an open version, the last registered reader until that
--- one has released, the versions before and after it, and the number of readers for which it asked to retire, or was refused to
+-- that registered and those that released it, the first reader of an open version, the last registered reader until
+-- that one has released, the versions before and after it, and the number of readers for which it asked to retire, or
+-- was refused to
 pub record Version : Type 0 where
   pub object : Range
   pub storage : Option StorageName

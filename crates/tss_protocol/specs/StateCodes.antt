@@ -18,7 +18,10 @@ use Rattle.tss_model.specs.MainStep.{MainState}
 use Rattle.tss_protocol.specs.Mail.{StorageName, Source, Mail}
 use Rattle.tss_protocol.specs.State.{OperandState, Flying, Busy, Entry, Version, CopyState, HeldTrap, State}
 use Rattle.tss_protocol.specs.Renaming.{Tables}
-use Rattle.tss_protocol.specs.Codes.{range_code, name_code, operand_code, task_code, trap_code, stage_code, link_code, farewell_code, follow_code, named, numbered, numbers_code, nothing_code, segment_code, memory_code, registers_code, main_code, storage_code, source_code, mail_code}
+use Rattle.tss_protocol.specs.Codes.{range_code, name_code, operand_code, task_code, trap_code, stage_code, link_code}
+use Rattle.tss_protocol.specs.Codes.{farewell_code, follow_code, named, numbered, numbers_code, nothing_code}
+use Rattle.tss_protocol.specs.Codes.{segment_code, memory_code, registers_code, main_code, storage_code, source_code}
+use Rattle.tss_protocol.specs.Codes.{mail_code}
 
 -- ---- units
 

@@ -1,9 +1,11 @@
 -- The texts of events, their reading, and the text of a log.
-use Rattle.std.specs.Prelude.{ℕ, ◌+◌, ◌-◌, ◌*◌, ◌==◌, Bool, ◌&&◌, if◌then◌else◌, List, [], ◌∷◌, ◌++◌, map, flat_map, fold, Option, Some, None, codes, decimal, bytes_eq}
+use Rattle.std.specs.Prelude.{ℕ, ◌+◌, ◌-◌, ◌*◌, ◌==◌, Bool, ◌&&◌, if◌then◌else◌, List, [], ◌∷◌, ◌++◌, map, flat_map}
+use Rattle.std.specs.Prelude.{fold, Option, Some, None, codes, decimal, bytes_eq}
 use Rattle.std.specs.List.{before_first, after_first, onto_first}
 use Rattle.tss_base.specs.declared.operand.OpName.{OpName}
 use Rattle.tss_base.specs.declared.event.Event.{Event}
-use Rattle.tss_base.specs.declared.event.Event.TheVariants.{Main, Take, Decode, Ack, Open, Use, Ready, Link, Start, Exec, Finish, Release, Bye, Idle, Nack, Retire, Copy, Gone}
+use Rattle.tss_base.specs.declared.event.Event.TheVariants.{Main, Take, Decode, Ack, Open, Use, Ready, Link, Start}
+use Rattle.tss_base.specs.declared.event.Event.TheVariants.{Exec, Finish, Release, Bye, Idle, Nack, Retire, Copy, Gone}
 use Rattle.tss_base.specs.Event.{fits}
 use Rattle.tss_protocol.specs.Names.{operand_name}
 

@@ -1,6 +1,7 @@
 -- The unit machine: for each event whether it may happen and the state after it, made of what the units say, and the
 -- list of the events that may happen.
-use Rattle.std.specs.Prelude.{◌≡◌, ℕ, Bool, true, false, ◌&&◌, List, [], ◌∷◌, ◌++◌, map, filter, Option, Some, None, is_some}
+use Rattle.std.specs.Prelude.{◌≡◌, ℕ, Bool, true, false, ◌&&◌, List, [], ◌∷◌, ◌++◌, map, filter, Option, Some, None}
+use Rattle.std.specs.Prelude.{is_some}
 use Rattle.std.specs.List.{range_with_len}
 use Rattle.std.specs.FinMap.{get, insert, remove, keys}
 use Rattle.tss_base.specs.declared.operand.OpName.{OpName}
@@ -13,14 +14,20 @@ use Rattle.tss_base.specs.declared.marks.Stage.{Stage}
 use Rattle.tss_base.specs.declared.marks.Stage.TheVariants as stage
 use Rattle.tss_base.specs.Names.{Numbered}
 use Rattle.tss_protocol.specs.Names.{bank_of}
-use Rattle.tss_protocol.specs.Mail.{Source, OpenContents, ReleaseContents, IdleContents, GoneContents, Message, posted_all, taken, early_names, late_names, gone_names}
+use Rattle.tss_protocol.specs.Mail.{Source, OpenContents, ReleaseContents, IdleContents, GoneContents, Message}
+use Rattle.tss_protocol.specs.Mail.{posted_all, taken, early_names, late_names, gone_names}
 use Rattle.tss_protocol.specs.State.{State, Flying, Busy, Entry, Version, CopyState, Outcome}
 use Rattle.tss_protocol.specs.Gateway.{has_window, gateway_after_take, sent_by_take, gateway_after_ack}
-use Rattle.tss_protocol.specs.Stations.{has_slot, entered, flight_after_take, Woken, after_ready, after_link, flight_after_start, flight_after_finish, after_bye}
+use Rattle.tss_protocol.specs.Stations.{has_slot, entered, flight_after_take, Woken, after_ready, after_link}
+use Rattle.tss_protocol.specs.Stations.{flight_after_start, flight_after_finish, after_bye}
 use Rattle.tss_protocol.specs.Renaming.{Tables, can_decode, after_decode, after_idle, after_gone}
-use Rattle.tss_protocol.specs.Versions.{Versioned, can_open, after_open, can_use, after_use, after_release, after_nack, after_retire}
-use Rattle.tss_protocol.specs.Buffers.{buffer_bytes, contents_after_gone, can_retire_from, sent_by_retire, copies_after_retire, home_after_copy, is_last_piece, copies_after_copy, sent_by_copy}
-use Rattle.tss_protocol.specs.Workers.{Stores, can_start, busy_at_start, stores_after_start, can_exec, exec_stretch, busy_after, can_finish, trap_after_finish}
+use Rattle.tss_protocol.specs.Versions.{Versioned, can_open, after_open, can_use, after_use, after_release, after_nack}
+use Rattle.tss_protocol.specs.Versions.{after_retire}
+use Rattle.tss_protocol.specs.Buffers.{buffer_bytes, contents_after_gone, can_retire_from, sent_by_retire}
+use Rattle.tss_protocol.specs.Buffers.{copies_after_retire, home_after_copy, is_last_piece, copies_after_copy}
+use Rattle.tss_protocol.specs.Buffers.{sent_by_copy}
+use Rattle.tss_protocol.specs.Workers.{Stores, can_start, busy_at_start, stores_after_start, can_exec, exec_stretch}
+use Rattle.tss_protocol.specs.Workers.{busy_after, can_finish, trap_after_finish}
 use Rattle.tss_model.specs.TaskRun.{TaskState}
 use Rattle.tss_protocol.specs.MainEvent.{can_main, after_main}
 

@@ -1,6 +1,7 @@
 -- The versioning tables: the versions of objects, each with the chain of its readers and the versions before and after
 -- it.
-use Rattle.std.specs.Prelude.{ℕ, zero, suc, ◌==◌, Bool, true, false, ◌&&◌, not, if◌then◌else◌, List, [], ◌∷◌, ◌++◌, Option, Some, None, is_none}
+use Rattle.std.specs.Prelude.{ℕ, zero, suc, ◌==◌, Bool, true, false, ◌&&◌, not, if◌then◌else◌, List, [], ◌∷◌, ◌++◌}
+use Rattle.std.specs.Prelude.{Option, Some, None, is_none}
 use Rattle.std.specs.FinMap.{get, insert, remove, len, contains_key}
 use Rattle.tss_base.specs.declared.range.Range.{Range}
 use Rattle.tss_base.specs.declared.operand.OpName.{OpName}
@@ -11,7 +12,8 @@ use Rattle.tss_base.specs.declared.marks.How.TheVariants.{Beside, Over}
 use Rattle.tss_base.specs.declared.marks.Follow.{Follow}
 use Rattle.tss_base.specs.Names.{Named}
 use Rattle.tss_protocol.specs.Names.{same_name}
-use Rattle.tss_protocol.specs.Mail.{StorageName, Home, Buffer, OpenContents, ReleaseContents, GoneContents, Message, Ready, Link, Bye, Idle, Gone}
+use Rattle.tss_protocol.specs.Mail.{StorageName, Home, Buffer, OpenContents, ReleaseContents, GoneContents, Message}
+use Rattle.tss_protocol.specs.Mail.{Ready, Link, Bye, Idle, Gone}
 use Rattle.tss_protocol.specs.State.{Version, Outcome}
 
 -- the versions and the messages that an event leaves

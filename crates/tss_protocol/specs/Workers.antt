@@ -1,5 +1,6 @@
 -- The worker cores: each runs a task over the storages of its operands and a scratch of its own.
-use Rattle.std.specs.Prelude.{ℕ, ◌-◌, ◌==◌, Bool, false, ◌&&◌, ◌||◌, not, nat_lt, if◌then◌else◌, List, [], ◌∷◌, find, slice_index, Option, Some, None, is_none, is_some, take}
+use Rattle.std.specs.Prelude.{ℕ, ◌-◌, ◌==◌, Bool, false, ◌&&◌, ◌||◌, not, nat_lt, if◌then◌else◌, List, [], ◌∷◌, find}
+use Rattle.std.specs.Prelude.{slice_index, Option, Some, None, is_none, is_some, take}
 use Rattle.std.specs.FinMap.{insert}
 use Rattle.tss_base.specs.declared.range.Range.{Range}
 use Rattle.tss_base.specs.declared.operand.Operand.{Operand}
