@@ -10,9 +10,11 @@ use Rattle.tss_base.specs.declared.marks.Farewell.TheVariants as farewell
 use Rattle.tss_maps.proofs.Keys.{nat_order, decide_key}
 use Rattle.tss_protocol.specs.Mail.{Source}
 use Rattle.tss_protocol.specs.State.{State, OperandState, Flying}
-use Rattle.tss_protocol.specs.Stations.{operand_at, with_operand, remaining_tasks, has_passed, operand_after_bye, parted_by, parted_in, after_bye}
+use Rattle.tss_protocol.specs.Stations.{operand_at, with_operand, remaining_tasks, has_passed, operand_after_bye}
+use Rattle.tss_protocol.specs.Stations.{parted_by, parted_in, after_bye}
 use Rattle.tss_protocol.specs.UnitMachine.{after_event, without, bye_message_taken}
-use Rattle.tss_phases.specs.Phase.{Leaving, LookUps, look_ups, record_phase, station_phase, phase_at, is_ahead, phase_of}
+use Rattle.tss_phases.specs.Phase.{Leaving, LookUps, look_ups, record_phase, station_phase, phase_at, is_ahead}
+use Rattle.tss_phases.specs.Phase.{phase_of}
 use Rattle.tss_phases.specs.Alone.{IsAlone}
 use Rattle.tss_phases.specs.Leaving.{phase_parted}
 use Rattle.tss_phases.proofs.Received.{own_name, other_name, missing, missing_other, look_ups-without}
@@ -34,13 +36,13 @@ module _ (m : Machine) (S : State) (o : OpName) (promised : Bool) (r : OperandSt
   parted_task = with_operand (task_of_record S.flight o r kept).0 o.place (operand_after_bye r promised)
 
   -- the tasks in flight after a bye
-  pub parted : after_bye S.flight o promised ≡ remaining_tasks S.flight o.task parted_task
+  parted : after_bye S.flight o promised ≡ remaining_tasks S.flight o.task parted_task
   parted =
       let t = task_of_record S.flight o r kept in
       ap (parted_in S.flight o promised) t.1 ∙ ap (parted_by S.flight o promised t.0) t.2
 
   -- what is looked up after a bye
-  pub look_ups-bye : (q : OpName) → look_ups (after_event m S (event.Bye o)) q
+  look_ups-bye : (q : OpName) → look_ups (after_event m S (event.Bye o)) q
       ≡ record (missing (event.Bye o) q (look_ups S q)) {
         station = operand_at (remaining_tasks S.flight o.task parted_task) q;
       }

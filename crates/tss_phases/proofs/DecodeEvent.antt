@@ -13,7 +13,8 @@ use Rattle.tss_protocol.specs.State.{State, Entry}
 use Rattle.tss_protocol.specs.Renaming.{after_decode, decode_message, live_message, follows_latest, sent_by_decode}
 use Rattle.tss_protocol.specs.UnitMachine.{after_event, without, tables_of, with_tables, decode_message_taken}
 use Rattle.tss_phases.specs.Phase.{Decoding, Sent, LookUps, look_ups, phase_at, phase_of}
-use Rattle.tss_phases.proofs.Received.{own_name, other_name, received, receiver, received_all, received_other, look_ups-sent, missing, missing_other, look_ups-without}
+use Rattle.tss_phases.proofs.Received.{own_name, other_name, received, receiver, received_all, received_other}
+use Rattle.tss_phases.proofs.Received.{look_ups-sent, missing, missing_other, look_ups-without}
 use Rattle.tss_phases.proofs.PhaseLemmas.{phase_decoding, phase_opening, phase_using}
 
 for_itself : (o : OpName) (operand : Operand) (e : Entry) (mode : Mode)
@@ -23,7 +24,7 @@ for_itself o operand e Output = refl
 for_itself o operand e Inout = refl
 
 -- the message of a decode is for its operand
-pub receiver-decode : (o : OpName) (operand : Operand) (entry : Option Entry)
+receiver-decode : (o : OpName) (operand : Operand) (entry : Option Entry)
     → receiver (decode_message o operand entry) ≡ o
 receiver-decode o operand None = refl
 receiver-decode o operand (Some e) = for_itself o operand e operand.mode
@@ -49,7 +50,7 @@ sent_then o operand (Some e) l d = sent_live o operand e operand.mode l d
 
 module _ (m : Machine) (S : State) (o : OpName) (operand : Operand) (there : get S.mail.decodes o ≡ Some operand) where
   -- what is looked up after a decode
-  pub look_ups-decode : (q : OpName) → look_ups (after_event m S (event.Decode o)) q
+  look_ups-decode : (q : OpName) → look_ups (after_event m S (event.Decode o)) q
       ≡ received_all (sent_by_decode o operand (get S.entries operand.object.base)) q
       (missing (event.Decode o) q (look_ups S q))
   unfolding after_event

@@ -1,5 +1,6 @@
 -- What a finish does to phases: all operands of its task go from ready to releasing.
-use Rattle.std.proofs.Common.{◌≡◌, ◌≢◌, ℕ, zero, suc, ◌+◌, ◌<◌, cond, List, [], ◌∷◌, ◌++◌, Option, Some, None, refl, sym, ap, ◌∙◌, inl, inr, ◌⊎◌, arith}
+use Rattle.std.proofs.Common.{◌≡◌, ◌≢◌, ℕ, zero, suc, ◌+◌, ◌<◌, cond, List, [], ◌∷◌, ◌++◌, Option, Some, None, refl}
+use Rattle.std.proofs.Common.{sym, ap, ◌∙◌, inl, inr, ◌⊎◌, arith}
 use Rattle.std.specs.Prelude.{slice_get}
 use Rattle.std.specs.FinMap.{get, remove}
 use Rattle.std.proofs.lemmas.Option.{none-some, same_Some}
@@ -12,7 +13,8 @@ use Rattle.tss_model.specs.Access.{writes}
 use Rattle.tss_protocol.specs.Names.{operand_name, same_name}
 use Rattle.tss_protocol.specs.Mail.{Source, ReleaseContents, Message, Release}
 use Rattle.tss_protocol.specs.State.{State, OperandState, Flying, Busy, Outcome}
-use Rattle.tss_protocol.specs.Stations.{operand_at, remaining_tasks, release_of, releases_from, finished_in, flight_after_finish}
+use Rattle.tss_protocol.specs.Stations.{operand_at, remaining_tasks, release_of, releases_from, finished_in}
+use Rattle.tss_protocol.specs.Stations.{flight_after_finish}
 use Rattle.tss_protocol.specs.Workers.{trap_after_finish}
 use Rattle.tss_protocol.specs.UnitMachine.{after_event, after_finish}
 use Rattle.tss_phases.specs.Phase.{Ready, Releasing, LookUps, look_ups, phase_at, phase_of}
@@ -65,7 +67,7 @@ releases_other task place (r ∷ rs) q l before =
     ∙ releases_other task (suc place) rs q l (before_next q task place before)
 
 -- an operand has its release after them
-abbrev pub HasRelease : LookUps → LookUps → Type 0
+abbrev HasRelease : LookUps → LookUps → Type 0
 HasRelease l k = (c : ReleaseContents) × (k ≡ record l { releasing = Some c })
 
 own_release : (task place : ℕ) (r : OperandState) (s : Option Source) (source : Source) (rs : List OperandState)
@@ -120,7 +122,7 @@ module _ (m : Machine) (S : State) (w : ℕ) (b : Busy) (x : Flying) (busy : get
   finished_task = record x { stage = stage.Finished }
 
   -- the tasks in flight after a finish, and what it sends
-  pub finished : flight_after_finish S.flight b.task.number ≡ record {
+  finished : flight_after_finish S.flight b.task.number ≡ record {
     part = remaining_tasks S.flight b.task.number finished_task;
     sent = releases_from b.task.number 0 x.operands;
   }

@@ -16,32 +16,40 @@ use Rattle.tss_protocol.specs.State.{State, OperandState, Flying, Busy, Version}
 use Rattle.tss_protocol.specs.Stations.{new_operand, has_passed, sent_by_ready, sent_by_link}
 use Rattle.tss_protocol.specs.Versions.{after_open, after_use, after_nack}
 use Rattle.tss_protocol.specs.Workers.{can_finish}
-use Rattle.tss_protocol.specs.UnitMachine.{is_enabled, IsEnabled, after_event, after_take, can_decode_message, can_open_message, can_use_message}
+use Rattle.tss_protocol.specs.UnitMachine.{is_enabled, IsEnabled, after_event, after_take, can_decode_message}
+use Rattle.tss_protocol.specs.UnitMachine.{can_open_message, can_use_message}
 use Rattle.std.specs.Prelude.{is_some}
-use Rattle.tss_phases.specs.Phase.{Ahead, Decoding, Sent, Waiting, Told, Ready, Releasing, Leaving, Left, look_ups, phase_at, phase_of}
+use Rattle.tss_phases.specs.Phase.{Ahead, Decoding, Sent, Waiting, Told, Ready, Releasing, Leaving, Left, look_ups}
+use Rattle.tss_phases.specs.Phase.{phase_at, phase_of}
 use Rattle.tss_phases.specs.Told.{tells, phase_told, WaitsIfTold}
 use Rattle.tss_phases.specs.Leaving.{phase_linked, phase_parted}
 use Rattle.tss_phases.specs.Forward.{may_follow}
-use Rattle.tss_phases.specs.Orderly.{AreOrderly, KeepsOrder, TakesSpawned, OpensForWaiting, ReadiesWaiting, LinksWaiting, FinishesReady, ReleasesRegistered, TellWaiting, TellOthersWaiting}
-use Rattle.tss_phases.proofs.QuietEvents.{phase_of-ack, phase_of-exec, phase_of-idle, phase_of-retire, phase_of-copy, phase_of-gone}
+use Rattle.tss_phases.specs.Orderly.{AreOrderly, KeepsOrder, TakesSpawned, OpensForWaiting, ReadiesWaiting}
+use Rattle.tss_phases.specs.Orderly.{LinksWaiting, FinishesReady, ReleasesRegistered, TellWaiting, TellOthersWaiting}
+use Rattle.tss_phases.proofs.QuietEvents.{phase_of-ack, phase_of-exec, phase_of-idle, phase_of-retire, phase_of-copy}
+use Rattle.tss_phases.proofs.QuietEvents.{phase_of-gone}
 use Rattle.tss_phases.proofs.MainEvent.{phase_of-main}
 use Rattle.tss_phases.proofs.StartEvent.{phase_of-start}
 use Rattle.tss_phases.proofs.PhaseLemmas.{phase_opening, phase_using}
-use Rattle.tss_phases.proofs.TakeEvent.{decodes_beyond, look_ups-take, inbox_is_ahead, phase_of-take, phase_of-take-other}
+use Rattle.tss_phases.proofs.TakeEvent.{decodes_beyond, look_ups-take, inbox_is_ahead, phase_of-take}
+use Rattle.tss_phases.proofs.TakeEvent.{phase_of-take-other}
 use Rattle.tss_phases.proofs.DecodeEvent.{decoding_before, phase_of-decode, phase_of-decode-other}
 use Rattle.tss_phases.proofs.OpenEvent.{phase_of-open, phase_of-open-other}
 use Rattle.tss_phases.proofs.UseEvent.{phase_of-use, phase_of-use-other}
 use Rattle.tss_phases.proofs.ReadyEvent.{told_before, phase_of-ready, phase_of-ready-other}
 use Rattle.tss_phases.proofs.LinkEvent.{phase_of-link, phase_of-link-other}
 use Rattle.tss_phases.proofs.FinishEvent.{phase_of-finish, look_ups-finish-beyond, phase_of-finish-other}
-use Rattle.tss_phases.proofs.ReleaseEvent.{sent_by_release, release_sends_here, releasing_before, phase_of-release, phase_of-release-other}
+use Rattle.tss_phases.proofs.ReleaseEvent.{sent_by_release, release_sends_here, releasing_before, phase_of-release}
+use Rattle.tss_phases.proofs.ReleaseEvent.{phase_of-release-other}
 use Rattle.tss_phases.proofs.ByeEvent.{leaving_before, phase_of-bye, phase_of-bye-other}
 use Rattle.tss_phases.proofs.NackEvent.{phase_of-nack}
 use Rattle.tss_phases.proofs.Records.{operand_in}
-use Rattle.tss_phases.proofs.OrderlyLemmas.{opening_stands, using_stands, telling_stands, leaving_stands, ahead_by_test, taken_by_record, left_by_absence, at_and_beside}
+use Rattle.tss_phases.proofs.OrderlyLemmas.{opening_stands, using_stands, telling_stands, leaving_stands, ahead_by_test}
+use Rattle.tss_phases.proofs.OrderlyLemmas.{taken_by_record, left_by_absence, at_and_beside}
 use Rattle.tss_phases.proofs.OrderlyDecode.{taken_look_ups, new_record, not_ahead, orderly-take}
 use Rattle.tss_phases.proofs.Tests.{something}
-use Rattle.tss_phases.proofs.ForwardPhases.{GoesOnFrom, stay, linked, parted, from_sent, stays_same, goes_between, goes_told}
+use Rattle.tss_phases.proofs.ForwardPhases.{GoesOnFrom, stay, linked, parted, from_sent, stays_same, goes_between}
+use Rattle.tss_phases.proofs.ForwardPhases.{goes_told}
 
 module _ (m : Machine) (S : State) (orderly : AreOrderly S) where
   forward_taken : (t : Task) → S.inbox ≡ Some t → TakesSpawned S → (q : OpName)
@@ -71,7 +79,7 @@ module _ (m : Machine) (S : State) (orderly : AreOrderly S) where
           ((λ i. (taken i).ahead) ∙ not_ahead m S orderly t inbox (spawned t inbox) q same)) refl
 
   -- take
-  pub forward-take : TakesSpawned S → (q : OpName) → GoesOnFrom S (after_event m S event.Take) q
+  forward-take : TakesSpawned S → (q : OpName) → GoesOnFrom S (after_event m S event.Take) q
   unfolding after_event
   forward-take spawned q = by S.inbox refl
     where
@@ -80,7 +88,7 @@ module _ (m : Machine) (S : State) (orderly : AreOrderly S) where
       by (Some t) e = forward_taken t e spawned q
 
   -- decode
-  pub forward-decode : (o : OpName) (operand : Operand) → get S.mail.decodes o ≡ Some operand → (q : OpName)
+  forward-decode : (o : OpName) (operand : Operand) → get S.mail.decodes o ≡ Some operand → (q : OpName)
       → GoesOnFrom S (after_event m S (event.Decode o)) q
   forward-decode o operand there =
       let T = after_event m S (event.Decode o) in
@@ -90,7 +98,7 @@ module _ (m : Machine) (S : State) (orderly : AreOrderly S) where
       (λ q apart. stays_same S T q (phase_of-decode-other m S o operand there q apart))
 
   -- open
-  pub forward-open : (o : OpName) (c : OpenContents) → get S.mail.opens o ≡ Some c
+  forward-open : (o : OpName) (c : OpenContents) → get S.mail.opens o ≡ Some c
       → TellOthersWaiting S o (after_open S.versions o c).sent → (q : OpName)
       → GoesOnFrom S (after_event m S (event.Open o)) q
   forward-open o c there waits =
@@ -105,7 +113,7 @@ module _ (m : Machine) (S : State) (orderly : AreOrderly S) where
       (phase_of-open-other m S o c there q apart (waits q apart)))
 
   -- use
-  pub forward-use : (o v : OpName) → get S.mail.uses o ≡ Some v → (q : OpName)
+  forward-use : (o v : OpName) → get S.mail.uses o ≡ Some v → (q : OpName)
       → GoesOnFrom S (after_event m S (event.Use o)) q
   forward-use o v there =
       let T = after_event m S (event.Use o) in
@@ -118,7 +126,7 @@ module _ (m : Machine) (S : State) (orderly : AreOrderly S) where
       (λ q apart. stays_same S T q (phase_of-use-other m S o v there q apart))
 
   -- ready
-  pub forward-ready : (o : OpName) (s : Source) → get S.mail.readies o ≡ Some s → ReadiesWaiting S o → (q : OpName)
+  forward-ready : (o : OpName) (s : Source) → get S.mail.readies o ≡ Some s → ReadiesWaiting S o → (q : OpName)
       → GoesOnFrom S (after_event m S (event.Ready o)) q
   forward-ready o s there needs =
       let T = after_event m S (event.Ready o) in
@@ -133,7 +141,7 @@ module _ (m : Machine) (S : State) (orderly : AreOrderly S) where
       (phase_of-ready-other m S o s r there h.there q apart (waits q)))
 
   -- link
-  pub forward-link : (o next : OpName) → get S.mail.links o ≡ Some next → LinksWaiting S o → (q : OpName)
+  forward-link : (o next : OpName) → get S.mail.links o ≡ Some next → LinksWaiting S o → (q : OpName)
       → GoesOnFrom S (after_event m S (event.Link o)) q
   forward-link o next there needs =
       let T = after_event m S (event.Link o) in
@@ -150,7 +158,7 @@ module _ (m : Machine) (S : State) (orderly : AreOrderly S) where
       (phase_of-link-other m S o next r there kept taken q apart (waits q)))
 
   -- finish
-  pub forward-finish : (w : ℕ) (b : Busy) → get S.workers w ≡ Some b → FinishesReady S w → (q : OpName)
+  forward-finish : (w : ℕ) (b : Busy) → get S.workers w ≡ Some b → FinishesReady S w → (q : OpName)
       → GoesOnFrom S (after_event m S (event.Finish w)) q
   forward-finish w b busy needs q = elim (decide_key nat_order q.task b.task.number) [
     | inl same ↦ own same (slice_get x.operands q.place) refl
@@ -173,7 +181,7 @@ module _ (m : Machine) (S : State) (orderly : AreOrderly S) where
           goes_between S T q Ready Releasing ready (phase_of-finish m S w b x busy flying q same ready) refl
 
   -- release
-  pub forward-release : (o : OpName) (r : ReleaseContents) → get S.mail.releases o ≡ Some r → ReleasesRegistered S o
+  forward-release : (o : OpName) (r : ReleaseContents) → get S.mail.releases o ≡ Some r → ReleasesRegistered S o
       → (q : OpName) → GoesOnFrom S (after_event m S (event.Release o)) q
   forward-release o r there needs =
       at_and_beside (GoesOnFrom S T) o
@@ -198,7 +206,7 @@ module _ (m : Machine) (S : State) (orderly : AreOrderly S) where
       waits q t = (needs r there).1 q (ap (λ ms. tells ms q) (release_sends_here m S o r x there version) ∙ t)
 
   -- bye
-  pub forward-bye : (o : OpName) (promised : Bool) → get S.mail.byes o ≡ Some promised → (q : OpName)
+  forward-bye : (o : OpName) (promised : Bool) → get S.mail.byes o ≡ Some promised → (q : OpName)
       → GoesOnFrom S (after_event m S (event.Bye o)) q
   forward-bye o promised there =
       let T = after_event m S (event.Bye o) in
@@ -212,7 +220,7 @@ module _ (m : Machine) (S : State) (orderly : AreOrderly S) where
       (λ q apart. stays_same S T q (phase_of-bye-other m S o promised r there h.there stands.1.1 q apart))
 
   -- nack
-  pub forward-nack : (v : OpName) → TellWaiting S (after_nack S.versions v).sent → (q : OpName)
+  forward-nack : (v : OpName) → TellWaiting S (after_nack S.versions v).sent → (q : OpName)
       → GoesOnFrom S (after_event m S (event.Nack v)) q
   forward-nack v waits q =
       goes_told S (after_event m S (event.Nack v)) q (tells (after_nack S.versions v).sent q) (waits q)

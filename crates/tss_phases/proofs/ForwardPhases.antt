@@ -2,7 +2,8 @@
 use Rattle.std.proofs.Common.{◌≡◌, Bool, true, false, refl, ap, ◌∙◌}
 use Rattle.tss_base.specs.declared.operand.OpName.{OpName}
 use Rattle.tss_protocol.specs.State.{State}
-use Rattle.tss_phases.specs.Phase.{Phase, Ahead, Decoding, Sent, Waiting, Told, Ready, Releasing, Leaving, Promised, Left, phase_of}
+use Rattle.tss_phases.specs.Phase.{Phase, Ahead, Decoding, Sent, Waiting, Told, Ready, Releasing, Leaving, Promised}
+use Rattle.tss_phases.specs.Phase.{Left, phase_of}
 use Rattle.tss_phases.specs.Told.{phase_told}
 use Rattle.tss_phases.specs.Leaving.{phase_linked, phase_parted}
 use Rattle.tss_phases.specs.Forward.{may_follow}

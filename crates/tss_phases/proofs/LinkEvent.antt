@@ -14,9 +14,11 @@ use Rattle.tss_maps.proofs.Keys.{nat_order, decide_key}
 use Rattle.tss_protocol.specs.Names.{same_name}
 use Rattle.tss_protocol.specs.Mail.{Source}
 use Rattle.tss_protocol.specs.State.{State, OperandState, Flying, Outcome}
-use Rattle.tss_protocol.specs.Stations.{operand_at, with_operand, remaining_tasks, farewell_after_link, operand_after_link, sent_by_link, linked_by, linked_in, after_link}
+use Rattle.tss_protocol.specs.Stations.{operand_at, with_operand, remaining_tasks, farewell_after_link}
+use Rattle.tss_protocol.specs.Stations.{operand_after_link, sent_by_link, linked_by, linked_in, after_link}
 use Rattle.tss_protocol.specs.UnitMachine.{after_event, without, link_message_taken}
-use Rattle.tss_phases.specs.Phase.{Phase, Decoding, Sent, Told, Releasing, Leaving, LookUps, look_ups, where_there, told_phase, record_phase, station_phase, phase_at, is_ahead, phase_of}
+use Rattle.tss_phases.specs.Phase.{Phase, Decoding, Sent, Told, Releasing, Leaving, LookUps, look_ups, where_there}
+use Rattle.tss_phases.specs.Phase.{told_phase, record_phase, station_phase, phase_at, is_ahead, phase_of}
 use Rattle.tss_phases.specs.Told.{tells, phase_told, WaitsIfTold}
 use Rattle.tss_phases.specs.Leaving.{phase_linked}
 use Rattle.tss_phases.proofs.Received.{own_name, received_all, look_ups-sent}

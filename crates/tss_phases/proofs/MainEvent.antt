@@ -1,5 +1,6 @@
 -- An event of main changes no phase: a task that it spawns was ahead, and still is in the inbox.
-use Rattle.std.proofs.Common.{◌≡◌, ℕ, zero, suc, ◌+◌, Bool, true, false, List, Option, Some, None, Result, Ok, Err, refl, sym, ap, ◌∙◌, arith, nat_lt, nat_le}
+use Rattle.std.proofs.Common.{◌≡◌, ℕ, zero, suc, ◌+◌, Bool, true, false, List, Option, Some, None, Result, Ok, Err}
+use Rattle.std.proofs.Common.{refl, sym, ap, ◌∙◌, arith, nat_lt, nat_le}
 use Rattle.std.specs.Prelude.{◌==◌, ◌||◌, ◌&&◌, if◌then◌else◌, is_none, is_some, length}
 use Rattle.std.proofs.lemmas.Bool.Decides.{nat_tests}
 use Rattle.tss_base.specs.declared.range.Range.{Range}
@@ -13,12 +14,17 @@ use Rattle.tss_base.specs.Image.{SegmentState}
 use Rattle.tss_model.specs.Memory.{Memory, range_of, bytes_of}
 use Rattle.tss_model.specs.Registers.{trap_of}
 use Rattle.tss_base.specs.declared.causes.TheConstants.{LOAD_DENIED}
-use Rattle.tss_base.specs.declared.refusals.TheConstants.{TOO_MANY_OPERANDS, LIST_PLACE, MAIN_TOUCH, EPOCH_FULL, TOO_MANY_TASKS, OUTPUT_FULL, MAIN_BUDGET_SPENT}
+use Rattle.tss_base.specs.declared.refusals.TheConstants.{TOO_MANY_OPERANDS, LIST_PLACE, MAIN_TOUCH, EPOCH_FULL}
+use Rattle.tss_base.specs.declared.refusals.TheConstants.{TOO_MANY_TASKS, OUTPUT_FULL, MAIN_BUDGET_SPENT}
 use Rattle.tss_model.specs.Access.{touches}
 use Rattle.tss_model.specs.Core.{Stepped, Executed, Called, Ended, Trapped, Touched}
-use Rattle.tss_model.specs.Spawn.{SpawnCall, spawn_of, task_checked, task_of, merged_operands, name_objects, objects_of, entries_checked, entries_at, is_misplaced, list_range}
+use Rattle.tss_model.specs.Spawn.{SpawnCall, spawn_of, task_checked, task_of, merged_operands, name_objects, objects_of}
+use Rattle.tss_model.specs.Spawn.{entries_checked, entries_at, is_misplaced, list_range}
 use Rattle.tss_model.specs.TaskRun.{repeated}
-use Rattle.tss_model.specs.MainStep.{MainState, Flat, Call, ExitCall, Spawn, Barrier, Print, Await, Unknown, main_on, main_core, main_step, main_stretch, main_refused, main_trapped, has_spent, output_of, spawn_call, spawn_on, print_some, print_done, print_call, awaited_object, await_on, print_range, call_done}
+use Rattle.tss_model.specs.MainStep.{MainState, Flat, Call, ExitCall, Spawn, Barrier, Print, Await, Unknown, main_on}
+use Rattle.tss_model.specs.MainStep.{main_core, main_step, main_stretch, main_refused, main_trapped, has_spent}
+use Rattle.tss_model.specs.MainStep.{output_of, spawn_call, spawn_on, print_some, print_done, print_call}
+use Rattle.tss_model.specs.MainStep.{awaited_object, await_on, print_range, call_done}
 use Rattle.tss_protocol.specs.State.{State}
 use Rattle.tss_protocol.specs.MainEvent.{flat_of, call_next, may_call, after_call, main_by}
 use Rattle.tss_protocol.specs.UnitMachine.{is_enabled, IsEnabled, after_event}
@@ -35,7 +41,7 @@ stepped f (Trapped t) = refl
 stepped f Touched = refl
 
 -- one step
-pub spawned-main_step : (code : List SegmentState) (limits : Limits) (f : Flat)
+spawned-main_step : (code : List SegmentState) (limits : Limits) (f : Flat)
     → (main_step code limits f).main.spawned ≡ f.main.spawned
 unfolding main_step
 spawned-main_step code limits f = by (is_some f.main.ending) (has_spent limits f.main)
@@ -110,7 +116,7 @@ checked_number limits call named spawned (Ok listed) t e =
     by false false e = ap (λ (t : Task). t.number) (sym (accepted _ t e))
 
 -- the number of a task that is spawned
-pub spawn_number : (call : SpawnCall) (m : Memory) (named : List Range) (limits : Limits) (spawned : ℕ) (t : Task)
+spawn_number : (call : SpawnCall) (m : Memory) (named : List Range) (limits : Limits) (spawned : ℕ) (t : Task)
     → spawn_of call m named limits spawned ≡ Ok t → t.number ≡ suc spawned
 unfolding spawn_of
 spawn_number call m named limits spawned t e =

@@ -13,7 +13,7 @@ use Rattle.tss_phases.specs.Told.{tells, phase_told, WaitsIfTold}
 use Rattle.tss_phases.specs.Settling.{SettleTells}
 use Rattle.tss_phases.proofs.Received.{received_all, look_ups-sent}
 use Rattle.tss_phases.proofs.News.{AreNews}
-use Rattle.tss_phases.proofs.SettlingLemmas.{news_settle, settle_tells, settle_tells_successor}
+use Rattle.tss_phases.proofs.SettlingLemmas.{news_settle, settle_tells}
 use Rattle.tss_phases.proofs.ToldPhases.{phase_news}
 
 module _ (vs : Named Version) (v : OpName) where
@@ -40,14 +40,6 @@ module _ (vs : Named Version) (v : OpName) where
       → (x : Version) × (get vs v ≡ Some x)
       × SettleTells (suc (len (put_version vs v (refused_once x)))) (put_version vs v (refused_once x)) v q
   nack_tells q e = at_tells (get vs v) q refl e
-
-  -- and that one it tells
-  pub nack_tells_settled : (x : Version) (q : OpName) → get vs v ≡ Some x
-      → SettleTells (suc (len (put_version vs v (refused_once x)))) (put_version vs v (refused_once x)) v q
-      → tells (after_nack vs v).sent q ≡ true
-  nack_tells_settled x q there h =
-      let us = put_version vs v (refused_once x) in
-      ap (λ x. tells (nacked_at vs v x).sent q) there ∙ settle_tells_successor (suc (len us)) us v q h
 
 module _ (m : Machine) (S : State) (v : OpName) where
   -- what is looked up after a nack

@@ -3,14 +3,15 @@
 use Rattle.std.proofs.Common.{◌≡◌, Bool, true, false, cond, List, [], ◌∷◌, ◌++◌, Some, refl, ap, ◌∙◌}
 use Rattle.std.specs.Prelude.{◌||◌}
 use Rattle.tss_base.specs.declared.operand.OpName.{OpName}
-use Rattle.tss_protocol.specs.Mail.{Source, Message, Decode, Ack, Open, Use, Ready, Link, Release, Bye, Idle, Nack, Retire, Gone}
+use Rattle.tss_protocol.specs.Mail.{Source, Message, Decode, Ack, Open, Use, Ready, Link, Release, Bye, Idle, Nack}
+use Rattle.tss_protocol.specs.Mail.{Retire, Gone}
 use Rattle.tss_phases.specs.Phase.{LookUps}
 use Rattle.tss_phases.specs.Told.{is_ready_for, tells}
 use Rattle.tss_phases.proofs.Received.{received, received_all}
 use Rattle.tss_phases.proofs.Tests.{neither}
 
 -- a message is no decode, open, use, release or bye
-abbrev pub IsNews : Message → Type 0
+abbrev IsNews : Message → Type 0
 IsNews (Decode o operand) = ⊥
 IsNews (Ack o) = Unit {0}
 IsNews (Open o opening) = ⊥
@@ -50,7 +51,7 @@ untold_one (Retire v) q l n e = refl
 untold_one (Gone v going) q l n e = refl
 
 -- what an operand is told last
-abbrev pub HasNews : LookUps → LookUps → Type 0
+abbrev HasNews : LookUps → LookUps → Type 0
 HasNews l k = (s : Source) × (k ≡ record l { telling = Some s })
 
 told_one : (m : Message) (q : OpName) (l : LookUps) → is_ready_for m q ≡ true → HasNews l (received m q l)

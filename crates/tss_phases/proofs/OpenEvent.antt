@@ -17,18 +17,20 @@ use Rattle.tss_phases.specs.Phase.{Waiting, LookUps, look_ups, phase_at, phase_o
 use Rattle.tss_phases.specs.Alone.{IsAlone, IsFresh}
 use Rattle.tss_phases.specs.Told.{tells, phase_told, WaitsIfTold}
 use Rattle.tss_phases.specs.Settling.{SettleTells}
-use Rattle.tss_phases.proofs.Received.{own_name, other_name, received_all, look_ups-sent, missing, missing_other, look_ups-without}
+use Rattle.tss_phases.proofs.Received.{own_name, other_name, received_all, look_ups-sent, missing, missing_other}
+use Rattle.tss_phases.proofs.Received.{look_ups-without}
 use Rattle.tss_phases.proofs.News.{AreNews, news_both}
 use Rattle.tss_phases.proofs.PhaseLemmas.{phase_silent, station_told}
 use Rattle.tss_phases.proofs.AloneLemmas.{silent_but_opening}
-use Rattle.tss_phases.proofs.SettlingLemmas.{news_ready_with, ready_with_tells, news_settle, settle_tells, settle_tells_successor, ready_with_told}
-use Rattle.tss_phases.proofs.ToldPhases.{phase_news, either_tells, first_tells, second_tells}
+use Rattle.tss_phases.proofs.SettlingLemmas.{news_ready_with, ready_with_tells, news_settle, settle_tells}
+use Rattle.tss_phases.proofs.SettlingLemmas.{ready_with_told}
+use Rattle.tss_phases.proofs.ToldPhases.{phase_news, either_tells}
 
 -- ---- what an open sends
 
 -- whom an open tells: its own operand with the storage that its version has, or whom the settle of the followed version
 -- tells
-abbrev pub OpenTells : Named Version → OpName → OpenContents → OpName → Type 0
+abbrev OpenTells : Named Version → OpName → OpenContents → OpName → Type 0
 OpenTells vs o opening q =
     ((q ≡ o) × ((t : StorageName) × (opening.storage ≡ Some t)))
     ⊎ ((f : Follow) × (opening.follows ≡ Some f)
@@ -77,37 +79,12 @@ module _ (vs : Named Version) (o : OpName) (opening : OpenContents) where
   first_open_tells t none e =
       ap (λ f. tells (opened_by vs o opening f).sent o) none ∙ ready_with_told o o opening.storage t e
 
-  -- where it follows another one beside it, too
-  pub beside_open_tells : (f : Follow) (t : StorageName) → opening.follows ≡ Some f → f.how ≡ Beside
-      → opening.storage ≡ Some t → tells (after_open vs o opening).sent o ≡ true
-  beside_open_tells f t to way e =
-      ap (λ f. tells (opened_by vs o opening f).sent o) to
-      ∙ ap (λ h. tells (opened_how vs o opening f h).sent o) way
-      ∙ first_tells (ready_with o o opening.storage) (settled (followed vs o opening f) f.version).sent o
-      (ready_with_told o o opening.storage t e)
-
-  -- whom the settle of the followed version tells, it tells
-  pub open_tells_settled : (f : Follow) (q : OpName) → opening.follows ≡ Some f
-      → SettleTells (suc (len (followed vs o opening f))) (followed vs o opening f) f.version q
-      → tells (after_open vs o opening).sent q ≡ true
-  open_tells_settled f q to h =
-      ap (λ f. tells (opened_by vs o opening f).sent q) to ∙ by f.how
-    where
-      us : Named Version
-      us = followed vs o opening f
-
-      by : (h : How) → tells (opened_how vs o opening f h).sent q ≡ true
-      by Over = settle_tells_successor (suc (len us)) us f.version q h
-      by Beside =
-          second_tells (ready_with o o opening.storage) (settled us f.version).sent q
-          (settle_tells_successor (suc (len us)) us f.version q h)
-
 -- ---- what it does to phases
 
 module _ (m : Machine) (S : State) (o : OpName) (opening : OpenContents)
     (there : get S.mail.opens o ≡ Some opening) where
   -- what is looked up after an open
-  pub look_ups-open : (q : OpName) → look_ups (after_event m S (event.Open o)) q
+  look_ups-open : (q : OpName) → look_ups (after_event m S (event.Open o)) q
       ≡ received_all (after_open S.versions o opening).sent q (missing (event.Open o) q (look_ups S q))
   unfolding after_event
   look_ups-open q =

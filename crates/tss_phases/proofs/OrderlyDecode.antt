@@ -1,5 +1,6 @@
 -- Operands stay in order where a task is taken, and where an operand is decoded.
-use Rattle.std.proofs.Common.{◌≡◌, ℕ, ◌≤◌, false, cond, Option, Some, None, refl, sym, ap, ◌∙◌, subst, inl, inr, arith, nat_lt}
+use Rattle.std.proofs.Common.{◌≡◌, ℕ, ◌≤◌, false, cond, Option, Some, None, refl, sym, ap, ◌∙◌, subst, inl, inr, arith}
+use Rattle.std.proofs.Common.{nat_lt}
 use Rattle.std.specs.Prelude.{◌||◌, slice_get, option_map}
 use Rattle.std.specs.FinMap.{get}
 use Rattle.std.proofs.lemmas.Bool.Decides.{nat_tests}
@@ -27,7 +28,8 @@ use Rattle.tss_phases.proofs.Shown.{ahead_shows}
 use Rattle.tss_phases.proofs.Records.{record_put}
 use Rattle.tss_phases.proofs.TakeEvent.{decodes_own, decodes_beyond, look_ups-take, look_ups-take-other, inbox_is_ahead}
 use Rattle.tss_phases.proofs.DecodeEvent.{look_ups-decode-own, look_ups-decode-other}
-use Rattle.tss_phases.proofs.OrderlyLemmas.{orderly_decoding, orderly_opening, orderly_using, orderly_absent, decoding_stands, same_untold, ahead_by_test, at_and_beside}
+use Rattle.tss_phases.proofs.OrderlyLemmas.{orderly_decoding, orderly_opening, orderly_using, orderly_absent}
+use Rattle.tss_phases.proofs.OrderlyLemmas.{decoding_stands, same_untold, ahead_by_test, at_and_beside}
 
 -- ---- take
 

@@ -11,12 +11,15 @@ use Rattle.tss_base.specs.Image.{ImageState}
 use Rattle.tss_base.specs.Names.{name_cmp}
 use Rattle.tss_protocol.specs.State.{State, initial_state}
 use Rattle.tss_protocol.specs.Workers.{can_finish}
-use Rattle.tss_protocol.specs.UnitMachine.{is_enabled, IsEnabled, after_event, can_decode_message, can_open_message, can_use_message}
+use Rattle.tss_protocol.specs.UnitMachine.{is_enabled, IsEnabled, after_event, can_decode_message, can_open_message}
+use Rattle.tss_protocol.specs.UnitMachine.{can_use_message}
 use Rattle.tss_phases.specs.Phase.{LookUps, look_ups}
 use Rattle.tss_phases.specs.Alone.{IsSilent}
-use Rattle.tss_phases.specs.Orderly.{IsOrderly, AreOrderly, KeepsOrder, OpensForWaiting, ReadiesWaiting, LinksWaiting, FinishesReady, ReleasesRegistered}
+use Rattle.tss_phases.specs.Orderly.{IsOrderly, AreOrderly, KeepsOrder, OpensForWaiting, ReadiesWaiting, LinksWaiting}
+use Rattle.tss_phases.specs.Orderly.{FinishesReady, ReleasesRegistered}
 use Rattle.tss_phases.proofs.Records.{record_in}
-use Rattle.tss_phases.proofs.QuietEvents.{look_ups-ack, look_ups-exec, look_ups-idle, look_ups-retire, look_ups-copy, look_ups-gone}
+use Rattle.tss_phases.proofs.QuietEvents.{look_ups-ack, look_ups-exec, look_ups-idle, look_ups-retire, look_ups-copy}
+use Rattle.tss_phases.proofs.QuietEvents.{look_ups-gone}
 use Rattle.tss_phases.proofs.MainEvent.{look_ups-main}
 use Rattle.tss_phases.proofs.StartEvent.{look_ups-start}
 use Rattle.tss_phases.proofs.OrderlyLemmas.{orderly_absent, orderly_ahead}
@@ -29,7 +32,7 @@ use Rattle.tss_phases.proofs.Tests.{something}
 -- ---- at first
 
 -- no message is under way
-pub silent_at_first : (i : ImageState) (q : OpName) → IsSilent (look_ups (initial_state i) q)
+silent_at_first : (i : ImageState) (q : OpName) → IsSilent (look_ups (initial_state i) q)
 silent_at_first i q = record {
   decoding = get-empty name_cmp q;
   opening = get-empty name_cmp q;

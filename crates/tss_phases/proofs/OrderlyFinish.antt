@@ -22,11 +22,11 @@ use Rattle.tss_phases.proofs.OrderlyRecords.{orderly_remaining}
 module _ (m : Machine) (S : State) (b : Busy) (x : Flying) (flying : get S.flight b.task.number ≡ Some x)
     (orderly : AreOrderly S) (ready : AreReady S b.task.number) where
   -- the task that has finished
-  abbrev pub task_finished : Flying
+  abbrev task_finished : Flying
   task_finished = record x { stage = stage.Finished }
 
   -- the record of an operand after the finish
-  abbrev pub station_after : OpName → Option OperandState
+  abbrev station_after : OpName → Option OperandState
   station_after q = operand_at (remaining_tasks S.flight b.task.number task_finished) q
 
   record_before : (q : OpName) → q.task ≡ b.task.number → operand_at S.flight q ≡ slice_get x.operands q.place

@@ -1,5 +1,6 @@
 -- Look-ups that are in order, as messages, a record and the phase give them.
-use Rattle.std.proofs.Common.{◌≡◌, ◌≢◌, ◌≤◌, Bool, true, false, List, Option, Some, None, refl, sym, ap, ◌∙◌, subst, inl, inr}
+use Rattle.std.proofs.Common.{◌≡◌, ◌≢◌, ◌≤◌, Bool, true, false, List, Option, Some, None, refl, sym, ap, ◌∙◌, subst}
+use Rattle.std.proofs.Common.{inl, inr}
 use Rattle.tss_base.specs.declared.operand.OpName.{OpName}
 use Rattle.tss_base.specs.declared.operand.Operand.{Operand}
 use Rattle.tss_base.specs.declared.marks.Farewell.TheVariants as farewell
@@ -7,15 +8,19 @@ use Rattle.std.proofs.lemmas.Option.{none-some}
 use Rattle.tss_maps.proofs.Keys.{name_order, decide_key}
 use Rattle.tss_protocol.specs.Mail.{Source, OpenContents, ReleaseContents, Message}
 use Rattle.tss_protocol.specs.State.{OperandState}
-use Rattle.tss_phases.specs.Phase.{Phase, Ahead, Decoding, Sent, Waiting, Told, Ready, Releasing, Leaving, Promised, Left, LookUps, station_phase, record_phase, phase_at}
+use Rattle.tss_phases.specs.Phase.{Phase, Ahead, Decoding, Sent, Waiting, Told, Ready, Releasing, Leaving, Promised}
+use Rattle.tss_phases.specs.Phase.{Left, LookUps, station_phase, record_phase, phase_at}
 use Rattle.tss_phases.specs.Alone.{under_way, IsSilent, HasRecord}
 use Rattle.tss_phases.specs.Told.{tells}
 use Rattle.tss_phases.specs.Orderly.{IsUntold, IsInformed, FitsPhase, IsOrderly}
 use Rattle.tss_phases.proofs.Received.{received_all}
 use Rattle.tss_phases.proofs.News.{AreNews, untold, told}
-use Rattle.tss_phases.proofs.PhaseLemmas.{phase_silent, phase_decoding, phase_opening, phase_using, phase_telling, phase_releasing, phase_leaving, station_told}
+use Rattle.tss_phases.proofs.PhaseLemmas.{phase_silent, phase_decoding, phase_opening, phase_using, phase_telling}
+use Rattle.tss_phases.proofs.PhaseLemmas.{phase_releasing, phase_leaving, station_told}
 use Rattle.tss_phases.proofs.Shown.{waiting_shows}
-use Rattle.tss_phases.proofs.AloneLemmas.{silent_but_decoding, silent_but_opening, silent_but_using, silent_but_telling, silent_but_releasing, silent_but_leaving, alone_decoding, alone_opening, alone_using, alone_telling, alone_releasing, alone_leaving}
+use Rattle.tss_phases.proofs.AloneLemmas.{silent_but_decoding, silent_but_opening, silent_but_using, silent_but_telling}
+use Rattle.tss_phases.proofs.AloneLemmas.{silent_but_releasing, silent_but_leaving, alone_decoding, alone_opening}
+use Rattle.tss_phases.proofs.AloneLemmas.{alone_using, alone_telling, alone_releasing, alone_leaving}
 use Rattle.tss_phases.proofs.Tests.{not_both}
 
 -- ---- by the phase
@@ -25,11 +30,11 @@ pub fits_at : (l : LookUps) (p : Phase) → IsOrderly l → phase_at l ≡ p →
 fits_at l p o e = subst (λ p. FitsPhase p l) e o.fits
 
 -- and the other way round
-pub orderly_at : (l : LookUps) (p : Phase) → under_way l ≤ 1 → phase_at l ≡ p → FitsPhase p l → IsOrderly l
+orderly_at : (l : LookUps) (p : Phase) → under_way l ≤ 1 → phase_at l ≡ p → FitsPhase p l → IsOrderly l
 orderly_at l p alone e fits = record { alone = alone; fits = subst (λ p. FitsPhase p l) (sym e) fits }
 
 -- a record that stays is the same record
-pub same_record : (l k : LookUps) (s : Option Source) → k.station ≡ l.station → HasRecord l s → HasRecord k s
+same_record : (l k : LookUps) (s : Option Source) → k.station ≡ l.station → HasRecord l s → HasRecord k s
 same_record l k s e h = record { kept = h.kept; there = e ∙ h.there; told = h.told; stays = h.stays }
 
 -- ---- one message
@@ -50,7 +55,7 @@ pub orderly_using : (l : LookUps) (x : OpName) → IsSilent (record l { using = 
 orderly_using l x s e h = orderly_at l Sent (alone_using l s) (phase_using l x s.decoding e) h
 
 -- a ready
-pub orderly_telling : (l : LookUps) (x : Source) → IsSilent (record l { telling = None }) → l.telling ≡ Some x
+orderly_telling : (l : LookUps) (x : Source) → IsSilent (record l { telling = None }) → l.telling ≡ Some x
     → IsUntold l → IsOrderly l
 orderly_telling l x s e h =
     orderly_at l Told (alone_telling l s) (phase_telling l x s.decoding s.opening s.using e) h

@@ -10,7 +10,8 @@ use Rattle.tss_base.specs.Names.{Numbered}
 use Rattle.tss_protocol.specs.Mail.{Source}
 use Rattle.tss_protocol.specs.State.{OperandState, Flying}
 use Rattle.tss_protocol.specs.Stations.{operand_at, farewell_after_link, operand_after_link, is_gone, remaining_tasks}
-use Rattle.tss_phases.specs.Phase.{Phase, Ahead, Decoding, Sent, Waiting, Told, Ready, Releasing, Leaving, Promised, Left, LookUps, station_phase, phase_at}
+use Rattle.tss_phases.specs.Phase.{Phase, Ahead, Decoding, Sent, Waiting, Told, Ready, Releasing, Leaving, Promised}
+use Rattle.tss_phases.specs.Phase.{Left, LookUps, station_phase, phase_at}
 use Rattle.tss_phases.specs.Alone.{HasRecord}
 use Rattle.tss_phases.specs.Leaving.{phase_linked}
 use Rattle.tss_phases.specs.Orderly.{WasTold, FitsPhase, IsOrderly}
@@ -60,7 +61,7 @@ module _ (l : LookUps) (r : OperandState) (kept : l.station ≡ Some r) (left : 
   left_by_record o = by_phase (phase_at l) refl o.fits
 
   -- and stays in order where its record is gone
-  pub orderly_gone : IsOrderly l → IsOrderly (record l { station = None })
+  orderly_gone : IsOrderly l → IsOrderly (record l { station = None })
   orderly_gone o =
       let e = left_by_record o in
       let fits : FitsPhase Left l = subst (λ p. FitsPhase p l) e o.fits in
@@ -90,7 +91,7 @@ orderly_remaining flight task y q l same o = by (is_gone y) refl
 
 module _ (l : LookUps) (r : OperandState) (next : OpName) (kept : l.station ≡ Some r) where
   -- the look-ups with the linked record
-  abbrev pub with_link : LookUps
+  abbrev with_link : LookUps
   with_link = record l { station = Some (operand_after_link r next) }
 
   linked_record : (s : Option Source) → HasRecord l s → HasRecord with_link s

@@ -10,7 +10,8 @@ use Rattle.tss_base.specs.declared.marks.Farewell.TheVariants as farewell
 use Rattle.tss_maps.proofs.Keys.{nat_order, decide_key}
 use Rattle.tss_protocol.specs.Mail.{Source}
 use Rattle.tss_protocol.specs.State.{State, OperandState, Flying}
-use Rattle.tss_protocol.specs.Stations.{operand_at, has_passed, operand_after_ready, operand_after_bye, remaining_tasks, sent_by_ready, sent_by_link}
+use Rattle.tss_protocol.specs.Stations.{operand_at, has_passed, operand_after_ready, operand_after_bye, remaining_tasks}
+use Rattle.tss_protocol.specs.Stations.{sent_by_ready, sent_by_link}
 use Rattle.tss_protocol.specs.UnitMachine.{after_event}
 use Rattle.tss_phases.specs.Phase.{Told, LookUps, look_ups}
 use Rattle.tss_phases.specs.Alone.{IsSilent}
@@ -20,9 +21,12 @@ use Rattle.tss_phases.proofs.PhaseLemmas.{phase_telling, same_station, silent_st
 use Rattle.tss_phases.proofs.ToldPhases.{not_told}
 use Rattle.tss_phases.proofs.LeavingTasks.{remaining_beside}
 use Rattle.tss_phases.proofs.ReadyEvent.{news_ready, look_ups-ready-own, look_ups-ready-other}
-use Rattle.tss_phases.proofs.LinkEvent.{news_link, linked_task, look_ups-link, link_untold, linked_record, linked_record_other, link_station_other}
-use Rattle.tss_phases.proofs.ByeEvent.{parted_task, look_ups-bye-own, look_ups-bye-other, parted_record, parted_record_other}
-use Rattle.tss_phases.proofs.OrderlyLemmas.{orderly_ready, orderly_promised, orderly_left, orderly_news, telling_stands, leaving_stands, taken_by_record, at_and_beside}
+use Rattle.tss_phases.proofs.LinkEvent.{news_link, linked_task, look_ups-link, link_untold, linked_record}
+use Rattle.tss_phases.proofs.LinkEvent.{linked_record_other, link_station_other}
+use Rattle.tss_phases.proofs.ByeEvent.{parted_task, look_ups-bye-own, look_ups-bye-other, parted_record}
+use Rattle.tss_phases.proofs.ByeEvent.{parted_record_other}
+use Rattle.tss_phases.proofs.OrderlyLemmas.{orderly_ready, orderly_promised, orderly_left, orderly_news, telling_stands}
+use Rattle.tss_phases.proofs.OrderlyLemmas.{leaving_stands, taken_by_record, at_and_beside}
 use Rattle.tss_phases.proofs.OrderlyRecords.{orderly_remaining, orderly_linked}
 
 -- ---- ready
@@ -62,7 +66,7 @@ module _ (m : Machine) (S : State) (o next : OpName) (r : OperandState) (there :
     (kept : operand_at S.flight o ≡ Some r) (orderly : AreOrderly S)
     (waits : TellWaiting S (sent_by_link r.source next)) where
   -- the task with the linked operand
-  abbrev pub task_linked : Flying
+  abbrev task_linked : Flying
   task_linked = linked_task m S o next r there kept
 
   linked_own : IsOrderly (look_ups (after_event m S (event.Link o)) o)

@@ -17,9 +17,12 @@ use Rattle.tss_phases.proofs.PhaseLemmas.{phase_silent, phase_releasing, station
 use Rattle.tss_phases.proofs.ToldPhases.{not_told, bye_tells}
 use Rattle.tss_phases.proofs.OpenEvent.{news_open, look_ups-open-own, look_ups-open-other}
 use Rattle.tss_phases.proofs.UseEvent.{news_use, look_ups-use-own, look_ups-use-other}
-use Rattle.tss_phases.proofs.ReleaseEvent.{versions_released, heads_told, bye_promised, sent_by_release, news_heads, news_released, release_sends_here, look_ups-release-own, look_ups-release-other}
+use Rattle.tss_phases.proofs.ReleaseEvent.{versions_released, heads_told, bye_promised, sent_by_release, news_heads}
+use Rattle.tss_phases.proofs.ReleaseEvent.{news_released, release_sends_here, look_ups-release-own}
+use Rattle.tss_phases.proofs.ReleaseEvent.{look_ups-release-other}
 use Rattle.tss_phases.proofs.NackEvent.{news_nack, look_ups-nack}
-use Rattle.tss_phases.proofs.OrderlyLemmas.{orderly_waiting, orderly_leaving, orderly_news, opening_stands, using_stands, releasing_stands, same_untold, same_informed, at_and_beside}
+use Rattle.tss_phases.proofs.OrderlyLemmas.{orderly_waiting, orderly_leaving, orderly_news, opening_stands}
+use Rattle.tss_phases.proofs.OrderlyLemmas.{using_stands, releasing_stands, same_untold, same_informed, at_and_beside}
 
 waiting_phase : (l : LookUps) → IsSilent l → IsUntold l → phase_at l ≡ Waiting
 waiting_phase l s h = phase_silent l s ∙ station_told l None h.0

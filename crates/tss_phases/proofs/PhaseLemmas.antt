@@ -4,7 +4,8 @@ use Rattle.tss_base.specs.declared.operand.Operand.{Operand}
 use Rattle.tss_base.specs.declared.operand.OpName.{OpName}
 use Rattle.tss_protocol.specs.Mail.{Source, OpenContents, ReleaseContents}
 use Rattle.tss_protocol.specs.State.{OperandState}
-use Rattle.tss_phases.specs.Phase.{Decoding, Sent, Told, Releasing, Leaving, LookUps, where_there, told_phase, record_phase, station_phase, phase_at}
+use Rattle.tss_phases.specs.Phase.{Decoding, Sent, Told, Releasing, Leaving, LookUps, where_there, told_phase}
+use Rattle.tss_phases.specs.Phase.{record_phase, station_phase, phase_at}
 use Rattle.tss_phases.specs.Alone.{IsSilent, HasRecord}
 
 -- with no message under way the record tells the phase

@@ -7,10 +7,12 @@ use Rattle.tss_base.specs.declared.event.Event.TheVariants as event
 use Rattle.tss_protocol.specs.Mail.{StorageName, Home, Buffer, IdleContents, GoneContents}
 use Rattle.tss_protocol.specs.State.{State, Busy, Entry, Version, CopyState}
 use Rattle.tss_protocol.specs.Renaming.{idle_by, may_retire}
-use Rattle.tss_protocol.specs.Buffers.{copies_after_retire, sent_by_retire, sent_by_copy, home_after_copy, buffer_bytes, copies_after_copy, is_last_piece}
+use Rattle.tss_protocol.specs.Buffers.{copies_after_retire, sent_by_retire, sent_by_copy, home_after_copy, buffer_bytes}
+use Rattle.tss_protocol.specs.Buffers.{copies_after_copy, is_last_piece}
 use Rattle.tss_protocol.specs.Versions.{after_retire}
 use Rattle.tss_protocol.specs.Names.{bank_of}
-use Rattle.tss_protocol.specs.UnitMachine.{after_event, after_exec, with_entries, idle_message_taken, retire_version, after_copy, gone_message_taken, without, with_sent}
+use Rattle.tss_protocol.specs.UnitMachine.{after_event, after_exec, with_entries, idle_message_taken, retire_version}
+use Rattle.tss_protocol.specs.UnitMachine.{after_copy, gone_message_taken, without, with_sent}
 use Rattle.tss_phases.specs.Phase.{look_ups, phase_at, phase_of}
 
 module _ (m : Machine) (S : State) where

@@ -12,18 +12,21 @@ use Rattle.tss_maps.proofs.Keys.{nat_order, decide_key}
 use Rattle.tss_protocol.specs.Names.{same_name}
 use Rattle.tss_protocol.specs.Mail.{Source}
 use Rattle.tss_protocol.specs.State.{State, OperandState, Flying}
-use Rattle.tss_protocol.specs.Stations.{operand_at, operand_after_ready, task_after_ready, awaited, is_complete, sent_by_ready, Woken, woken_by, woken_in, after_ready}
+use Rattle.tss_protocol.specs.Stations.{operand_at, operand_after_ready, task_after_ready, awaited, is_complete}
+use Rattle.tss_protocol.specs.Stations.{sent_by_ready, Woken, woken_by, woken_in, after_ready}
 use Rattle.tss_protocol.specs.UnitMachine.{after_event, without, queue_with, ready_message_taken}
 use Rattle.tss_phases.specs.Phase.{Told, Ready, LookUps, look_ups, record_phase, phase_at, phase_of}
 use Rattle.tss_phases.specs.Alone.{IsAlone}
 use Rattle.tss_phases.specs.Told.{tells, phase_told, WaitsIfTold}
-use Rattle.tss_phases.proofs.Received.{own_name, other_name, received_all, look_ups-sent, missing, missing_other, look_ups-without}
+use Rattle.tss_phases.proofs.Received.{own_name, other_name, received_all, look_ups-sent, missing, missing_other}
+use Rattle.tss_phases.proofs.Received.{look_ups-without}
 use Rattle.tss_phases.proofs.News.{AreNews, untold}
 use Rattle.tss_phases.proofs.PhaseLemmas.{phase_silent, phase_telling, silent_station}
 use Rattle.tss_phases.proofs.AloneLemmas.{silent_but_telling}
 use Rattle.tss_phases.proofs.SettlingLemmas.{name_from_test}
 use Rattle.tss_phases.proofs.ToldPhases.{phase_news, not_told}
-use Rattle.tss_phases.proofs.Records.{operand_in, task_of_record, record_put, record_beside_put, awaited_operands, own_record, other_record}
+use Rattle.tss_phases.proofs.Records.{operand_in, task_of_record, record_put, record_beside_put, awaited_operands}
+use Rattle.tss_phases.proofs.Records.{own_record, other_record}
 use Rattle.tss_phases.proofs.Tests.{or_false}
 
 -- ---- what a ready sends
@@ -52,7 +55,7 @@ ready_tells_next l source q e =
 module _ (m : Machine) (S : State) (o : OpName) (source : Source) (r : OperandState)
     (there : get S.mail.readies o ≡ Some source) (kept : operand_at S.flight o ≡ Some r) where
   -- the task in flight that has the operand
-  abbrev pub woken_task : Flying
+  abbrev woken_task : Flying
   woken_task = (task_of_record S.flight o r kept).0
 
   woken : after_ready S.flight o source ≡ record {
@@ -65,7 +68,7 @@ module _ (m : Machine) (S : State) (o : OpName) (source : Source) (r : OperandSt
       ap (woken_in S.flight o source) t.1 ∙ ap (woken_by S.flight o source t.0) t.2
 
   -- what is looked up after a ready
-  pub look_ups-ready : (q : OpName) → look_ups (after_event m S (event.Ready o)) q
+  look_ups-ready : (q : OpName) → look_ups (after_event m S (event.Ready o)) q
       ≡ received_all (sent_by_ready r.link source) q (record (missing (event.Ready o) q (look_ups S q)) {
         station = operand_at (after_ready S.flight o source).flight q;
       })

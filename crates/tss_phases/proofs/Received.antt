@@ -6,16 +6,11 @@ use Rattle.tss_base.specs.declared.event.Event.{Event}
 use Rattle.tss_base.specs.declared.event.Event.TheVariants as event
 use Rattle.tss_maps.proofs.Keys.{name_order, same_key, other_key}
 use Rattle.tss_protocol.specs.Names.{same_name}
-use Rattle.tss_protocol.specs.Mail.{Message, Decode, Ack, Open, Use, Ready, Link, Release, Bye, Idle, Nack, Retire, Gone}
+use Rattle.tss_protocol.specs.Mail.{Message, Decode, Ack, Open, Use, Ready, Link, Release, Bye, Idle, Nack, Retire}
+use Rattle.tss_protocol.specs.Mail.{Gone}
 use Rattle.tss_protocol.specs.State.{State}
 use Rattle.tss_protocol.specs.UnitMachine.{with_sent, without}
-use Rattle.tss_phases.specs.Phase.{LookUps, look_ups, phase_at, phase_of}
-
--- ---- two states with the same look-ups
-
--- they have the same phase
-pub phase_same : (S T : State) (o : OpName) → look_ups T o ≡ look_ups S o → phase_of T o ≡ phase_of S o
-phase_same S T o e = ap phase_at e
+use Rattle.tss_phases.specs.Phase.{LookUps, look_ups}
 
 -- ---- names
 
@@ -50,7 +45,7 @@ received_all [] q l = l
 received_all (m ∷ ms) q l = received_all ms q (received m q l)
 
 -- a message that is sent
-pub look_ups-posted : (S : State) (m : Message) (q : OpName)
+look_ups-posted : (S : State) (m : Message) (q : OpName)
     → look_ups (with_sent S (m ∷ [])) q ≡ received m q (look_ups S q)
 look_ups-posted S (Decode o operand) q =
     λ i. record (look_ups S q) { decoding = get-insert name_order.total S.mail.decodes o operand q i }
@@ -152,7 +147,7 @@ look_ups-without S (event.Copy b) q = refl
 look_ups-without S (event.Gone v) q = refl
 
 -- whether the message of an event is one for an operand that tells its phase
-abbrev pub takes : Event → OpName → Bool
+abbrev takes : Event → OpName → Bool
 takes (event.Decode o) q = same_name q o
 takes (event.Open o) q = same_name q o
 takes (event.Use o) q = same_name q o

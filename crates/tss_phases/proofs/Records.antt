@@ -1,5 +1,6 @@
 -- Records of operands where a task in flight, or one of its operands, is changed.
-use Rattle.std.proofs.Common.{◌≡◌, ◌≢◌, ℕ, zero, suc, Bool, true, false, cond, List, [], ◌∷◌, Option, Some, None, refl, ap, ◌∙◌}
+use Rattle.std.proofs.Common.{◌≡◌, ◌≢◌, ℕ, zero, suc, Bool, true, false, cond, List, [], ◌∷◌, Option, Some, None, refl}
+use Rattle.std.proofs.Common.{ap, ◌∙◌}
 use Rattle.std.specs.Prelude.{slice_get, slice_set, option_and_then}
 use Rattle.std.specs.FinMap.{get, insert, remove}
 use Rattle.tss_base.specs.declared.operand.OpName.{OpName}
@@ -13,14 +14,14 @@ use Rattle.tss_protocol.specs.Stations.{operand_at, with_operand, is_complete, a
 -- ---- lists
 
 -- what is set at a place of a list stands there
-pub at_set : {X : Type 0} (xs : List X) (k : ℕ) (x y : X) → slice_get xs k ≡ Some x
+at_set : {X : Type 0} (xs : List X) (k : ℕ) (x y : X) → slice_get xs k ≡ Some x
     → slice_get (slice_set xs k y) k ≡ Some y
 at_set [] k x y e = absurd (cc)
 at_set (z ∷ xs) zero x y e = refl
 at_set (z ∷ xs) (suc k) x y e = at_set xs k x y e
 
 -- at another place stands what stood there
-pub beside_set : {X : Type 0} (xs : List X) (k j : ℕ) (y : X) → j ≢ k
+beside_set : {X : Type 0} (xs : List X) (k j : ℕ) (y : X) → j ≢ k
     → slice_get (slice_set xs k y) j ≡ slice_get xs j
 beside_set [] k j y apart = refl
 beside_set (z ∷ xs) zero zero y apart = absurd (apart refl)
@@ -31,7 +32,7 @@ beside_set (z ∷ xs) (suc k) (suc j) y apart = beside_set xs k j y (λ e. apart
 -- ---- names
 
 -- two operands of one task differ by their places
-pub other_place : (q o : OpName) → q ≢ o → q.task ≡ o.task → q.place ≢ o.place
+other_place : (q o : OpName) → q ≢ o → q.task ≡ o.task → q.place ≢ o.place
 other_place q o apart same place = apart (λ i. record { task = same i; place = place i })
 
 -- ---- records

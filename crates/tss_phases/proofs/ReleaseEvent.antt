@@ -1,6 +1,7 @@
 -- What a release does to phases: its operand goes from releasing to leaving. A producer's release tells the version's
 -- head, and the version is settled, which may tell its successor.
-use Rattle.std.proofs.Common.{◌≡◌, ◌≢◌, Bool, true, false, cond, List, [], ◌∷◌, ◌++◌, Option, Some, None, refl, sym, ap, ◌∙◌, inl, inr, ◌⊎◌, suc}
+use Rattle.std.proofs.Common.{◌≡◌, ◌≢◌, Bool, true, false, cond, List, [], ◌∷◌, ◌++◌, Option, Some, None, refl, sym, ap}
+use Rattle.std.proofs.Common.{◌∙◌, inl, inr, ◌⊎◌, suc}
 use Rattle.std.specs.Prelude.{not}
 use Rattle.std.specs.FinMap.{get, len}
 use Rattle.tss_base.specs.declared.operand.OpName.{OpName}
@@ -9,18 +10,22 @@ use Rattle.tss_base.specs.declared.event.Event.TheVariants as event
 use Rattle.tss_base.specs.Names.{Named}
 use Rattle.tss_protocol.specs.Mail.{StorageName, ReleaseContents, Message, Bye}
 use Rattle.tss_protocol.specs.State.{State, Version}
-use Rattle.tss_protocol.specs.Versions.{put_version, settled, head_ready, produced_now, released_once, is_last, released_by, released_at, after_release}
+use Rattle.tss_protocol.specs.Versions.{put_version, settled, head_ready, produced_now, released_once, is_last}
+use Rattle.tss_protocol.specs.Versions.{released_by, released_at, after_release}
 use Rattle.tss_protocol.specs.UnitMachine.{after_event, without, release_message_taken}
 use Rattle.tss_phases.specs.Phase.{Releasing, Leaving, LookUps, look_ups, phase_at, phase_of}
 use Rattle.tss_phases.specs.Alone.{IsAlone}
 use Rattle.tss_phases.specs.Told.{tells, phase_told, WaitsIfTold}
 use Rattle.tss_phases.specs.Settling.{SettleTells}
-use Rattle.tss_phases.proofs.Received.{own_name, other_name, received_all, look_ups-sent, missing, missing_other, look_ups-without}
+use Rattle.tss_phases.proofs.Received.{own_name, other_name, received_all, look_ups-sent, missing, missing_other}
+use Rattle.tss_phases.proofs.Received.{look_ups-without}
 use Rattle.tss_phases.proofs.News.{AreNews, news_both}
 use Rattle.tss_phases.proofs.PhaseLemmas.{phase_releasing, phase_leaving}
 use Rattle.tss_phases.proofs.AloneLemmas.{silent_but_releasing}
-use Rattle.tss_phases.proofs.SettlingLemmas.{news_ready_with, ready_with_tells, news_settle, settle_tells, settle_tells_successor, ready_with_told}
-use Rattle.tss_phases.proofs.ToldPhases.{phase_news, not_told, either_tells, first_tells, second_tells, beside_bye, bye_tells, own_bye}
+use Rattle.tss_phases.proofs.SettlingLemmas.{news_ready_with, ready_with_tells, news_settle, settle_tells}
+use Rattle.tss_phases.proofs.SettlingLemmas.{ready_with_told}
+use Rattle.tss_phases.proofs.ToldPhases.{phase_news, not_told, either_tells, first_tells, beside_bye, bye_tells}
+use Rattle.tss_phases.proofs.ToldPhases.{own_bye}
 
 -- ---- what a release sends
 
@@ -50,14 +55,14 @@ sent_by_release vs o v x producer =
     ++ (settled (versions_released vs o v x producer) v).sent
 
 -- whom a release tells: the head of a version that its producer releases, or whom the settle tells
-abbrev pub ReleaseTells : Named Version → OpName → OpName → Version → Bool → OpName → Type 0
+abbrev ReleaseTells : Named Version → OpName → OpName → Version → Bool → OpName → Type 0
 ReleaseTells vs o v x producer q =
     ((producer ≡ true) × (x.head ≡ Some q) × ((t : StorageName) × (x.storage ≡ Some t)))
     ⊎ SettleTells (suc (len (versions_released vs o v x producer))) (versions_released vs o v x producer) v q
 
 module _ (vs : Named Version) (o v : OpName) (x : Version) where
   -- these are the messages
-  pub release_sends : (producer : Bool) → (released_by vs o v x producer).sent ≡ sent_by_release vs o v x producer
+  release_sends : (producer : Bool) → (released_by vs o v x producer).sent ≡ sent_by_release vs o v x producer
   release_sends true = refl
   release_sends false = refl
 
@@ -107,16 +112,6 @@ module _ (vs : Named Version) (o v : OpName) (x : Version) where
       ∙ first_tells (head_ready v x x.head) (settled (versions_released vs o v x true) v).sent q
       (ap (λ h. tells (head_ready v x h) q) head ∙ ready_with_told q v x.storage t kept)
 
-  -- whom the settle tells, it tells
-  pub release_tells_settled : (producer : Bool) (q : OpName)
-      → SettleTells (suc (len (versions_released vs o v x producer))) (versions_released vs o v x producer) v q
-      → tells (sent_by_release vs o v x producer) q ≡ true
-  release_tells_settled producer q h =
-      let us = versions_released vs o v x producer in
-      let hs = heads_told v x producer in
-      bye_tells hs (settled us v).sent o (bye_promised o x producer) q
-      ∙ second_tells hs (settled us v).sent q (settle_tells_successor (suc (len us)) us v q h)
-
 -- ---- what it does to phases
 
 module _ (m : Machine) (S : State) (o : OpName) (r : ReleaseContents) (x : Version)
@@ -128,7 +123,7 @@ module _ (m : Machine) (S : State) (o : OpName) (r : ReleaseContents) (x : Versi
       ∙ release_sends S.versions o r.version x r.producer
 
   -- what is looked up after a release
-  pub look_ups-release : (q : OpName) → look_ups (after_event m S (event.Release o)) q
+  look_ups-release : (q : OpName) → look_ups (after_event m S (event.Release o)) q
       ≡ received_all (sent_by_release S.versions o r.version x r.producer) q
       (missing (event.Release o) q (look_ups S q))
   unfolding after_event

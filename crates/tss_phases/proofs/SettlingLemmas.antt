@@ -11,7 +11,8 @@ use Rattle.tss_maps.proofs.Keys.{name_order, decide_key}
 use Rattle.tss_protocol.specs.Names.{same_name}
 use Rattle.tss_protocol.specs.Mail.{StorageName}
 use Rattle.tss_protocol.specs.State.{Version}
-use Rattle.tss_protocol.specs.Versions.{Settling, Versioned, ready_with, may_die, may_ask, unlinked, settle_asking, settle_how, settle_by, settle_at, settle, unchanged}
+use Rattle.tss_protocol.specs.Versions.{Settling, Versioned, ready_with, may_die, may_ask, unlinked, settle_asking}
+use Rattle.tss_protocol.specs.Versions.{settle_how, settle_by, settle_at, settle, unchanged}
 use Rattle.tss_phases.specs.Told.{tells}
 use Rattle.tss_phases.specs.Settling.{TakesOver, SettleTells}
 use Rattle.tss_protocol.specs.Settled.{GivesWay}
@@ -49,7 +50,7 @@ ready_with_told o v s t e = ap (λ s. tells (ready_with o v s) o) e ∙ (λ i. o
 -- ---- settle
 
 -- what settles the next version sends news
-abbrev pub SettlesWithNews : Settling → Type 0
+abbrev SettlesWithNews : Settling → Type 0
 SettlesWithNews next = (vs : Named Version) (v : OpName) → AreNews (next vs v).sent
 
 module _ (vs : Named Version) (v : OpName) (next : Settling) (news : SettlesWithNews next) where

@@ -4,7 +4,8 @@ use Rattle.tss_base.specs.declared.marks.Farewell.{Farewell}
 use Rattle.tss_base.specs.declared.marks.Farewell.TheVariants as farewell
 use Rattle.tss_protocol.specs.Mail.{Source}
 use Rattle.tss_protocol.specs.State.{OperandState}
-use Rattle.tss_phases.specs.Phase.{Phase, Ahead, Decoding, Sent, Waiting, Told, Ready, Releasing, Leaving, Promised, Left, LookUps, where_there, absent_phase, record_phase, station_phase, phase_at}
+use Rattle.tss_phases.specs.Phase.{Phase, Ahead, Decoding, Sent, Waiting, Told, Ready, Releasing, Leaving, Promised}
+use Rattle.tss_phases.specs.Phase.{Left, LookUps, where_there, absent_phase, record_phase, station_phase, phase_at}
 use Rattle.tss_phases.specs.Alone.{IsSilent, HasRecord}
 
 -- the phases in which no message is under way
@@ -33,7 +34,7 @@ past None q rest p e n = (refl, e)
 past (Some x) q rest p e n = absurd (n e)
 
 -- in a still phase no message is under way, and the record tells it
-pub still_shows : (l : LookUps) (p : Phase) → is_still p ≡ true → phase_at l ≡ p
+still_shows : (l : LookUps) (p : Phase) → is_still p ≡ true → phase_at l ≡ p
     → IsSilent l × (station_phase l.station l.ahead ≡ p)
 still_shows l p still e =
     let d = past l.decoding _ _ p e (not_still p Decoding still refl) in

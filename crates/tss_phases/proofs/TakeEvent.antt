@@ -1,5 +1,6 @@
 -- What a take does to phases: the operands of the task that is taken go from ahead to decoding.
-use Rattle.std.proofs.Common.{◌≡◌, ◌≢◌, ℕ, zero, suc, ◌+◌, Bool, true, false, cond, List, [], ◌∷◌, Some, None, refl, sym, ap, ◌∙◌, inl, inr, arith, nat_lt}
+use Rattle.std.proofs.Common.{◌≡◌, ◌≢◌, ℕ, zero, suc, ◌+◌, Bool, true, false, cond, List, [], ◌∷◌, Some, None, refl}
+use Rattle.std.proofs.Common.{sym, ap, ◌∙◌, inl, inr, arith, nat_lt}
 use Rattle.std.specs.Prelude.{◌==◌, ◌||◌, slice_get}
 use Rattle.std.proofs.lemmas.Bool.Decides.{nat_tests}
 use Rattle.std.proofs.lemmas.Option.{none-some}
@@ -15,17 +16,16 @@ use Rattle.tss_protocol.specs.State.{State}
 use Rattle.tss_protocol.specs.Gateway.{gateway_after_take, decodes_from, sent_by_take}
 use Rattle.tss_protocol.specs.Stations.{operand_at, entered, flight_after_take}
 use Rattle.tss_protocol.specs.UnitMachine.{after_event, queue_with, is_queued, after_take}
-use Rattle.tss_phases.specs.Phase.{Ahead, Decoding, LookUps, look_ups, absent_phase, station_phase, phase_at, inbox_has, is_ahead, phase_of}
-use Rattle.tss_phases.specs.Alone.{IsSilent}
+use Rattle.tss_phases.specs.Phase.{Decoding, LookUps, look_ups, phase_at, inbox_has, is_ahead, phase_of}
 use Rattle.tss_phases.proofs.Received.{own_name, received_all, received_other, look_ups-sent}
-use Rattle.tss_phases.proofs.PhaseLemmas.{phase_silent, phase_decoding}
+use Rattle.tss_phases.proofs.PhaseLemmas.{phase_decoding}
 use Rattle.tss_phases.proofs.Records.{record_beside_put}
 use Rattle.tss_phases.proofs.FinishEvent.{IsBefore, before_next, apart_before, apart_further}
 
 -- ---- the decodes of a task's operands
 
 -- of any other operand they say nothing
-pub decodes_other : (task place : ℕ) (os : List Operand) (q : OpName) (l : LookUps) → IsBefore q task place
+decodes_other : (task place : ℕ) (os : List Operand) (q : OpName) (l : LookUps) → IsBefore q task place
     → received_all (decodes_from task place os) q l ≡ l
 decodes_other task place [] q l before = refl
 decodes_other task place (o ∷ os) q l before =
@@ -109,14 +109,6 @@ module _ (m : Machine) (S : State) (t : Task) (inbox : S.inbox ≡ Some t) where
       or_true : (b : Bool) → b || true ≡ true
       or_true true = refl
       or_true false = refl
-
-  -- before it, an operand of its task for which there is no message and no record is ahead
-  pub ahead_before : (q : OpName) → q.task ≡ t.number → IsSilent (look_ups S q) → operand_at S.flight q ≡ None
-      → phase_of S q ≡ Ahead
-  ahead_before q same silent none =
-      phase_silent (look_ups S q) silent
-      ∙ ap (λ k. station_phase k (is_ahead S q.task)) none
-      ∙ ap absent_phase (inbox_is_ahead q same)
 
   -- after it, each operand of its task is decoding
   pub phase_of-take : (q : OpName) (o : Operand) → q.task ≡ t.number → slice_get (operands_of t) q.place ≡ Some o

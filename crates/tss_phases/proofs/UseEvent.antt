@@ -13,7 +13,8 @@ use Rattle.tss_protocol.specs.UnitMachine.{after_event, without, use_message_tak
 use Rattle.tss_phases.specs.Phase.{Waiting, LookUps, look_ups, phase_at, phase_of}
 use Rattle.tss_phases.specs.Alone.{IsAlone, IsFresh}
 use Rattle.tss_phases.specs.Told.{tells, phase_told}
-use Rattle.tss_phases.proofs.Received.{own_name, other_name, received_all, look_ups-sent, missing, missing_other, look_ups-without}
+use Rattle.tss_phases.proofs.Received.{own_name, other_name, received_all, look_ups-sent, missing, missing_other}
+use Rattle.tss_phases.proofs.Received.{look_ups-without}
 use Rattle.tss_phases.proofs.News.{AreNews, untold}
 use Rattle.tss_phases.proofs.PhaseLemmas.{phase_silent, station_told}
 use Rattle.tss_phases.proofs.AloneLemmas.{silent_but_using}
@@ -88,7 +89,7 @@ module _ (vs : Named Version) (o v : OpName) where
       ∙ ready_with_told o v x.storage r.storage r.kept
 
   -- it tells no other operand
-  pub use_tells_no_other : (q : OpName) → q ≢ o → tells (after_use vs o v).sent q ≡ false
+  use_tells_no_other : (q : OpName) → q ≢ o → tells (after_use vs o v).sent q ≡ false
   use_tells_no_other q apart = by (tells (after_use vs o v).sent q) refl
     where
       by : (b : Bool) → tells (after_use vs o v).sent q ≡ b → tells (after_use vs o v).sent q ≡ false
@@ -99,7 +100,7 @@ module _ (vs : Named Version) (o v : OpName) where
 
 module _ (m : Machine) (S : State) (o v : OpName) (there : get S.mail.uses o ≡ Some v) where
   -- what is looked up after a use
-  pub look_ups-use : (q : OpName) → look_ups (after_event m S (event.Use o)) q
+  look_ups-use : (q : OpName) → look_ups (after_event m S (event.Use o)) q
       ≡ received_all (after_use S.versions o v).sent q (missing (event.Use o) q (look_ups S q))
   unfolding after_event
   look_ups-use q =

@@ -1,6 +1,7 @@
 -- How a phase goes on in one event.
 use Rattle.std.specs.Prelude.{Bool, true, false}
-use Rattle.tss_phases.specs.Phase.{Phase, Ahead, Decoding, Sent, Waiting, Told, Ready, Releasing, Leaving, Promised, Left}
+use Rattle.tss_phases.specs.Phase.{Phase, Ahead, Decoding, Sent, Waiting, Told, Ready, Releasing, Leaving, Promised}
+use Rattle.tss_phases.specs.Phase.{Left}
 
 -- a phase stays, or the second comes next after the first. A name that no operand of its task has is ahead, and then
 -- left

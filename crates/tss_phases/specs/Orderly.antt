@@ -9,7 +9,8 @@ use Rattle.tss_protocol.specs.Mail.{Source, OpenContents, ReleaseContents, Messa
 use Rattle.tss_protocol.specs.State.{OperandState, Flying, Busy, Version, State}
 use Rattle.tss_protocol.specs.Stations.{operand_at, sent_by_ready, sent_by_link}
 use Rattle.tss_protocol.specs.Versions.{after_open, after_release, after_nack}
-use Rattle.tss_phases.specs.Phase.{Phase, Ahead, Decoding, Sent, Waiting, Told, Ready, Releasing, Leaving, Promised, Left, LookUps, look_ups, phase_at, phase_of}
+use Rattle.tss_phases.specs.Phase.{Phase, Ahead, Decoding, Sent, Waiting, Told, Ready, Releasing, Leaving, Promised}
+use Rattle.tss_phases.specs.Phase.{Left, LookUps, look_ups, phase_at, phase_of}
 use Rattle.tss_phases.specs.Alone.{under_way, HasRecord}
 use Rattle.tss_phases.specs.Told.{WaitsIfTold}
 
