@@ -5,7 +5,8 @@ use Rattle.std.specs.declared.cmp.Ordering.{Ordering}
 use Rattle.std.specs.FinMap.{FinMap, get, insert, remove}
 use Rattle.std.proofs.lemmas.Option.{none-some, same_Some}
 use Rattle.tss_maps.proofs.Keys.{IsKeyOrder, decide_key}
-use Rattle.tss_maps.proofs.Changes.{beside_inserted, beside_removed, at_inserted, at_removed, from_inserted, from_removed}
+use Rattle.tss_maps.proofs.Changes.{beside_inserted, beside_removed, at_inserted, at_removed, from_inserted}
+use Rattle.tss_maps.proofs.Changes.{from_removed}
 use Rattle.tss_locality.specs.Agreement.{Beyond, AgreeAt, ClosedAt, SameFor}
 
 module _ {K X : Type 0} {R : K → K → Ordering} where
@@ -53,7 +54,7 @@ module _ {X : Type 0} (A : X → Type 0) where
   same_for a x in_a = (λ e. e, λ e. e)
 
   -- two values that are equal
-  pub same_for_equal : (a b : Option X) → b ≡ a → SameFor A a b
+  same_for_equal : (a b : Option X) → b ≡ a → SameFor A a b
   same_for_equal a b e x in_a = (λ there. e ∙ there, λ there. sym e ∙ there)
 
   -- a value of another kind

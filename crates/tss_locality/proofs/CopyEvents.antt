@@ -1,5 +1,6 @@
 -- Retire and copy concern their version and its object alone.
-use Rattle.std.proofs.Common.{◌≡◌, ℕ, ◌+◌, ◌-◌, ◌<◌, ◌≤◌, Bool, true, false, List, length, Option, Some, None, refl, sym, subst, arith}
+use Rattle.std.proofs.Common.{◌≡◌, ℕ, ◌+◌, ◌-◌, ◌<◌, ◌≤◌, Bool, true, false, List, length, Option, Some, None, refl}
+use Rattle.std.proofs.Common.{sym, subst, arith}
 use Rattle.std.specs.Prelude.{is_none, is_some, drop, min}
 use Rattle.std.specs.FinMap.{get}
 use Rattle.std.proofs.lemmas.Bool.{and_parts}
@@ -9,16 +10,19 @@ use Rattle.tss_base.specs.declared.operand.OpName.{OpName}
 use Rattle.tss_base.specs.declared.machine.Machine.{Machine}
 use Rattle.tss_base.specs.declared.event.Event.TheVariants as event
 use Rattle.tss_maps.proofs.Keys.{nat_order, name_order}
-use Rattle.tss_maps.proofs.Changes.{beside_inserted, beside_removed}
 use Rattle.tss_protocol.specs.Names.{bank_of}
 use Rattle.tss_protocol.specs.Mail.{StorageName, Home, Buffer}
 use Rattle.tss_protocol.specs.State.{Version, CopyState, State}
 use Rattle.tss_protocol.specs.Versions.{after_retire}
-use Rattle.tss_protocol.specs.Buffers.{buffer_bytes, can_retire_from, sent_by_retire, new_copy, copies_after_retire, piece_len, piece_of, home_after_copy, is_last_piece, copies_after_copy, sent_by_copy}
-use Rattle.tss_protocol.specs.UnitMachine.{without, can_retire, retire_version, after_copy, is_enabled, IsEnabled, after_event}
+use Rattle.tss_protocol.specs.Buffers.{buffer_bytes, can_retire_from, sent_by_retire, new_copy, copies_after_retire}
+use Rattle.tss_protocol.specs.Buffers.{piece_len, piece_of, home_after_copy, is_last_piece, copies_after_copy}
+use Rattle.tss_protocol.specs.Buffers.{sent_by_copy}
+use Rattle.tss_protocol.specs.UnitMachine.{without, can_retire, retire_version, after_copy, is_enabled, IsEnabled}
+use Rattle.tss_protocol.specs.UnitMachine.{after_event}
 use Rattle.tss_locality.specs.Agreement.{Beyond, SameFor}
 use Rattle.tss_locality.specs.Scopes.{Scope, beyond, ChangesOnly, VersionIn, AreSentIn, Closed}
-use Rattle.tss_locality.proofs.Agreements.{IsOther, other_none, other_some, same_for, same_for_inserted, same_for_removed, agree_removed}
+use Rattle.tss_locality.proofs.Agreements.{IsOther, other_none, other_some, same_for, same_for_inserted}
+use Rattle.tss_locality.proofs.Agreements.{same_for_removed, agree_removed}
 use Rattle.tss_locality.proofs.States.{state_home, state_versions, state_copies}
 use Rattle.tss_locality.proofs.Sending.{changes_none, changes_taken, changes_sent}
 use Rattle.tss_locality.proofs.stores.Stores.{IsWrittenIn, home_written}
@@ -135,40 +139,3 @@ module _ (c : Scope) (m : Machine) (S : State) (closed : Closed c S) where
       ChangesOnly c S (after_event m S (event.Copy b))
   unfolding after_event
   ChangesOnly-copy b p = copied b (get S.copies b) refl p
-
-module _ (m : Machine) (S : State) where
-  other_bank_retired : (v : OpName) (x : Version) (q : ℕ) → (q ≡ bank_of m.sizes x.object → ⊥) →
-      (s : Option StorageName) →
-      get (copies_after_retire S.copies (bank_of m.sizes x.object) v x.object s) q ≡ get S.copies q
-  other_bank_retired v x q other None = refl
-  other_bank_retired v x q other (Some Home) = refl
-  other_bank_retired v x q other (Some (Buffer n)) =
-      beside_inserted nat_order S.copies (bank_of m.sizes x.object) (new_copy v x.object n) q other
-
-  retire_banks : (v : OpName) (q : ℕ) (x : Option Version) → get S.versions v ≡ x →
-      ((x : Version) → get S.versions v ≡ Some x → q ≡ bank_of m.sizes x.object → ⊥) →
-      get (retire_version m (without S (event.Retire v)) v x).copies q ≡ get S.copies q
-  retire_banks v q None there other = refl
-  retire_banks v q (Some x) there other = other_bank_retired v x q (other x there) x.storage
-
-  -- retire leaves the copy of every bank but that of the version's object
-  pub other_banks-retire : (v : OpName) (q : ℕ) →
-      ((x : Version) → get S.versions v ≡ Some x → q ≡ bank_of m.sizes x.object → ⊥) →
-      get (after_event m S (event.Retire v)).copies q ≡ get S.copies q
-  unfolding after_event
-  other_banks-retire v q other = retire_banks v q (get S.versions v) refl other
-
-  moved_beside : (b q : ℕ) (k : CopyState) (last : Bool) → (q ≡ b → ⊥) →
-      get (copies_after_copy S.copies b k last) q ≡ get S.copies q
-  moved_beside b q k true other = beside_removed nat_order S.copies b q other
-  moved_beside b q k false other =
-      beside_inserted nat_order S.copies b (record k { moved = k.moved + piece_len k }) q other
-
-  copy_banks : (b q : ℕ) (k : Option CopyState) → (q ≡ b → ⊥) → get (after_copy S b k).copies q ≡ get S.copies q
-  copy_banks b q None other = refl
-  copy_banks b q (Some k) other = moved_beside b q k (is_last_piece k) other
-
-  -- copy leaves the copy of every other bank
-  pub other_banks-copy : (b q : ℕ) → (q ≡ b → ⊥) → get (after_event m S (event.Copy b)).copies q ≡ get S.copies q
-  unfolding after_event
-  other_banks-copy b q other = copy_banks b q (get S.copies b) other

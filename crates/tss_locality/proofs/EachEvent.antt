@@ -6,7 +6,8 @@ use Rattle.tss_protocol.specs.State.{State}
 use Rattle.tss_protocol.specs.UnitMachine.{IsEnabled, after_event}
 use Rattle.tss_locality.specs.Scopes.{Scope, ChangesOnly, Closed}
 use Rattle.tss_locality.specs.Concerns.{Concerns}
-use Rattle.tss_locality.proofs.ObjectEvents.{ChangesOnly-decode, ChangesOnly-ack, ChangesOnly-open, ChangesOnly-use, ChangesOnly-release, ChangesOnly-idle, ChangesOnly-nack, ChangesOnly-gone}
+use Rattle.tss_locality.proofs.ObjectEvents.{ChangesOnly-decode, ChangesOnly-ack, ChangesOnly-open, ChangesOnly-use}
+use Rattle.tss_locality.proofs.ObjectEvents.{ChangesOnly-release, ChangesOnly-idle, ChangesOnly-nack, ChangesOnly-gone}
 use Rattle.tss_locality.proofs.TaskEvents.{ChangesOnly-ready, ChangesOnly-link, ChangesOnly-bye}
 use Rattle.tss_locality.proofs.TakeEvent.{ChangesOnly-take}
 use Rattle.tss_locality.proofs.WorkerEvents.{ChangesOnly-start, ChangesOnly-exec, ChangesOnly-finish}

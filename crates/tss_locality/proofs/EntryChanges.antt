@@ -1,5 +1,7 @@
--- What an entry was before an event: it stood there, or was made by decode for its operand, or is about to leave by idle.
-use Rattle.std.proofs.Common.{◌≡◌, ℕ, Bool, true, false, cond, Option, Some, None, refl, sym, ap, ◌∙◌, inl, inr, ◌⊎◌, true≢false}
+-- What an entry was before an event: it stood there, or was made by decode for its operand, or is about to leave by
+-- idle.
+use Rattle.std.proofs.Common.{◌≡◌, ℕ, Bool, true, false, cond, Option, Some, None, refl, sym, ap, ◌∙◌, inl, inr, ◌⊎◌}
+use Rattle.std.proofs.Common.{true≢false}
 use Rattle.std.specs.Prelude.{◌==◌}
 use Rattle.std.specs.FinMap.{get, remove}
 use Rattle.std.proofs.lemmas.Bool.{and_parts}
@@ -16,7 +18,8 @@ use Rattle.tss_protocol.specs.Names.{same_name}
 use Rattle.tss_protocol.specs.Mail.{IdleContents, GoneContents}
 use Rattle.tss_protocol.specs.State.{Entry, State}
 use Rattle.tss_protocol.specs.Renaming.{live_entry, entry_after_decode, may_retire, idle_by}
-use Rattle.tss_protocol.specs.UnitMachine.{without, decode_message_taken, idle_message_taken, gone_message_taken, after_event}
+use Rattle.tss_protocol.specs.UnitMachine.{without, decode_message_taken, idle_message_taken, gone_message_taken}
+use Rattle.tss_protocol.specs.UnitMachine.{after_event}
 
 -- ---- decode
 

@@ -7,7 +7,6 @@ use Rattle.std.specs.FinMap.{FinMap, get, len}
 use Rattle.std.proofs.lemmas.Bool.{and_parts}
 use Rattle.std.proofs.lemmas.Bool.Decides.{nat_tests}
 use Rattle.std.proofs.lemmas.Option.{none-some}
-use Rattle.tss_base.specs.declared.range.Range.{Range}
 use Rattle.tss_base.specs.declared.operand.OpName.{OpName}
 use Rattle.tss_base.specs.declared.operand.Operand.{Operand}
 use Rattle.tss_base.specs.declared.operand.Task.{Task}
@@ -18,32 +17,8 @@ use Rattle.tss_protocol.specs.Stations.{operand_at}
 use Rattle.tss_protocol.specs.Gateway.{is_idle}
 use Rattle.tss_protocol.specs.MainEvent.{has_no_task, has_no_object, is_drained}
 use Rattle.tss_locality.specs.Agreement.{operand_in}
-use Rattle.tss_locality.specs.Objects.{Objects, object_scope, Every, LinksStay, IsNamed, IsWithinObjects}
+use Rattle.tss_locality.specs.Objects.{Objects, LinksStay, IsNamed, IsWithinObjects}
 use Rattle.tss_locality.proofs.Flights.{record_in}
-use Rattle.tss_locality.proofs.closed.FamilyScopes.{closed_family}
-
-module _ (f g : Objects) (fewer : (o : OpName) (x : Range) → g o ≡ Some x → f o ≡ Some x)
-    (whole : (o q : OpName) (x : Range) → g o ≡ Some x → f q ≡ Some x → g q ≡ Some x) where
-  -- an object that keeps its name keeps all of its names
-  pub LinksStay-fewer : (S : State) → LinksStay f S → LinksStay g S
-  LinksStay-fewer S links o x go = closed_family (object_scope g x Every) S (record {
-    of_name = λ q p. (
-      object_scope f x Every,
-      record {
-        closed = links o x (fewer o x go);
-        within = record { names = λ r e. whole o r x go e; objects = λ y e. e };
-      },
-      fewer q x p,
-    );
-    of_object = λ y p. (
-      object_scope f x Every,
-      record {
-        closed = links o x (fewer o x go);
-        within = record { names = λ r e. whole o r x go e; objects = λ y e. e };
-      },
-      p,
-    );
-  })
 
 -- ---- a drained state
 

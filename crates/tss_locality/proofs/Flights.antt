@@ -1,5 +1,6 @@
 -- What a change of one task in flight leaves of the others, and of the records of its operands beyond the scope.
-use Rattle.std.proofs.Common.{◌≡◌, ◌≢◌, ℕ, zero, suc, Bool, true, false, cond, List, [], ◌∷◌, length, Option, Some, None, refl, sym, ap, ◌∙◌, subst, inl, inr, ◌⊎◌}
+use Rattle.std.proofs.Common.{◌≡◌, ◌≢◌, ℕ, zero, suc, Bool, true, false, cond, List, [], ◌∷◌, length, Option, Some}
+use Rattle.std.proofs.Common.{None, refl, sym, ap, ◌∙◌, subst, inl, inr, ◌⊎◌}
 use Rattle.std.specs.Prelude.{slice_get, slice_set, option_and_then, map}
 use Rattle.std.specs.List.{list_all}
 use Rattle.std.specs.FinMap.{get, insert, remove}
@@ -19,7 +20,7 @@ use Rattle.tss_locality.proofs.Agreements.{agree_inserted, agree_removed}
 use Rattle.tss_locality.proofs.States.{FlightOn, shape_same}
 
 -- what stands beside the place of a list that is set
-pub slice_get-set_other : {X : Type 0} (xs : List X) (i j : ℕ) (v : X) → j ≢ i →
+slice_get-set_other : {X : Type 0} (xs : List X) (i j : ℕ) (v : X) → j ≢ i →
     slice_get (slice_set xs i v) j ≡ slice_get xs j
 slice_get-set_other [] i j v apart = refl
 slice_get-set_other (x ∷ xs) zero zero v apart = absurd (apart refl)

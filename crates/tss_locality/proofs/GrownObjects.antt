@@ -9,7 +9,8 @@ use Rattle.tss_protocol.specs.State.{State}
 use Rattle.tss_locality.specs.Agreement.{ClosedAt}
 use Rattle.tss_locality.specs.Scopes.{Scope, IsBase, SourceIn, VersionIn, OpeningIn, GoingIn, Closed}
 use Rattle.tss_locality.specs.Objects.{Objects, object_scope, Every, HasObject, AreNamed, IsNamed, IsWithinObjects}
-use Rattle.tss_locality.proofs.closed.FamilyScopes.{LiesWithin, storage_more, source_more, base_more, version_more, record_more, opening_more, going_more, copy_more}
+use Rattle.tss_locality.proofs.closed.FamilyScopes.{LiesWithin, storage_more, source_more, base_more, version_more}
+use Rattle.tss_locality.proofs.closed.FamilyScopes.{record_more, opening_more, going_more, copy_more}
 
 module _ (f g : Objects) (grows : (o : OpName) (x : Range) → f o ≡ Some x → g o ≡ Some x) where
   has_more : (o : OpName) → HasObject f o → HasObject g o
@@ -19,7 +20,7 @@ module _ (f g : Objects) (grows : (o : OpName) (x : Range) → f o ≡ Some x �
   named_more m named o x e = has_more o (named o x e)
 
   -- each name still has its object
-  pub IsNamed-grown : (S : State) → IsNamed f S → IsNamed g S
+  IsNamed-grown : (S : State) → IsNamed f S → IsNamed g S
   IsNamed-grown S n = record {
     arrivals = λ o p e. grows o p.object (n.arrivals o p e);
     records = λ o r e. has_more o (n.records o r e);

@@ -16,11 +16,15 @@ use Rattle.tss_protocol.specs.UnitMachine.{IsEnabled, after_event}
 use Rattle.tss_locality.proofs.Flights.{record_in}
 use Rattle.tss_locality.specs.Scopes.{Scope, ChangesOnly, Closed}
 use Rattle.tss_locality.specs.Concerns.{FindsOwn}
-use Rattle.tss_locality.specs.Objects.{Objects, object_scope, Every, LinksStay, HasObject, SpawnsWith, StandNumbered, EntriesNamed}
+use Rattle.tss_locality.specs.Objects.{Objects, object_scope, Every, LinksStay, HasObject, SpawnsWith, StandNumbered}
+use Rattle.tss_locality.specs.Objects.{EntriesNamed}
 use Rattle.tss_locality.proofs.EachEvent.{ChangesOnly-after_event}
 use Rattle.tss_locality.proofs.LeftFields.{Leaves-after_event}
-use Rattle.tss_locality.proofs.closed.ClosedObjectEvents.{Closed-decode, Closed-open, Closed-use, Closed-ready, Closed-link, Closed-release, Closed-idle, Closed-nack, Closed-retire, Closed-copy, Closed-gone}
-use Rattle.tss_locality.proofs.closed.ClosedTaskEvents.{Closed-main, Closed-take, Closed-ack, Closed-start, Closed-exec, Closed-finish, Closed-bye}
+use Rattle.tss_locality.proofs.closed.ClosedObjectEvents.{Closed-decode, Closed-open, Closed-use, Closed-ready}
+use Rattle.tss_locality.proofs.closed.ClosedObjectEvents.{Closed-link, Closed-release, Closed-idle, Closed-nack}
+use Rattle.tss_locality.proofs.closed.ClosedObjectEvents.{Closed-retire, Closed-copy, Closed-gone}
+use Rattle.tss_locality.proofs.closed.ClosedTaskEvents.{Closed-main, Closed-take, Closed-ack, Closed-start, Closed-exec}
+use Rattle.tss_locality.proofs.closed.ClosedTaskEvents.{Closed-finish, Closed-bye}
 use Rattle.tss_locality.proofs.closed.ApartScopes.{AreApart, OthersWere, closed_apart}
 use Rattle.tss_locality.proofs.EntryChanges.{object_found, decoded_object, entries_decoded, entries_idle, entries_gone}
 use Rattle.tss_locality.proofs.SeparateObjects.{decide_range}

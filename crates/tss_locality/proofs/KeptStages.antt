@@ -10,12 +10,13 @@ use Rattle.tss_base.specs.Names.{Numbered}
 use Rattle.tss_maps.proofs.Keys.{nat_order}
 use Rattle.tss_maps.proofs.Changes.{from_inserted, from_removed}
 use Rattle.tss_protocol.specs.State.{OperandState, Flying, State}
-use Rattle.tss_protocol.specs.Stations.{is_gone, remaining_tasks, with_operand, operand_after_link, linked_by, linked_in, operand_after_bye, parted_by, parted_in}
+use Rattle.tss_protocol.specs.Stations.{is_gone, remaining_tasks, with_operand, operand_after_link, linked_by}
+use Rattle.tss_protocol.specs.Stations.{linked_in, operand_after_bye, parted_by, parted_in}
 use Rattle.tss_protocol.specs.UnitMachine.{without, link_message_taken, bye_message_taken, after_event}
 use Rattle.tss_locality.proofs.LeftFields.{Leaves-after_event}
 
 -- each task that is in flight afterwards was in flight before, in the same stage
-abbrev pub StagesKept : Numbered Flying → Numbered Flying → Type 0
+abbrev StagesKept : Numbered Flying → Numbered Flying → Type 0
 StagesKept f g = (n : ℕ) (y : Flying) → get g n ≡ Some y → (x : Flying) × (get f n ≡ Some x) × (y.stage ≡ x.stage)
 
 module _ (f : Numbered Flying) where

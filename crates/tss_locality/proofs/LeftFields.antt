@@ -12,7 +12,11 @@ use Rattle.tss_protocol.specs.Mail.{Source, OpenContents, ReleaseContents, IdleC
 use Rattle.tss_protocol.specs.State.{Flying, Busy, Entry, Version, CopyState, State}
 use Rattle.tss_protocol.specs.Renaming.{idle_by, may_retire}
 use Rattle.tss_protocol.specs.MainEvent.{call_next, after_call, main_by}
-use Rattle.tss_protocol.specs.UnitMachine.{without, with_entries, after_take, decode_message_taken, open_message_taken, use_message_taken, ready_message_taken, link_message_taken, bye_message_taken, start_task, after_start, after_exec, after_finish, release_message_taken, idle_message_taken, retire_version, after_copy, gone_message_taken, after_event}
+use Rattle.tss_protocol.specs.UnitMachine.{without, with_entries, after_take, decode_message_taken, open_message_taken}
+use Rattle.tss_protocol.specs.UnitMachine.{use_message_taken, ready_message_taken, link_message_taken}
+use Rattle.tss_protocol.specs.UnitMachine.{bye_message_taken, start_task, after_start, after_exec, after_finish}
+use Rattle.tss_protocol.specs.UnitMachine.{release_message_taken, idle_message_taken, retire_version, after_copy}
+use Rattle.tss_protocol.specs.UnitMachine.{gone_message_taken, after_event}
 use Rattle.tss_locality.specs.Leaves.{changes, if_changed, Leaves}
 
 module _ (m : Machine) (S : State) where
@@ -131,17 +135,8 @@ module _ (m : Machine) (S : State) where
     abbrev T : State
     T = after_event m S e
 
-    pub left_main : (changes e).main ≡ false → T.main ≡ S.main
-    left_main left = (λ j. (Leaves-after_event e j).main) ∙ ap (λ b. if_changed b T.main S.main) left
-
     pub left_home : (changes e).home ≡ false → T.home ≡ S.home
     left_home left = (λ j. (Leaves-after_event e j).home) ∙ ap (λ b. if_changed b T.home S.home) left
-
-    pub left_inbox : (changes e).inbox ≡ false → T.inbox ≡ S.inbox
-    left_inbox left = (λ j. (Leaves-after_event e j).inbox) ∙ ap (λ b. if_changed b T.inbox S.inbox) left
-
-    pub left_gateway : (changes e).gateway ≡ false → T.gateway ≡ S.gateway
-    left_gateway left = (λ j. (Leaves-after_event e j).gateway) ∙ ap (λ b. if_changed b T.gateway S.gateway) left
 
     pub left_flight : (changes e).flight ≡ false → T.flight ≡ S.flight
     left_flight left = (λ j. (Leaves-after_event e j).flight) ∙ ap (λ b. if_changed b T.flight S.flight) left
@@ -161,14 +156,8 @@ module _ (m : Machine) (S : State) where
     pub left_buffers : (changes e).buffers ≡ false → T.buffers ≡ S.buffers
     left_buffers left = (λ j. (Leaves-after_event e j).buffers) ∙ ap (λ b. if_changed b T.buffers S.buffers) left
 
-    pub left_contents : (changes e).contents ≡ false → T.contents ≡ S.contents
-    left_contents left = (λ j. (Leaves-after_event e j).contents) ∙ ap (λ b. if_changed b T.contents S.contents) left
-
     pub left_versions : (changes e).versions ≡ false → T.versions ≡ S.versions
     left_versions left = (λ j. (Leaves-after_event e j).versions) ∙ ap (λ b. if_changed b T.versions S.versions) left
 
     pub left_copies : (changes e).copies ≡ false → T.copies ≡ S.copies
     left_copies left = (λ j. (Leaves-after_event e j).copies) ∙ ap (λ b. if_changed b T.copies S.copies) left
-
-    pub left_trap : (changes e).trap ≡ false → T.trap ≡ S.trap
-    left_trap left = (λ j. (Leaves-after_event e j).trap) ∙ ap (λ b. if_changed b T.trap S.trap) left

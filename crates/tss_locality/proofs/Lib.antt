@@ -31,5 +31,9 @@ pub mod TasksInFlight
 pub mod TasksAtWork
 pub mod RoundObjects
 pub mod MainCalls
+pub mod RoundFrames
+pub mod RoundAwaits
+pub mod RoundCalls
+pub mod RoundUse
 pub mod RunRounds
 pub mod RoundScopes

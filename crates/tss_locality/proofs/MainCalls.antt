@@ -11,7 +11,8 @@ use Rattle.tss_model.specs.Core.{Stepped, Executed, Called, Ended, Trapped, Touc
 use Rattle.tss_model.specs.TaskRun.{repeated}
 use Rattle.tss_base.specs.declared.causes.TheConstants.{LOAD_DENIED}
 use Rattle.tss_base.specs.declared.refusals.TheConstants.{MAIN_BUDGET_SPENT, MAIN_TOUCH, OUTPUT_FULL}
-use Rattle.tss_model.specs.MainStep.{MainState, Flat, main_refused, main_trapped, call_done, output_of, print_done, print_some, has_spent, main_on, main_core, main_step, main_stretch, print_call}
+use Rattle.tss_model.specs.MainStep.{MainState, Flat, main_refused, main_trapped, call_done, output_of, print_done}
+use Rattle.tss_model.specs.MainStep.{print_some, has_spent, main_on, main_core, main_step, main_stretch, print_call}
 
 -- main that has spawned as many tasks and named the same objects
 pub record SameCalls (x y : MainState) : Type 0 where

@@ -7,7 +7,9 @@ use Rattle.tss_base.specs.declared.event.Event.{Event}
 use Rattle.tss_base.specs.declared.event.Event.TheVariants as event
 use Rattle.tss_base.specs.Names.{Named}
 use Rattle.tss_maps.proofs.Keys.{name_order}
-use Rattle.tss_protocol.specs.Mail.{Source, OpenContents, ReleaseContents, IdleContents, GoneContents, Message, Decode, Ack, Open, Use, Ready, Link, Release, Bye, Idle, Nack, Retire, Gone, Mail, posted, posted_all, taken}
+use Rattle.tss_protocol.specs.Mail.{Source, OpenContents, ReleaseContents, IdleContents, GoneContents, Message, Decode}
+use Rattle.tss_protocol.specs.Mail.{Ack, Open, Use, Ready, Link, Release, Bye, Idle, Nack, Retire, Gone, Mail, posted}
+use Rattle.tss_protocol.specs.Mail.{posted_all, taken}
 use Rattle.tss_locality.specs.Agreement.{Beyond, AgreeAt, MailAgrees}
 use Rattle.tss_locality.specs.Scopes.{Scope, IsOwn, MessageIn, MessagesIn, IsSentIn, AreSentIn}
 use Rattle.tss_locality.proofs.Agreements.{agree_same, agree_then, agree_less, agree_inserted, agree_removed}
@@ -145,12 +147,12 @@ module _ (c : Scope) where
   Own = Beyond (IsOwn c)
 
   -- nothing beyond the scope has other messages
-  abbrev pub MailOnly : Mail → Mail → Type 0
+  abbrev MailOnly : Mail → Mail → Type 0
   MailOnly m n = MailAgrees (Beyond c.names) (Beyond (IsOwn c)) m n
 
   module _ (m n : Mail) (f : MailOnly m n) where
     -- a message of the scope is sent
-    pub mail_posted : (x : Message) → IsSentIn c x → MailOnly m (posted n x)
+    mail_posted : (x : Message) → IsSentIn c x → MailOnly m (posted n x)
     mail_posted (Decode o operand) p =
         mail_decodes Names Own m n f (insert n.decodes o operand)
         (agree_inserted name_order (IsOwn c) n.decodes o operand p)

@@ -13,10 +13,14 @@ use Rattle.tss_protocol.specs.Names.{bank_of}
 use Rattle.tss_protocol.specs.Mail.{OpenContents, ReleaseContents, IdleContents, GoneContents}
 use Rattle.tss_protocol.specs.State.{Entry, State}
 use Rattle.tss_protocol.specs.Gateway.{gateway_after_ack}
-use Rattle.tss_protocol.specs.Renaming.{entry_after_decode, takes_place, takes_buffer, places_after_decode, buffers_after_decode, live_message, decode_message, decoded_by, may_retire, retiring_entry, idle_by, buffers_after_gone}
+use Rattle.tss_protocol.specs.Renaming.{entry_after_decode, takes_place, takes_buffer, places_after_decode}
+use Rattle.tss_protocol.specs.Renaming.{buffers_after_decode, live_message, decode_message, decoded_by, may_retire}
+use Rattle.tss_protocol.specs.Renaming.{retiring_entry, idle_by, buffers_after_gone}
 use Rattle.tss_protocol.specs.Versions.{after_open, after_use, after_release, after_nack}
 use Rattle.tss_protocol.specs.Buffers.{contents_after_gone}
-use Rattle.tss_protocol.specs.UnitMachine.{tables_of, without, with_entries, with_decoded, decode_message_taken, open_message_taken, use_message_taken, release_message_taken, idle_message_taken, gone_message_taken, after_event}
+use Rattle.tss_protocol.specs.UnitMachine.{tables_of, without, with_entries, with_decoded, decode_message_taken}
+use Rattle.tss_protocol.specs.UnitMachine.{open_message_taken, use_message_taken, release_message_taken}
+use Rattle.tss_protocol.specs.UnitMachine.{idle_message_taken, gone_message_taken, after_event}
 use Rattle.tss_locality.specs.Agreement.{Beyond, AgreeAt}
 use Rattle.tss_locality.specs.Concerns.{FindsOwn}
 use Rattle.tss_locality.specs.Scopes.{Scope, IsOwn, IsBase, beyond, ChangesOnly, NameIn, GoingIn, MessageIn, Closed}

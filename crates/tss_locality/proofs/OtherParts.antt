@@ -2,32 +2,11 @@
 use Rattle.std.proofs.Common.{◌≡◌, ℕ, Some, sym, ap, ◌∙◌, subst}
 use Rattle.std.proofs.lemmas.Option.{same_Some}
 use Rattle.tss_base.specs.declared.range.Range.{Range}
-use Rattle.tss_base.specs.declared.operand.OpName.{OpName}
-use Rattle.tss_base.specs.declared.machine.Machine.{Machine}
-use Rattle.tss_base.specs.declared.event.Event.{Event}
 use Rattle.tss_base.specs.Range.{Covers}
 use Rattle.tss_protocol.specs.State.{State}
-use Rattle.tss_protocol.specs.UnitMachine.{IsEnabled, after_event}
-use Rattle.tss_locality.specs.Extents.{SameOn, object_part, task_part}
-use Rattle.tss_locality.specs.Scopes.{Scope, IsApart, Closed}
-use Rattle.tss_locality.specs.Concerns.{Concerns}
+use Rattle.tss_locality.specs.Scopes.{IsApart, Closed}
 use Rattle.tss_locality.specs.Objects.{Objects, object_scope, Every}
-use Rattle.tss_locality.proofs.Parts.{same_object, same_task}
-use Rattle.tss_locality.proofs.EachEvent.{ChangesOnly-after_event}
 use Rattle.tss_locality.proofs.closed.FamilyScopes.{closed_family}
-
-module _ (c : Scope) (m : Machine) (S : State) (closed : Closed c S) (e : Event) (on : IsEnabled m S e)
-    (concerns : Concerns c m S e) where
-  -- an object that the event doesn't concern has the same part after it
-  pub same_object-after_event : (operands : OpName → Type 0) (x : Range) → IsApart c operands x →
-      SameOn (object_part operands x) S (after_event m S e)
-  same_object-after_event operands x apart =
-      same_object c operands x S (after_event m S e) apart (ChangesOnly-after_event c m S closed e on concerns)
-
-  -- a task that it doesn't concern has the same part after it
-  pub same_task-after_event : (n : ℕ) → (c.tasks n → ⊥) → SameOn (task_part n) S (after_event m S e)
-  same_task-after_event n other =
-      same_task c n S (after_event m S e) other (ChangesOnly-after_event c m S closed e on concerns)
 
 module _ (f : Objects) (x : Range) (tasks : ℕ → Type 0) where
   -- the links of an object stay in it whatever the tasks

@@ -1,15 +1,15 @@
 -- Agreement on less, and what a change leaves of the parts of other objects and of other tasks.
-use Rattle.std.proofs.Common.{ℕ, sym, ap, ◌∙◌, subst}
+use Rattle.std.proofs.Common.{ℕ, sym, ap, ◌∙◌}
 use Rattle.tss_base.specs.declared.range.Range.{Range}
 use Rattle.tss_base.specs.declared.operand.OpName.{OpName}
 use Rattle.tss_protocol.specs.State.{State}
-use Rattle.tss_locality.specs.Extents.{Extent, SameOn, object_part, task_part}
+use Rattle.tss_locality.specs.Extents.{Extent, SameOn, object_part}
 use Rattle.tss_locality.specs.Scopes.{Scope, ChangesOnly, IsApart}
 use Rattle.tss_locality.proofs.Agreements.{agree_less}
 use Rattle.tss_locality.proofs.Messages.{mail_less}
 
 -- a part that lies in another
-pub record LiesIn (d e : Extent) : Type 0 where
+record LiesIn (d e : Extent) : Type 0 where
   pub names : (o : OpName) → d.names o → e.names o
   pub own : (o : OpName) → d.own o → e.own o
   pub bases : (b : ℕ) → d.bases b → e.bases b
@@ -18,7 +18,7 @@ pub record LiesIn (d e : Extent) : Type 0 where
   pub tasks : (n : ℕ) → d.tasks n → e.tasks n
 
 -- two states that agree on a part agree on what lies in it
-pub same_less : (d e : Extent) (S T : State) → LiesIn d e → SameOn e S T → SameOn d S T
+same_less : (d e : Extent) (S T : State) → LiesIn d e → SameOn e S T → SameOn d S T
 same_less d e S T less f = record {
   code = f.code;
   ranges = f.ranges;
@@ -52,15 +52,4 @@ same_object c names x S T apart only = same_less (object_part names x) _ S T (re
   addresses = λ a there inside. apart.addresses a there inside;
   objects = λ y same object. apart.base y object (ap (λ (y : Range). y.base) (sym same));
   tasks = λ n p. absurd p;
-}) only
-
--- a task that a change doesn't concern has the same part after it
-pub same_task : (c : Scope) (n : ℕ) (S T : State) → (c.tasks n → ⊥) → ChangesOnly c S T → SameOn (task_part n) S T
-same_task c n S T other only = same_less (task_part n) _ S T (record {
-  names = λ o p. absurd p;
-  own = λ o same in_c. other (subst c.tasks same in_c.1);
-  bases = λ b p. absurd p;
-  addresses = λ a p. absurd p;
-  objects = λ x p. absurd p;
-  tasks = λ t same in_c. other (subst c.tasks same in_c);
 }) only

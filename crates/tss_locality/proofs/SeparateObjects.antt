@@ -1,5 +1,6 @@
 -- Objects that main has named share no address unless they are one, and so do those of a task that it spawns.
-use Rattle.std.proofs.Common.{◌≡◌, ◌≢◌, ℕ, ◌<◌, Bool, true, false, cond, List, [], ◌∷◌, ◌++◌, Option, Some, None, refl, sym, ap, ◌∙◌, subst, inl, inr, ◌⊎◌, append-nil, arith, true≢false}
+use Rattle.std.proofs.Common.{◌≡◌, ◌≢◌, ℕ, ◌<◌, Bool, true, false, cond, List, [], ◌∷◌, ◌++◌, Option, Some, None, refl}
+use Rattle.std.proofs.Common.{sym, ap, ◌∙◌, subst, inl, inr, ◌⊎◌, append-nil, arith, true≢false}
 use Rattle.std.specs.Prelude.{◌%◌, ◌==◌, ◌&&◌, not, nat_lt, max, min, Result, Ok, Err}
 use Rattle.std.specs.List.{list_any}
 use Rattle.std.proofs.lemmas.Bool.{and_parts, and_from, or_parts, or_cases}
@@ -13,7 +14,9 @@ use Rattle.tss_base.specs.declared.machine.Limits.{Limits}
 use Rattle.tss_base.specs.Range.{end_of, meets}
 use Rattle.tss_model.specs.Memory.{Memory, range_of}
 use Rattle.tss_base.specs.declared.refusals.TheConstants.{BAD_MODE, BAD_LENGTH, BAD_BASE, OBJECT_OUTSIDE, OVERLAP}
-use Rattle.tss_model.specs.Spawn.{Entry, same_range, name_object, name_objects, named_at, unnamed, objects_of, is_bad_length, is_outside, overlaps, mode_of, mode_checked, entry_checked, after_first, with_rest, entries_checked}
+use Rattle.tss_model.specs.Spawn.{Entry, same_range, name_object, name_objects, named_at, unnamed, objects_of}
+use Rattle.tss_model.specs.Spawn.{is_bad_length, is_outside, overlaps, mode_of, mode_checked, entry_checked}
+use Rattle.tss_model.specs.Spawn.{after_first, with_rest, entries_checked}
 use Rattle.tss_locality.specs.Rounds.{IsIn, AreSeparate}
 
 -- ---- members
@@ -40,7 +43,7 @@ in_either x (y ∷ xs) ys (inr h) = elim (in_either x xs ys h) [
 -- ---- ranges
 
 -- a test that passes
-pub same_from_test : (r s : Range) → same_range r s ≡ true → r ≡ s
+same_from_test : (r s : Range) → same_range r s ≡ true → r ≡ s
 same_from_test r s e =
     let parts = and_parts (r.base == s.base) (r.len == s.len) e in
     let base : r.base ≡ s.base = number_from_test r.base s.base parts.0 in
@@ -276,7 +279,8 @@ left_named (x ∷ xs) base y h = by (not (x.base == base)) (left_named xs base y
     by false still rest = inr (still rest)
 
 -- and what has another base is left
-pub still_left : (named : List Range) (base : ℕ) (y : Range) → y.base ≢ base → IsIn y named → IsIn y (unnamed named base)
+pub still_left : (named : List Range) (base : ℕ) (y : Range) → y.base ≢ base → IsIn y named
+    → IsIn y (unnamed named base)
 still_left [] base y other h = h
 still_left (x ∷ xs) base y other (inl same) =
     let test : not (x.base == base) ≡ true = passes in

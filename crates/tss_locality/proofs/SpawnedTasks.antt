@@ -1,5 +1,6 @@
 -- What an accepted spawn gives: the number of its task, and objects that are separate from those named before.
-use Rattle.std.proofs.Common.{◌≡◌, ℕ, zero, suc, Bool, true, false, cond, List, [], ◌∷◌, ◌++◌, map, length, take, Some, refl, sym, ap, ◌∙◌, subst, inl, inr, arith}
+use Rattle.std.proofs.Common.{◌≡◌, ℕ, zero, suc, Bool, true, false, cond, List, [], ◌∷◌, ◌++◌, map, length, take, Some}
+use Rattle.std.proofs.Common.{refl, sym, ap, ◌∙◌, subst, inl, inr, arith}
 use Rattle.std.specs.Prelude.{◌&&◌, nat_lt, nat_le, slice_get, Result, Ok, Err}
 use Rattle.std.proofs.Math.Seq.{take-length}
 use Rattle.std.proofs.lemmas.List.{take-append-le}
@@ -10,8 +11,10 @@ use Rattle.tss_base.specs.declared.operand.Task.{Task}
 use Rattle.tss_base.specs.declared.machine.Limits.{Limits}
 use Rattle.tss_model.specs.Memory.{Memory}
 use Rattle.tss_model.specs.Access.{operands_of, touches}
-use Rattle.tss_base.specs.declared.refusals.TheConstants.{TOO_MANY_OPERANDS, LIST_PLACE, MAIN_TOUCH, EPOCH_FULL, TOO_MANY_TASKS}
-use Rattle.tss_model.specs.Spawn.{SpawnCall, list_range, entries_at, entries_checked, merged_on, merged_operands, name_objects, objects_of, task_of, task_checked, is_misplaced, spawn_of}
+use Rattle.tss_base.specs.declared.refusals.TheConstants.{TOO_MANY_OPERANDS, LIST_PLACE, MAIN_TOUCH, EPOCH_FULL}
+use Rattle.tss_base.specs.declared.refusals.TheConstants.{TOO_MANY_TASKS}
+use Rattle.tss_model.specs.Spawn.{SpawnCall, list_range, entries_at, entries_checked, merged_on, merged_operands}
+use Rattle.tss_model.specs.Spawn.{name_objects, objects_of, task_of, task_checked, is_misplaced, spawn_of}
 use Rattle.tss_locality.specs.Rounds.{IsIn, AreSeparate}
 use Rattle.tss_locality.proofs.SeparateObjects.{in_front, in_back, separate_listed, from_named, separate_fewer}
 

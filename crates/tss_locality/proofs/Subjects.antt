@@ -1,8 +1,7 @@
 -- An event of an operand or version concerns its object and its task; start and exec concern the objects of a task's
 -- operands and that task; finish concerns that task.
-use Rattle.std.proofs.Common.{◌≡◌, ℕ, suc, cond, inl, inr, arith, List, ◌∷◌, Some, None, refl, sym, ap, ◌∙◌, subst}
-use Rattle.std.specs.Prelude.{slice_get, Result, Ok, Err}
-use Rattle.std.specs.FinMap.{get}
+use Rattle.std.proofs.Common.{◌≡◌, ℕ, cond, inl, inr, Some, None, sym, ap, ◌∙◌}
+use Rattle.std.specs.Prelude.{slice_get}
 use Rattle.std.proofs.lemmas.Option.{none-some, same_Some}
 use Rattle.tss_base.specs.declared.range.Range.{Range}
 use Rattle.tss_base.specs.declared.operand.OpName.{OpName}
@@ -14,28 +13,17 @@ use Rattle.tss_base.specs.declared.event.Event.TheVariants as event
 use Rattle.tss_base.specs.Range.{Covers}
 use Rattle.tss_maps.proofs.Keys.{nat_order, decide_key}
 use Rattle.tss_model.specs.Access.{operands_of}
-use Rattle.tss_model.specs.MainStep.{Call, ExitCall, Spawn, Barrier, Print, Await, Unknown, spawn_call, spawn_on, main_call}
-use Rattle.tss_model.specs.Spawn.{spawn_of}
-use Rattle.tss_protocol.specs.Names.{operand_name}
-use Rattle.tss_protocol.specs.State.{Flying, Busy, State}
+use Rattle.tss_protocol.specs.State.{State}
 use Rattle.tss_protocol.specs.UnitMachine.{IsEnabled, after_event}
 use Rattle.tss_locality.specs.Agreement.{operand_in}
-use Rattle.tss_locality.specs.Extents.{SameOn, object_part, task_part}
-use Rattle.tss_locality.specs.Scopes.{Scope, IsInside, ChangesOnly, Closed}
-use Rattle.tss_locality.specs.Concerns.{IsFree, ConcernsTake, ConcernsFinish, OperandsIn, ConcernsStart, ConcernsExec, Concerns, FindsOwn}
-use Rattle.tss_locality.specs.Objects.{task_scope, main_scope, Objects, object_scope, Every, LinksStay, subject, IsObjectOf, operands_scope, OperandsNamed}
-use Rattle.tss_locality.proofs.Parts.{same_object, same_task}
+use Rattle.tss_locality.specs.Extents.{SameOn, object_part}
+use Rattle.tss_locality.specs.Scopes.{Scope, ChangesOnly, Closed}
+use Rattle.tss_locality.specs.Concerns.{Concerns, FindsOwn}
+use Rattle.tss_locality.specs.Objects.{Objects, object_scope, LinksStay, subject}
+use Rattle.tss_locality.proofs.Parts.{same_object}
 use Rattle.tss_locality.proofs.EachEvent.{ChangesOnly-after_event}
-use Rattle.tss_locality.proofs.SpawnedTasks.{accepted_number}
 use Rattle.tss_locality.proofs.Tasks.{other_number}
-use Rattle.tss_locality.proofs.TakeEvent.{ChangesOnly-take}
-use Rattle.tss_locality.proofs.MainEventLemmas.{ChangesOnly-main}
-use Rattle.tss_locality.proofs.WorkerEvents.{ChangesOnly-start, ChangesOnly-exec, ChangesOnly-finish}
-use Rattle.tss_locality.proofs.closed.FamilyScopes.{closed_family}
 use Rattle.tss_locality.proofs.OtherParts.{closed_tasks, apart_object}
-
-same_head : (t u : ℕ) (ts us : List ℕ) → t ∷ ts ≡ u ∷ us → t ≡ u
-same_head t u ts us e = cc
 
 -- an operand in the inbox's task has the task's number
 pub arrival_task : (t : Task) (o : OpName) (p : Operand) → operand_in (Some t) o ≡ Some p → o.task ≡ t.number
@@ -45,81 +33,25 @@ arrival_task t o p e = elim (decide_key nat_order t.number o.task) [
       (other_number t.number o.task other)) ∙ e))
 ]
 
-module _ (m : Machine) (S : State) where
-  -- finish concerns its worker's task alone
-  pub ChangesOnly-finishing : (w : ℕ) (b : Busy) → get S.workers w ≡ Some b →
-      ChangesOnly (task_scope b.task.number) S (after_event m S (event.Finish w))
-  ChangesOnly-finishing w b there = ChangesOnly-finish (task_scope b.task.number) m S w (λ d e.
-      subst (ConcernsFinish (task_scope b.task.number) S) (same_Some b d (sym there ∙ e))
-      (record { task = refl; names = λ o r same e. same }))
-
-  -- take concerns the task that is taken alone
-  pub ChangesOnly-taking : (t : Task) → S.inbox ≡ Some t → get S.flight t.number ≡ None →
-      ChangesOnly (task_scope t.number) S (after_event m S event.Take)
-  ChangesOnly-taking t there fresh = ChangesOnly-take (task_scope t.number) m S (λ d e.
-      subst (ConcernsTake (task_scope t.number) S) (same_Some t d (sym there ∙ e)) (record {
-        spawned = record { task = refl; names = λ o p at. arrival_task t o p at };
-        fresh = fresh;
-      }))
-
-  accepted : (r : Result Task ℕ) →
-      spawn_of (spawn_call S.main.registers) S.home S.main.epoch m.limits S.main.spawned ≡ r → (t : Task) →
-      (spawn_on S.main r).1 ≡ Some t → t.number ≡ suc S.main.spawned
-  accepted (Ok u) there t e =
-      ap (λ (t : Task). t.number) (sym (same_Some u t e))
-      ∙ accepted_number (spawn_call S.main.registers) S.home S.main.epoch m.limits S.main.spawned u there
-  accepted (Err n) there t e = absurd (none-some t e)
-
-  -- a task that main's call spawns has the next number
-  pub spawned_number : (x : Call) (t : Task) → (main_call m.limits S.home S.main x).1 ≡ Some t →
-      t.number ≡ suc S.main.spawned
-  spawned_number ExitCall t e = absurd (none-some t e)
-  spawned_number Spawn t e =
-      accepted (spawn_of (spawn_call S.main.registers) S.home S.main.epoch m.limits S.main.spawned) refl t e
-  spawned_number Barrier t e = absurd (none-some t e)
-  spawned_number Print t e = absurd (none-some t e)
-  spawned_number Await t e = absurd (none-some t e)
-  spawned_number (Unknown n) t e = absurd (none-some t e)
-
-  -- an address of no named object, alone
-  free_inside : (a : ℕ) → IsFree S a → IsInside (main_scope S) a
-  free_inside a free = (
-    record { base = a; len = 1 },
-    λ b covered. subst (IsFree S) (only_one b covered) free,
-    (omega arith, omega arith),
-  )
-    where
-      only_one : (b : ℕ) → Covers (record { base = a; len = 1 }) b → a ≡ b
-      only_one b covered = omega (arith, covered.0, covered.1)
-
-  -- main concerns the task that it spawns and the addresses of no object that it has named
-  pub ChangesOnly-main_event : IsEnabled m S event.Main → ChangesOnly (main_scope S) S (after_event m S event.Main)
-  ChangesOnly-main_event on = ChangesOnly-main (main_scope S) m S (record {
-    spawned = λ x next t e. record {
-      task = spawned_number x t e;
-      names = λ o p at. arrival_task t o p at ∙ spawned_number x t e;
-    };
-    addresses = free_inside;
-  }) on
-
 module _ (f : Objects) (m : Machine) (S : State) (links : LinksStay f S) where
   -- the task of a name
-  abbrev pub OfTask : OpName → ℕ → Type 0
+  abbrev OfTask : OpName → ℕ → Type 0
   OfTask o n = n ≡ o.task
 
   -- the scope of an operand: its object and its task
-  abbrev pub operand_scope : OpName → Range → Scope
+  abbrev operand_scope : OpName → Range → Scope
   operand_scope o x = object_scope f x (OfTask o)
 
   -- its links stay in it
-  pub closed_operand : (o : OpName) (x : Range) → f o ≡ Some x → Closed (operand_scope o x) S
+  closed_operand : (o : OpName) (x : Range) → f o ≡ Some x → Closed (operand_scope o x) S
   closed_operand o x fo = closed_tasks f x (OfTask o) S (links o x fo)
 
   -- an event of an operand or version concerns its object and its task alone, where decodes find entries of their own
   -- objects
-  pub ChangesOnly-subject : ((o : OpName) → FindsOwn S o) → (e : Event) (o : OpName) (x : Range) → subject e ≡ Some o →
+  ChangesOnly-subject : ((o : OpName) → FindsOwn S o) → (e : Event) (o : OpName) (x : Range) → subject e ≡ Some o →
       f o ≡ Some x → IsEnabled m S e → ChangesOnly (operand_scope o x) S (after_event m S e)
-  ChangesOnly-subject finds e o x is fo on = ChangesOnly-after_event (operand_scope o x) m S (closed_operand o x fo) e on
+  ChangesOnly-subject finds e o x is fo on =
+      ChangesOnly-after_event (operand_scope o x) m S (closed_operand o x fo) e on
       (concerns e is)
     where
       own : (q : OpName) → Some q ≡ Some o → (f q ≡ Some x) × (q.task ≡ o.task)
@@ -153,66 +85,3 @@ module _ (f : Objects) (m : Machine) (S : State) (links : LinksStay f S) where
   other_object-subject finds e o x y is fo on bases addresses =
       same_object (operand_scope o x) (λ q. f q ≡ Some y) y S (after_event m S e)
       (apart_object f x (OfTask o) y bases addresses) (ChangesOnly-subject finds e o x is fo on)
-
-  -- and that of another task
-  pub other_task-subject : ((o : OpName) → FindsOwn S o) → (e : Event) (o : OpName) (x : Range) (n : ℕ) →
-      subject e ≡ Some o → f o ≡ Some x → IsEnabled m S e → (n ≡ o.task → ⊥) → SameOn (task_part n) S (after_event m S e)
-  other_task-subject finds e o x n is fo on other =
-      same_task (operand_scope o x) n S (after_event m S e) other (ChangesOnly-subject finds e o x is fo on)
-
-  -- ---- tasks
-
-  -- the objects of operands that are named have links that stay in them
-  pub closed_operands : (os : List Operand) (n : ℕ) (tasks : ℕ → Type 0) → OperandsNamed f n os →
-      Closed (operands_scope f os tasks) S
-  closed_operands os n tasks named = closed_family (operands_scope f os tasks) S (record {
-    of_name = λ o p. (
-      object_scope f p.0 Every,
-      record {
-        closed = links o p.0 p.1;
-        within = record { names = λ q e. (p.0, e, p.2); objects = λ y e. subst (IsObjectOf os) (sym e) p.2 };
-      },
-      p.1,
-    );
-    of_object = λ x p. (
-      object_scope f x Every,
-      record {
-        closed = links (operand_name n p.0) x (named p.0 p.1 p.2 ∙ ap Some p.3);
-        within = record { names = λ q e. (x, e, p); objects = λ y e. subst (IsObjectOf os) (sym e) p };
-      },
-      refl,
-    );
-  })
-
-  -- an operand that is named is of the scope
-  named_in : (os : List Operand) (n : ℕ) (tasks : ℕ → Type 0) → OperandsNamed f n os →
-      OperandsIn (operands_scope f os tasks) n os
-  named_in os n tasks named k p e = ((p.object, named k p e, (k, p, e, refl)), (k, p, e, refl))
-
-  -- start concerns the front task and the objects of its operands
-  pub ChangesOnly-starting : (w t : ℕ) (ts : List ℕ) (x : Flying) → IsEnabled m S (event.Start w) → S.queue ≡ t ∷ ts →
-      get S.flight t ≡ Some x → x.task.number ≡ t → OperandsNamed f t (operands_of x.task) →
-      ChangesOnly (operands_scope f (operands_of x.task) (λ n. n ≡ t)) S (after_event m S (event.Start w))
-  ChangesOnly-starting w t ts x on front there number named =
-      let c = operands_scope f (operands_of x.task) (λ n. n ≡ t) in
-      ChangesOnly-start c m S (closed_operands (operands_of x.task) t (λ n. n ≡ t) named) w on (λ u us y e at.
-      let same : t ≡ u = same_head t u ts us (sym front ∙ e) in
-      subst (λ u. ConcernsStart c u y) same
-      (subst (ConcernsStart c t) (same_Some x y (sym there ∙ ap (get S.flight) same ∙ at)) (record {
-        number = number;
-        task = refl;
-        operands = named_in (operands_of x.task) t (λ n. n ≡ t) named;
-      })))
-
-  -- exec concerns the worker's task and the objects of its operands
-  pub ChangesOnly-executing : (w : ℕ) (b : Busy) → get S.workers w ≡ Some b →
-      OperandsNamed f b.task.number (operands_of b.task) →
-      ChangesOnly (operands_scope f (operands_of b.task) (λ n. n ≡ b.task.number)) S (after_event m S (event.Exec w))
-  ChangesOnly-executing w b there named =
-      let c = operands_scope f (operands_of b.task) (λ n. n ≡ b.task.number) in
-      let n = b.task.number in
-      ChangesOnly-exec c m S (closed_operands (operands_of b.task) n (λ n. n ≡ b.task.number) named) w (λ d e.
-      subst (ConcernsExec c) (same_Some b d (sym there ∙ e)) (record {
-        task = refl;
-        operands = named_in (operands_of b.task) n (λ n. n ≡ b.task.number) named;
-      }))

@@ -30,7 +30,7 @@ pub own_arrival : (t : Task) (k : ℕ) → operand_in (Some t) (operand_name t.n
 own_arrival t k = ap (λ b. cond b (slice_get (operands_of t) k) None) (same_number t.number)
 
 -- the operands of a task of the scope have names of it
-pub own_names : (c : Scope) (t : Task) → ConcernsTask c t → (k : ℕ) (o : Operand) →
+own_names : (c : Scope) (t : Task) → ConcernsTask c t → (k : ℕ) (o : Operand) →
     slice_get (operands_of t) k ≡ Some o →
     c.names (operand_name t.number k)
 own_names c t p k o e = p.names (operand_name t.number k) o (own_arrival t k ∙ e)

@@ -9,7 +9,8 @@ use Rattle.tss_protocol.specs.Mail.{Source}
 use Rattle.tss_protocol.specs.State.{State}
 use Rattle.tss_protocol.specs.Stations.{after_ready, after_link, after_bye}
 use Rattle.tss_protocol.specs.Workers.{Stores}
-use Rattle.tss_protocol.specs.UnitMachine.{stores_of, with_stores, without, queue_with, ready_message_taken, link_message_taken, bye_message_taken, after_event}
+use Rattle.tss_protocol.specs.UnitMachine.{stores_of, with_stores, without, queue_with, ready_message_taken}
+use Rattle.tss_protocol.specs.UnitMachine.{link_message_taken, bye_message_taken, after_event}
 use Rattle.tss_locality.specs.Scopes.{Scope, IsOwn, beyond, ChangesOnly, Closed}
 use Rattle.tss_locality.proofs.Messages.{named_from_all_in}
 use Rattle.tss_locality.proofs.States.{state_home, state_flight, state_queue, state_contents}

@@ -1,5 +1,6 @@
 -- What the stations do to a task's records stays in a scope: ready, link, bye and finish, and a task that enters.
-use Rattle.std.proofs.Common.{◌≡◌, ℕ, suc, ◌+◌, add-zero, Bool, true, false, cond, List, [], ◌∷◌, ◌++◌, Option, Some, None, refl, sym, ap, ◌∙◌, subst, inl, inr, arith}
+use Rattle.std.proofs.Common.{◌≡◌, ℕ, suc, ◌+◌, add-zero, Bool, true, false, cond, List, [], ◌∷◌, ◌++◌, Option, Some}
+use Rattle.std.proofs.Common.{None, refl, sym, ap, ◌∙◌, subst, inl, inr, arith}
 use Rattle.std.specs.Prelude.{◌==◌, slice_get}
 use Rattle.std.proofs.lemmas.Bool.Decides.{nat_tests}
 use Rattle.std.specs.FinMap.{get, insert}
@@ -15,13 +16,19 @@ use Rattle.tss_protocol.specs.Names.{operand_name}
 use Rattle.tss_protocol.specs.Mail.{Source, Message}
 use Rattle.tss_protocol.specs.State.{OperandState, Flying, Outcome}
 use Rattle.tss_protocol.specs.Gateway.{names_from, held_with, decodes_from}
-use Rattle.tss_protocol.specs.Stations.{operand_at, with_operand, is_complete, task_after_ready, operand_after_ready, sent_by_ready, Woken, woken_by, woken_in, after_ready, sent_by_link, operand_after_link, linked_by, linked_in, after_link, release_of, releases_from, finished_in, flight_after_finish, operand_after_bye, parted_by, parted_in, after_bye}
+use Rattle.tss_protocol.specs.Stations.{operand_at, with_operand, is_complete, task_after_ready, operand_after_ready}
+use Rattle.tss_protocol.specs.Stations.{sent_by_ready, Woken, woken_by, woken_in, after_ready, sent_by_link}
+use Rattle.tss_protocol.specs.Stations.{operand_after_link, linked_by, linked_in, after_link, release_of, releases_from}
+use Rattle.tss_protocol.specs.Stations.{finished_in, flight_after_finish, operand_after_bye, parted_by, parted_in}
+use Rattle.tss_protocol.specs.Stations.{after_bye}
 use Rattle.tss_protocol.specs.UnitMachine.{queue_with}
 use Rattle.tss_locality.specs.Agreement.{Beyond, AgreeAt, SameShape, times_in}
-use Rattle.tss_locality.specs.Scopes.{Scope, IsOwn, beyond, SourceIn, MaybeSourceIn, LinkIn, RecordIn, MessagesIn, AreSentIn, ClosedFlight}
+use Rattle.tss_locality.specs.Scopes.{Scope, IsOwn, beyond, SourceIn, MaybeSourceIn, LinkIn, RecordIn, MessagesIn}
+use Rattle.tss_locality.specs.Scopes.{AreSentIn, ClosedFlight}
 use Rattle.tss_locality.proofs.Agreements.{agree_then, agree_inserted}
 use Rattle.tss_locality.proofs.States.{FlightOn, shape_same, same_flight}
-use Rattle.tss_locality.proofs.Flights.{record_in, KeepsTask, keeps_records, keeps_with_operand, flight_inserted, flight_remaining}
+use Rattle.tss_locality.proofs.Flights.{record_in, KeepsTask, keeps_records, keeps_with_operand, flight_inserted}
+use Rattle.tss_locality.proofs.Flights.{flight_remaining}
 
 -- ---- the queue
 

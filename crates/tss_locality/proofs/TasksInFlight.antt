@@ -1,5 +1,6 @@
 -- What holds of each task in flight under its number holds after every event, where it holds of a task that is taken.
-use Rattle.std.proofs.Common.{◌≡◌, ℕ, Bool, true, false, cond, List, [], ◌∷◌, Option, Some, None, refl, sym, ap, ◌∙◌, subst, inl, inr}
+use Rattle.std.proofs.Common.{◌≡◌, ℕ, Bool, true, false, cond, List, [], ◌∷◌, Option, Some, None, refl, sym, ap, ◌∙◌}
+use Rattle.std.proofs.Common.{subst, inl, inr}
 use Rattle.std.specs.Prelude.{slice_get}
 use Rattle.std.specs.FinMap.{get, insert, remove, get-empty}
 use Rattle.std.specs.Ordering.{nat_cmp}
@@ -16,8 +17,11 @@ use Rattle.tss_maps.proofs.Keys.{nat_order}
 use Rattle.tss_maps.proofs.Changes.{from_inserted, from_removed}
 use Rattle.tss_protocol.specs.Mail.{Source}
 use Rattle.tss_protocol.specs.State.{OperandState, Flying, Busy, State, initial_state}
-use Rattle.tss_protocol.specs.Stations.{is_gone, remaining_tasks, with_operand, is_complete, task_after_ready, woken_by, woken_in, operand_after_link, linked_by, linked_in, entered, finished_in, operand_after_bye, parted_by, parted_in}
-use Rattle.tss_protocol.specs.UnitMachine.{without, after_take, ready_message_taken, link_message_taken, bye_message_taken, start_task, after_start, after_finish, after_event}
+use Rattle.tss_protocol.specs.Stations.{is_gone, remaining_tasks, with_operand, is_complete, task_after_ready, woken_by}
+use Rattle.tss_protocol.specs.Stations.{woken_in, operand_after_link, linked_by, linked_in, entered, finished_in}
+use Rattle.tss_protocol.specs.Stations.{operand_after_bye, parted_by, parted_in}
+use Rattle.tss_protocol.specs.UnitMachine.{without, after_take, ready_message_taken, link_message_taken}
+use Rattle.tss_protocol.specs.UnitMachine.{bye_message_taken, start_task, after_start, after_finish, after_event}
 use Rattle.tss_locality.proofs.LeftFields.{Leaves-after_event}
 
 -- this holds of each task in flight, by its number

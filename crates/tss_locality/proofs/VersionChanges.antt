@@ -10,10 +10,14 @@ use Rattle.tss_base.specs.Names.{Named}
 use Rattle.tss_maps.proofs.Keys.{name_order}
 use Rattle.tss_protocol.specs.Mail.{StorageName, Home, Buffer, Message}
 use Rattle.tss_protocol.specs.State.{Version}
-use Rattle.tss_protocol.specs.Versions.{Versioned, Settling, sending, put_version, drop_version, version_changed, change_version, change_named, ready_with, buffer_of, died, may_die, may_ask, followed_by, unlinked, settle_how, settle_asking, unchanged, settle_by, settle_at, settle, settled}
+use Rattle.tss_protocol.specs.Versions.{Versioned, Settling, sending, put_version, drop_version, version_changed}
+use Rattle.tss_protocol.specs.Versions.{change_version, change_named, ready_with, buffer_of, died, may_die, may_ask}
+use Rattle.tss_protocol.specs.Versions.{followed_by, unlinked, settle_how, settle_asking, unchanged, settle_by}
+use Rattle.tss_protocol.specs.Versions.{settle_at, settle, settled}
 use Rattle.tss_locality.specs.Agreement.{Beyond, AgreeAt}
 use Rattle.tss_locality.specs.Scopes.{Scope, NameIn, MaybeStorageIn, FollowIn, VersionIn, MessagesIn, ClosedVersions}
-use Rattle.tss_locality.proofs.Agreements.{agree_same, agree_then, agree_inserted, agree_removed, closed_inserted, closed_removed}
+use Rattle.tss_locality.proofs.Agreements.{agree_same, agree_then, agree_inserted, agree_removed, closed_inserted}
+use Rattle.tss_locality.proofs.Agreements.{closed_removed}
 
 -- no version beyond the scope is changed, and those of the scope are closed
 pub record VersionsOnly (c : Scope) (vs ws : Named Version) : Type 0 where
@@ -39,7 +43,7 @@ ready_in c o v None p q i = tt
 ready_in c o v (Some s) p q i = ((p, (q, i)), tt)
 
 -- the buffer of a storage
-pub buffer_in : (c : Scope) (s : Option StorageName) → MaybeStorageIn c s → NameIn c (buffer_of s)
+buffer_in : (c : Scope) (s : Option StorageName) → MaybeStorageIn c s → NameIn c (buffer_of s)
 buffer_in c None i = tt
 buffer_in c (Some Home) i = tt
 buffer_in c (Some (Buffer b)) i = i
@@ -65,7 +69,7 @@ module _ (c : Scope) (vs : Named Version) where
     }
 
     -- a version of the scope is dropped
-    pub versions_drop : (v : OpName) → c.names v → VersionsOnly c vs (drop_version ws v)
+    versions_drop : (v : OpName) → c.names v → VersionsOnly c vs (drop_version ws v)
     versions_drop v p = record {
       same = agree_then (Beyond c.names) vs ws (remove ws v) f.same (agree_removed name_order c.names ws v p);
       closed = closed_removed name_order c.names (VersionIn c) ws v f.closed;
@@ -82,7 +86,7 @@ module _ (c : Scope) (vs : Named Version) where
     versions_change v g p keeps = versions_changed v g (get ws v) refl p keeps
 
     -- the same of a version that may not be named
-    pub versions_change_named : (v : Option OpName) (g : Version → Version) → NameIn c v →
+    versions_change_named : (v : Option OpName) (g : Version → Version) → NameIn c v →
         ((x : Version) → VersionIn c x → VersionIn c (g x)) → VersionsOnly c vs (change_named ws v g)
     versions_change_named None g p keeps = f
     versions_change_named (Some v) g p keeps = versions_change v g p keeps
@@ -96,7 +100,7 @@ module _ (c : Scope) (vs : Named Version) where
   follow_in s (Some f) p = p
 
   -- v is removed from between its predecessor and its successor
-  pub versions_unlinked : (ws : Named Version) → VersionsOnly c vs ws → (v : OpName) (x : Version) (s : OpName) →
+  versions_unlinked : (ws : Named Version) → VersionsOnly c vs ws → (v : OpName) (x : Version) (s : OpName) →
       c.names v → VersionIn c x → c.names s → VersionsOnly c vs (unlinked ws v x s)
   versions_unlinked ws f v x s p i q =
       let without = drop_version ws v in
@@ -127,7 +131,7 @@ module _ (c : Scope) (vs : Named Version) where
   -- ---- settle
 
   -- what settles a version of the scope stays in it
-  abbrev pub SettlesIn : Settling → Type 0
+  abbrev SettlesIn : Settling → Type 0
   SettlesIn go = (ws : Named Version) (v : OpName) → VersionsOnly c vs ws → c.names v → StaysIn c vs (go ws v)
 
   module _ (ws : Named Version) (f : VersionsOnly c vs ws) (v : OpName) (p : c.names v) (go : Settling)
@@ -183,7 +187,7 @@ module _ (c : Scope) (vs : Named Version) where
     stays_at (Some x) there = let i = f.closed v x p there in stays_by x x.successor i i.successor
 
   -- settle stays in the scope
-  pub stays_settle : (n : ℕ) → SettlesIn (settle n)
+  stays_settle : (n : ℕ) → SettlesIn (settle n)
   unfolding settle
   stays_settle zero ws v f p = stays_unchanged ws f
   stays_settle (suc n) ws v f p = stays_at ws f v p (settle n) (stays_settle n) (get ws v) refl

@@ -12,9 +12,16 @@ use Rattle.tss_base.specs.declared.marks.Follow.{Follow}
 use Rattle.tss_base.specs.Names.{Named}
 use Rattle.tss_protocol.specs.Mail.{StorageName, OpenContents, ReleaseContents, Bye}
 use Rattle.tss_protocol.specs.State.{Version}
-use Rattle.tss_protocol.specs.Versions.{put_version, ready_with, settled, new_version, first_version, followed, opened_how, opened_by, after_open, enlisted, used_alone, used_behind, used_at, after_use, head_ready, produced_now, released_by_producer, is_last, tail_without, released_once, released_by_reader, released_by, released_at, after_release, refused_once, nacked_at, after_nack}
-use Rattle.tss_locality.specs.Scopes.{Scope, IsOwn, NameIn, MaybeStorageIn, FollowIn, VersionIn, OpeningIn, MessagesIn, ClosedVersions}
-use Rattle.tss_locality.proofs.VersionChanges.{VersionsOnly, StaysIn, messages_append, ready_in, stays_sending, versions_none, versions_put, versions_change, stays_unchanged, stays_settled}
+use Rattle.tss_protocol.specs.Versions.{put_version, ready_with, settled, new_version, first_version, followed}
+use Rattle.tss_protocol.specs.Versions.{opened_how, opened_by, after_open, enlisted, used_alone, used_behind, used_at}
+use Rattle.tss_protocol.specs.Versions.{after_use, head_ready, produced_now, released_by_producer, is_last}
+use Rattle.tss_protocol.specs.Versions.{tail_without, released_once, released_by_reader, released_by, released_at}
+use Rattle.tss_protocol.specs.Versions.{after_release, refused_once, nacked_at, after_nack}
+use Rattle.tss_locality.specs.Scopes.{Scope, IsOwn, NameIn, MaybeStorageIn, FollowIn, VersionIn, OpeningIn, MessagesIn}
+use Rattle.tss_locality.specs.Scopes.{ClosedVersions}
+use Rattle.tss_locality.proofs.VersionChanges.{VersionsOnly, StaysIn, messages_append, ready_in, stays_sending}
+use Rattle.tss_locality.proofs.VersionChanges.{versions_none, versions_put, versions_change, stays_unchanged}
+use Rattle.tss_locality.proofs.VersionChanges.{stays_settled}
 
 module _ (c : Scope) (vs : Named Version) (closed : ClosedVersions c vs) where
   none : VersionsOnly c vs vs

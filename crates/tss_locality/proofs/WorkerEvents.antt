@@ -1,6 +1,7 @@
 -- Start and exec concern a worker's task and the storages of its operands, and finish the task with the names of its
 -- operands.
-use Rattle.std.proofs.Common.{◌≡◌, ℕ, zero, suc, Bool, true, false, cond, List, [], ◌∷◌, Option, Some, None, refl, sym, ap, ◌∙◌, subst}
+use Rattle.std.proofs.Common.{◌≡◌, ℕ, zero, suc, Bool, true, false, cond, List, [], ◌∷◌, Option, Some, None, refl, sym}
+use Rattle.std.proofs.Common.{ap, ◌∙◌, subst}
 use Rattle.std.specs.Prelude.{nat_lt, is_none, map, slice_get}
 use Rattle.std.specs.FinMap.{get, insert, remove}
 use Rattle.std.proofs.lemmas.Bool.{and_parts}
@@ -15,8 +16,10 @@ use Rattle.tss_protocol.specs.Names.{operand_name}
 use Rattle.tss_protocol.specs.Mail.{StorageName, Source}
 use Rattle.tss_protocol.specs.State.{OperandState, Flying, Busy, HeldTrap, State}
 use Rattle.tss_protocol.specs.Stations.{flight_after_start, flight_after_finish, storage_of, storages_of}
-use Rattle.tss_protocol.specs.Workers.{placed_in, worker_byte, can_start, busy_at_start, stores_after_start, exec_stretch, task_state_of, busy_after, trap_after_finish}
-use Rattle.tss_protocol.specs.UnitMachine.{stores_of, start_task, after_start, after_exec, finish_task, after_finish, is_enabled, IsEnabled, after_event}
+use Rattle.tss_protocol.specs.Workers.{placed_in, worker_byte, can_start, busy_at_start, stores_after_start}
+use Rattle.tss_protocol.specs.Workers.{exec_stretch, task_state_of, busy_after, trap_after_finish}
+use Rattle.tss_protocol.specs.UnitMachine.{stores_of, start_task, after_start, after_exec, finish_task, after_finish}
+use Rattle.tss_protocol.specs.UnitMachine.{is_enabled, IsEnabled, after_event}
 use Rattle.tss_locality.specs.Agreement.{Beyond, times_in}
 use Rattle.tss_locality.specs.Scopes.{Scope, beyond, ChangesOnly, StorageIn, MaybeSourceIn, Closed}
 use Rattle.tss_locality.specs.Concerns.{ConcernsFinish, ConcernsStart, ConcernsExec}

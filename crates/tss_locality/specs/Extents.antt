@@ -52,14 +52,3 @@ object_part names x = record {
   objects = λ y. y ≡ x;
   tasks = λ n. ⊥;
 }
-
--- the part of a task: itself, and what it has under the names of its own operands
-abbrev pub task_part : ℕ → Extent
-task_part n = record {
-  names = λ o. ⊥;
-  own = λ o. o.task ≡ n;
-  bases = λ b. ⊥;
-  addresses = λ a. ⊥;
-  objects = λ x. ⊥;
-  tasks = λ t. t ≡ n;
-}

@@ -1,6 +1,6 @@
 -- Objects with the names of their operands: the scope of one object, that links stay within an object, and that each
 -- name has its object.
-use Rattle.std.specs.Prelude.{◌≡◌, ℕ, suc, List, slice_get, Option, Some, None}
+use Rattle.std.specs.Prelude.{◌≡◌, ℕ, slice_get, Option, Some, None}
 use Rattle.std.specs.FinMap.{get}
 use Rattle.tss_base.specs.declared.range.Range.{Range}
 use Rattle.tss_base.specs.declared.operand.OpName.{OpName}
@@ -9,7 +9,6 @@ use Rattle.tss_base.specs.declared.operand.Task.{Task}
 use Rattle.tss_base.specs.declared.machine.Machine.{Machine}
 use Rattle.tss_base.specs.declared.event.Event.{Event}
 use Rattle.tss_base.specs.declared.event.Event.TheVariants as event
-use Rattle.tss_base.specs.Range.{Covers}
 use Rattle.tss_base.specs.Names.{Named, Numbered}
 use Rattle.tss_model.specs.MainStep.{Call, main_call}
 use Rattle.tss_protocol.specs.Names.{operand_name}
@@ -18,7 +17,7 @@ use Rattle.tss_protocol.specs.State.{OperandState, Flying, Busy, Entry, CopyStat
 use Rattle.tss_protocol.specs.Stations.{operand_at}
 use Rattle.tss_protocol.specs.MainEvent.{call_next}
 use Rattle.tss_locality.specs.Agreement.{operand_in}
-use Rattle.tss_locality.specs.Concerns.{IsFree, FindsOwn}
+use Rattle.tss_locality.specs.Concerns.{FindsOwn}
 use Rattle.tss_locality.specs.Scopes.{Scope, Closed}
 
 -- the object of each operand of a task that was spawned, by its name
@@ -147,31 +146,3 @@ subject (event.Nack v) = Some v
 subject (event.Retire v) = Some v
 subject (event.Copy b) = None
 subject (event.Gone v) = Some v
-
--- the object of one of these operands
-abbrev pub IsObjectOf : List Operand → Range → Type 0
-IsObjectOf os x = (k : ℕ) × (p : Operand) × (slice_get os k ≡ Some p) × (p.object ≡ x)
-
--- the objects of these operands with the names of all operands on them, and these tasks
-abbrev pub operands_scope : Objects → List Operand → (ℕ → Type 0) → Scope
-operands_scope f os tasks = record {
-  names = λ o. (x : Range) × (f o ≡ Some x) × IsObjectOf os x;
-  objects = IsObjectOf os;
-  tasks = tasks;
-}
-
--- the operands of a task of this number have their objects
-abbrev pub OperandsNamed : Objects → ℕ → List Operand → Type 0
-OperandsNamed f n os = (k : ℕ) (p : Operand) → slice_get os k ≡ Some p → f (operand_name n k) ≡ Some p.object
-
--- a task with all names of its operands, and no object
-abbrev pub task_scope : ℕ → Scope
-task_scope n = record { names = λ o. o.task ≡ n; objects = λ x. ⊥; tasks = λ t. t ≡ n }
-
--- main's next task, with all names of its operands, and each range without an address of an object that main has named
-abbrev pub main_scope : State → Scope
-main_scope S = record {
-  names = λ o. o.task ≡ suc S.main.spawned;
-  objects = λ x. (a : ℕ) → Covers x a → IsFree S a;
-  tasks = λ t. t ≡ suc S.main.spawned;
-}

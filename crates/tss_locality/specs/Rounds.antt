@@ -47,11 +47,11 @@ pub record AreInUse (named : List Range) (S : State) : Type 0 where
   pub decoding : (o : OpName) (p : Operand) → get S.mail.decodes o ≡ Some p → IsIn p.object named
   pub entered : (b : ℕ) (e : Entry) → get S.entries b ≡ Some e → IsIn e.object named
 
--- the tasks since the last barrier: each has its own number, and none a number above that of main's last. The objects in
--- use are named, and named objects are separate. The inbox has the last of the tasks, each task in flight is one of them
--- that stands under its number, below that of the inbox's task, and each worker's task is one of them. Each name and
--- each link stays within its object. An object that main has awaited is no longer named, though tasks since the last
--- barrier have it, and may be named anew with other bounds
+-- the tasks since the last barrier: each has its own number, and none a number above that of main's last. The objects
+-- in use are named, and named objects are separate. The inbox has the last of the tasks, each task in flight is one of
+-- them that stands under its number, below that of the inbox's task, and each worker's task is one of them. Each name
+-- and each link stays within its object. An object that main has awaited is no longer named, though tasks since the
+-- last barrier have it, and may be named anew with other bounds
 pub record IsRounded (S : State) (ts : List Task) : Type 0 where
   pub numbers : (k : ℕ) (t : Task) → slice_get ts k ≡ Some t → t.number ≤ S.main.spawned
   pub one : (j k : ℕ) (t u : Task) → slice_get ts j ≡ Some t → slice_get ts k ≡ Some u → t.number ≡ u.number → t ≡ u

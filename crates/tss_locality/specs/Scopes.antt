@@ -10,7 +10,8 @@ use Rattle.tss_base.specs.declared.marks.Follow.{Follow}
 use Rattle.tss_base.specs.Range.{Covers}
 use Rattle.tss_base.specs.Names.{Named, Numbered}
 use Rattle.tss_protocol.specs.Names.{operand_name}
-use Rattle.tss_protocol.specs.Mail.{StorageName, Home, Buffer, Source, OpenContents, GoneContents, Message, Decode, Ack, Open, Use, Ready, Link, Release, Bye, Idle, Nack, Retire, Gone, Mail}
+use Rattle.tss_protocol.specs.Mail.{StorageName, Home, Buffer, Source, OpenContents, GoneContents, Message, Decode, Ack}
+use Rattle.tss_protocol.specs.Mail.{Open, Use, Ready, Link, Release, Bye, Idle, Nack, Retire, Gone, Mail}
 use Rattle.tss_protocol.specs.State.{OperandState, Flying, Busy, Entry, Version, CopyState, State}
 use Rattle.tss_protocol.specs.Stations.{operand_at}
 use Rattle.tss_locality.specs.Agreement.{Beyond, ClosedAt, operand_in}

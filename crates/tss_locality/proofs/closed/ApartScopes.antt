@@ -7,10 +7,11 @@ use Rattle.tss_base.specs.declared.range.Range.{Range}
 use Rattle.tss_base.specs.declared.operand.OpName.{OpName}
 use Rattle.tss_protocol.specs.State.{Entry, State}
 use Rattle.tss_locality.specs.Agreement.{Beyond, AgreeAt, ClosedAt}
-use Rattle.tss_locality.specs.Scopes.{Scope, SourceIn, VersionIn, OpeningIn, GoingIn, ChangesOnly, ClosedWorkers, Closed}
+use Rattle.tss_locality.specs.Scopes.{Scope, SourceIn, VersionIn, OpeningIn, GoingIn, ChangesOnly, ClosedWorkers}
+use Rattle.tss_locality.specs.Scopes.{Closed}
 
 -- what agrees at some keys stays closed at these
-pub closed_agree : {K X : Type 0} {R : K → K → Ordering} (A P : K → Type 0) (Q : X → Type 0) (m n : FinMap R X) →
+closed_agree : {K X : Type 0} {R : K → K → Ordering} (A P : K → Type 0) (Q : X → Type 0) (m n : FinMap R X) →
     ((q : K) → P q → A q) → AgreeAt A m n → ClosedAt P Q m → ClosedAt P Q n
 closed_agree A P Q m n less same c q x p e = c q x p (sym (same q (less q p)) ∙ e)
 

@@ -1,5 +1,6 @@
 -- The records of operands stay closed under what the stations do.
-use Rattle.std.proofs.Common.{◌≡◌, ℕ, suc, ◌+◌, ◌++◌, add-zero, Bool, true, false, cond, List, [], ◌∷◌, Option, Some, None, refl, sym, ap, ◌∙◌, subst, inl, inr}
+use Rattle.std.proofs.Common.{◌≡◌, ℕ, suc, ◌+◌, ◌++◌, add-zero, Bool, true, false, cond, List, [], ◌∷◌, Option, Some}
+use Rattle.std.proofs.Common.{None, refl, sym, ap, ◌∙◌, subst, inl, inr}
 use Rattle.std.specs.Prelude.{slice_get}
 use Rattle.std.specs.FinMap.{get, insert, remove}
 use Rattle.std.proofs.lemmas.Option.{none-some}
@@ -15,14 +16,18 @@ use Rattle.tss_model.specs.Access.{operands_of}
 use Rattle.tss_protocol.specs.Names.{operand_name}
 use Rattle.tss_protocol.specs.Mail.{Source, Message}
 use Rattle.tss_protocol.specs.State.{OperandState, Flying}
-use Rattle.tss_protocol.specs.Stations.{is_gone, remaining_tasks, new_operand, with_operand, is_complete, task_after_ready, link_after_ready, operand_after_ready, woken_by, woken_in, after_ready, link_after_link, operand_after_link, linked_by, linked_in, after_link, release_of, releases_from, finished_in, flight_after_finish, operand_after_bye, parted_by, parted_in, after_bye, entered}
+use Rattle.tss_protocol.specs.Stations.{is_gone, remaining_tasks, new_operand, with_operand, is_complete}
+use Rattle.tss_protocol.specs.Stations.{task_after_ready, link_after_ready, operand_after_ready, woken_by, woken_in}
+use Rattle.tss_protocol.specs.Stations.{after_ready, link_after_link, operand_after_link, linked_by, linked_in}
+use Rattle.tss_protocol.specs.Stations.{after_link, release_of, releases_from, finished_in, flight_after_finish}
+use Rattle.tss_protocol.specs.Stations.{operand_after_bye, parted_by, parted_in, after_bye, entered}
 use Rattle.tss_locality.specs.Scopes.{Scope, MaybeSourceIn, SourceIn, LinkIn, RecordIn, ClosedFlight}
 use Rattle.tss_locality.proofs.Flights.{record_in, from_set, from_mapped}
 use Rattle.tss_locality.proofs.Tasks.{shifted, from_zero}
 use Rattle.tss_locality.proofs.closed.ClosedMessages.{KeepAllIn}
 
 -- the records of a task under a number are of the scope
-abbrev pub TaskIn : Scope → ℕ → Flying → Type 0
+abbrev TaskIn : Scope → ℕ → Flying → Type 0
 TaskIn c n x = (k : ℕ) (r : OperandState) → c.names (operand_name n k) → slice_get x.operands k ≡ Some r → RecordIn c r
 
 module _ (c : Scope) (f : Numbered Flying) (closed : ClosedFlight c f) where
@@ -40,7 +45,7 @@ module _ (c : Scope) (f : Numbered Flying) (closed : ClosedFlight c f) where
   ]
 
   -- a task leaves
-  pub closed_flight_remove : (n : ℕ) → ClosedFlight c (remove f n)
+  closed_flight_remove : (n : ℕ) → ClosedFlight c (remove f n)
   closed_flight_remove n o r p e = elim (decide_key nat_order o.task n) [
     | inl same ↦
         absurd (none-some r (sym (ap (record_in o.place) (ap (get (remove f n)) same ∙ at_removed nat_order f n)) ∙ e))
@@ -53,11 +58,11 @@ module _ (c : Scope) (f : Numbered Flying) (closed : ClosedFlight c f) where
   closed_remaining_if n y i false = closed_flight_put n y i
 
   -- a task is changed, or leaves
-  pub closed_remaining : (n : ℕ) (y : Flying) → TaskIn c n y → ClosedFlight c (remaining_tasks f n y)
+  closed_remaining : (n : ℕ) (y : Flying) → TaskIn c n y → ClosedFlight c (remaining_tasks f n y)
   closed_remaining n y i = closed_remaining_if n y i (is_gone y)
 
   -- a record is changed
-  pub task_in_with : (o : OpName) (x : Flying) (r : OperandState) → get f o.task ≡ Some x →
+  task_in_with : (o : OpName) (x : Flying) (r : OperandState) → get f o.task ≡ Some x →
       (c.names o → RecordIn c r) → TaskIn c o.task (with_operand x o.place r)
   task_in_with o x r there i k q p e = elim (from_set x.operands o.place k r q e) [
     | inl new ↦ subst (RecordIn c) (sym new.1) (i (subst (λ k. c.names (operand_name o.task k)) new.0 p))

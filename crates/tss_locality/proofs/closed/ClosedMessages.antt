@@ -3,13 +3,14 @@ use Rattle.std.proofs.Common.{List, [], ◌∷◌}
 use Rattle.tss_base.specs.declared.event.Event.{Event}
 use Rattle.tss_base.specs.declared.event.Event.TheVariants as event
 use Rattle.tss_maps.proofs.Keys.{name_order}
-use Rattle.tss_protocol.specs.Mail.{Message, Decode, Ack, Open, Use, Ready, Link, Release, Bye, Idle, Nack, Retire, Gone, Mail, posted, posted_all, taken}
+use Rattle.tss_protocol.specs.Mail.{Message, Decode, Ack, Open, Use, Ready, Link, Release, Bye, Idle, Nack, Retire}
+use Rattle.tss_protocol.specs.Mail.{Gone, Mail, posted, posted_all, taken}
 use Rattle.tss_locality.specs.Agreement.{ClosedAt}
 use Rattle.tss_locality.specs.Scopes.{Scope, IsBase, SourceIn, OpeningIn, GoingIn, MessageIn, MessagesIn, ClosedMail}
 use Rattle.tss_locality.proofs.Agreements.{closed_put, closed_removed}
 
 -- the contents of a message whose name is of the scope are of the scope
-abbrev pub KeepsIn : Scope → Message → Type 0
+abbrev KeepsIn : Scope → Message → Type 0
 KeepsIn c (Decode o operand) = c.names o → c.objects operand.object
 KeepsIn c (Ack o) = Unit {0}
 KeepsIn c (Open o x) = c.names o → OpeningIn c x
@@ -53,7 +54,7 @@ module _ (c : Scope) where
 
   module _ (m : Mail) (f : ClosedMail c m) where
     -- a message with such contents is sent
-    pub closed_posted : (x : Message) → KeepsIn c x → ClosedMail c (posted m x)
+    closed_posted : (x : Message) → KeepsIn c x → ClosedMail c (posted m x)
     closed_posted (Decode o operand) p =
         mail_closed (posted m (Decode o operand))
         (closed_put name_order c.names (λ p. c.objects p.object) m.decodes o operand f.decodes p) f.opens f.uses

@@ -1,5 +1,6 @@
 -- A closed scope stays closed after an event of one of its operands or versions.
-use Rattle.std.proofs.Common.{◌≡◌, ℕ, ◌+◌, Bool, true, false, cond, List, Option, Some, None, refl, sym, subst, inl, inr}
+use Rattle.std.proofs.Common.{◌≡◌, ℕ, ◌+◌, Bool, true, false, cond, List, Option, Some, None, refl, sym, subst, inl}
+use Rattle.std.proofs.Common.{inr}
 use Rattle.std.specs.FinMap.{get, insert, remove}
 use Rattle.tss_base.specs.declared.range.Range.{Range}
 use Rattle.tss_base.specs.declared.operand.OpName.{OpName}
@@ -12,18 +13,26 @@ use Rattle.tss_base.specs.declared.event.Event.TheVariants as event
 use Rattle.tss_maps.proofs.Keys.{nat_order, name_order}
 use Rattle.tss_maps.proofs.Changes.{from_inserted, from_removed}
 use Rattle.tss_protocol.specs.Names.{bank_of}
-use Rattle.tss_protocol.specs.Mail.{StorageName, Home, Buffer, Source, OpenContents, ReleaseContents, IdleContents, GoneContents, Message, posted_all, taken}
+use Rattle.tss_protocol.specs.Mail.{StorageName, Home, Buffer, Source, OpenContents, ReleaseContents, IdleContents}
+use Rattle.tss_protocol.specs.Mail.{GoneContents, Message, posted_all, taken}
 use Rattle.tss_protocol.specs.State.{Entry, Version, CopyState, State}
 use Rattle.tss_protocol.specs.Renaming.{live_entry, entry_after_decode, decoded_by, may_retire, idle_by}
 use Rattle.tss_protocol.specs.Versions.{Versioned, after_open, after_use, after_release, after_nack, after_retire}
-use Rattle.tss_protocol.specs.Buffers.{sent_by_retire, new_copy, copies_after_retire, copies_after_copy, is_last_piece, sent_by_copy, piece_len, home_after_copy, buffer_bytes}
+use Rattle.tss_protocol.specs.Buffers.{sent_by_retire, new_copy, copies_after_retire, copies_after_copy, is_last_piece}
+use Rattle.tss_protocol.specs.Buffers.{sent_by_copy, piece_len, home_after_copy, buffer_bytes}
 use Rattle.tss_protocol.specs.Stations.{after_ready, after_link}
-use Rattle.tss_protocol.specs.UnitMachine.{tables_of, without, with_sent, with_versioned, with_entries, with_decoded, queue_with, decode_message_taken, open_message_taken, use_message_taken, ready_message_taken, link_message_taken, release_message_taken, idle_message_taken, retire_version, after_copy, gone_message_taken, after_event}
+use Rattle.tss_protocol.specs.UnitMachine.{tables_of, without, with_sent, with_versioned, with_entries, with_decoded}
+use Rattle.tss_protocol.specs.UnitMachine.{queue_with, decode_message_taken, open_message_taken, use_message_taken}
+use Rattle.tss_protocol.specs.UnitMachine.{ready_message_taken, link_message_taken, release_message_taken}
+use Rattle.tss_protocol.specs.UnitMachine.{idle_message_taken, retire_version, after_copy, gone_message_taken}
+use Rattle.tss_protocol.specs.UnitMachine.{after_event}
 use Rattle.tss_locality.specs.Concerns.{FindsOwn}
-use Rattle.tss_locality.specs.Scopes.{Scope, IsOwn, MaybeStorageIn, VersionIn, ClosedEntries, ClosedCopies, CopyIn, Closed}
+use Rattle.tss_locality.specs.Scopes.{Scope, IsOwn, MaybeStorageIn, VersionIn, ClosedEntries, ClosedCopies, CopyIn}
+use Rattle.tss_locality.specs.Scopes.{Closed}
 use Rattle.tss_locality.proofs.Agreements.{closed_removed}
 use Rattle.tss_locality.proofs.closed.ClosedMessages.{KeepAllIn, closed_taken, closed_posted_all, keep_all_from_in}
-use Rattle.tss_locality.proofs.closed.ClosedStates.{closed_by, closed_mail, closed_versions, closed_flight, closed_entries}
+use Rattle.tss_locality.proofs.closed.ClosedStates.{closed_by, closed_mail, closed_versions, closed_flight}
+use Rattle.tss_locality.proofs.closed.ClosedStates.{closed_entries}
 use Rattle.tss_locality.proofs.closed.ClosedFlights.{closed_ready, closed_link}
 use Rattle.tss_locality.proofs.Tasks.{ready_only, link_only}
 use Rattle.tss_locality.proofs.VersionChanges.{StaysIn}
@@ -40,7 +49,7 @@ module _ (c : Scope) where
   closed_sent S f ms p = closed_mail c S f (posted_all S.mail ms) (closed_posted_all c S.mail f.mail ms p)
 
   -- versions are changed and messages sent
-  pub closed_versioned : (S : State) → Closed c S → (e : Event) → (d : Versioned) → StaysIn c S.versions d →
+  closed_versioned : (S : State) → Closed c S → (e : Event) → (d : Versioned) → StaysIn c S.versions d →
       Closed c (with_versioned (without S e) d)
   closed_versioned S f e d s =
       closed_sent (record (without S e) { versions = d.part })

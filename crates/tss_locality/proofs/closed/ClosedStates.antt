@@ -7,7 +7,8 @@ use Rattle.tss_base.specs.Names.{Named, Numbered}
 use Rattle.tss_protocol.specs.Mail.{Mail}
 use Rattle.tss_protocol.specs.State.{Flying, Entry, Version, State}
 use Rattle.tss_locality.specs.Agreement.{operand_in}
-use Rattle.tss_locality.specs.Scopes.{Scope, ClosedVersions, ClosedMail, ClosedFlight, ClosedEntries, ClosedCopies, ClosedWorkers, Closed}
+use Rattle.tss_locality.specs.Scopes.{Scope, ClosedVersions, ClosedMail, ClosedFlight, ClosedEntries, ClosedCopies}
+use Rattle.tss_locality.specs.Scopes.{ClosedWorkers, Closed}
 
 -- what the inbox's operands of a scope name
 abbrev pub ClosedInbox : Scope → Option Task → Type 0

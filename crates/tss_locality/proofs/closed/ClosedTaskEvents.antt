@@ -1,6 +1,7 @@
 -- Every closed scope stays closed after take, ack, start, exec, finish, bye, and an event of main whose new task's
 -- operands agree with it.
-use Rattle.std.proofs.Common.{◌≡◌, ℕ, suc, ◌+◌, add-zero, Bool, List, [], ◌∷◌, Option, Some, None, refl, sym, ap, ◌∙◌, subst, inl, inr}
+use Rattle.std.proofs.Common.{◌≡◌, ℕ, suc, ◌+◌, add-zero, Bool, List, [], ◌∷◌, Option, Some, None, refl, sym, ap, ◌∙◌}
+use Rattle.std.proofs.Common.{subst, inl, inr}
 use Rattle.std.specs.Prelude.{slice_get}
 use Rattle.std.specs.FinMap.{get, insert}
 use Rattle.std.proofs.lemmas.Option.{none-some}
@@ -21,14 +22,16 @@ use Rattle.tss_protocol.specs.Gateway.{decodes_from, sent_by_take}
 use Rattle.tss_protocol.specs.Stations.{flight_after_finish, storage_of}
 use Rattle.tss_protocol.specs.Workers.{busy_at_start, exec_stretch, busy_after}
 use Rattle.tss_protocol.specs.MainEvent.{call_next, after_call, main_by}
-use Rattle.tss_protocol.specs.UnitMachine.{stores_of, without, take_task, after_take, bye_message_taken, start_task, after_start, after_exec, finish_task, after_finish, after_event}
+use Rattle.tss_protocol.specs.UnitMachine.{stores_of, without, take_task, after_take, bye_message_taken, start_task}
+use Rattle.tss_protocol.specs.UnitMachine.{after_start, after_exec, finish_task, after_finish, after_event}
 use Rattle.tss_locality.specs.Agreement.{operand_in}
 use Rattle.tss_locality.specs.Scopes.{Scope, StorageIn, MaybeSourceIn, ClosedWorker, ClosedWorkers, Closed}
 use Rattle.tss_locality.proofs.Flights.{from_mapped}
 use Rattle.tss_locality.proofs.Tasks.{shifted, from_zero}
 use Rattle.tss_locality.proofs.closed.ClosedMessages.{KeepAllIn}
 use Rattle.tss_locality.proofs.closed.ClosedStates.{ClosedInbox, closed_by}
-use Rattle.tss_locality.proofs.closed.ClosedFlights.{task_in, closed_flight_put, closed_bye, closed_finish, finish_keeps, closed_entered}
+use Rattle.tss_locality.proofs.closed.ClosedFlights.{task_in, closed_flight_put, closed_bye, closed_finish}
+use Rattle.tss_locality.proofs.closed.ClosedFlights.{finish_keeps, closed_entered}
 use Rattle.tss_locality.proofs.TakeEvent.{own_arrival}
 use Rattle.tss_locality.proofs.closed.ClosedObjectEvents.{closed_without, closed_sent}
 
@@ -176,7 +179,7 @@ module _ (c : Scope) (m : Machine) (S : State) (closed : Closed c S) where
   main_closed (Some x) i = called_closed (main_call m.limits S.home S.main x) (i x refl)
 
   -- the operands of a task that main's next call spawns agree with the scope
-  abbrev pub SpawnsClosed : Type 0
+  abbrev SpawnsClosed : Type 0
   SpawnsClosed = (x : Call) → call_next m S ≡ Some x → (t : Task) →
       (main_call m.limits S.home S.main x).1 ≡ Some t → ClosedInbox c (Some t)
 

@@ -8,7 +8,8 @@ use Rattle.tss_base.specs.declared.marks.Follow.{Follow}
 use Rattle.tss_protocol.specs.Names.{operand_name}
 use Rattle.tss_protocol.specs.Mail.{StorageName, Home, Buffer, Source, OpenContents, GoneContents}
 use Rattle.tss_protocol.specs.State.{OperandState, Version, CopyState, State}
-use Rattle.tss_locality.specs.Scopes.{Scope, IsBase, NameIn, StorageIn, MaybeStorageIn, FollowIn, SourceIn, MaybeSourceIn, LinkIn, VersionIn, RecordIn, OpeningIn, GoingIn, CopyIn, Closed}
+use Rattle.tss_locality.specs.Scopes.{Scope, IsBase, NameIn, StorageIn, MaybeStorageIn, FollowIn, SourceIn}
+use Rattle.tss_locality.specs.Scopes.{MaybeSourceIn, LinkIn, VersionIn, RecordIn, OpeningIn, GoingIn, CopyIn, Closed}
 
 -- a scope has the names and objects of another
 pub record LiesWithin (c d : Scope) : Type 0 where

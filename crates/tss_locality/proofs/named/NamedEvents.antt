@@ -13,14 +13,18 @@ use Rattle.tss_protocol.specs.State.{Busy, CopyState, State, initial_state}
 use Rattle.tss_protocol.specs.MainEvent.{call_next}
 use Rattle.tss_protocol.specs.UnitMachine.{is_enabled, IsEnabled, after_event}
 use Rattle.tss_locality.specs.Scopes.{Scope, ChangesOnly}
-use Rattle.tss_locality.specs.Objects.{Objects, object_scope, Every, LinksStay, SpawnsWith, StandNumbered, IsFitting, WorkerNamed, EntriesNamed, IsNamed, IsWithinObjects}
+use Rattle.tss_locality.specs.Objects.{Objects, object_scope, Every, LinksStay, SpawnsWith, StandNumbered, IsFitting}
+use Rattle.tss_locality.specs.Objects.{WorkerNamed, EntriesNamed, IsNamed, IsWithinObjects}
 use Rattle.tss_locality.proofs.WorkerEvents.{ChangesOnly-finish}
 use Rattle.tss_locality.proofs.EachEvent.{ChangesOnly-after_event}
 use Rattle.tss_locality.proofs.LeftFields.{Leaves-after_event}
 use Rattle.tss_locality.proofs.closed.ApartScopes.{OthersWere}
-use Rattle.tss_locality.proofs.KeptLinks.{LinksStay-initial_state, LinksStay-after_event, others_left, others_decoded, others_idle, others_gone}
+use Rattle.tss_locality.proofs.KeptLinks.{LinksStay-initial_state, LinksStay-after_event, others_left, others_decoded}
+use Rattle.tss_locality.proofs.KeptLinks.{others_idle, others_gone}
 use Rattle.tss_locality.proofs.named.NamedStates.{IsNamed-initial_state}
-use Rattle.tss_locality.proofs.named.NamedRows.{known, named_after, workers_same, entries_after, copies_same, all_named, take_named, start_named, exec_named, finish_workers, main_named, retire_version_copies, copy_copies}
+use Rattle.tss_locality.proofs.named.NamedRows.{known, named_after, workers_same, entries_after, copies_same, all_named}
+use Rattle.tss_locality.proofs.named.NamedRows.{take_named, start_named, exec_named, finish_workers, main_named}
+use Rattle.tss_locality.proofs.named.NamedRows.{retire_version_copies, copy_copies}
 
 module _ (f : Objects) (m : Machine) (S : State) (within : IsWithinObjects f S) where
   -- the scope of an object that is named
@@ -112,7 +116,7 @@ module _ (f : Objects) (m : Machine) (S : State) (within : IsWithinObjects f S) 
       (copies_same f m S within.named T (λ i. (Leaves-after_event m S (event.Finish w) i).copies))
 
   -- each name has its object after an enabled event
-  pub IsNamed-after_event : (e : Event) → IsEnabled m S e → IsFitting f m S e → IsNamed f (after_event m S e)
+  IsNamed-after_event : (e : Event) → IsEnabled m S e → IsFitting f m S e → IsNamed f (after_event m S e)
   IsNamed-after_event event.Main on fit = main_kept fit
   IsNamed-after_event event.Take on fit = take_kept
   IsNamed-after_event (event.Start w) on fit = start_kept w fit

@@ -1,5 +1,6 @@
 -- Each name has its object after what each event does to the state.
-use Rattle.std.proofs.Common.{◌≡◌, ℕ, ◌+◌, Bool, true, false, List, [], ◌∷◌, Option, Some, None, refl, sym, ap, ◌∙◌, subst, inl, inr}
+use Rattle.std.proofs.Common.{◌≡◌, ℕ, ◌+◌, Bool, true, false, List, [], ◌∷◌, Option, Some, None, refl, sym, ap, ◌∙◌}
+use Rattle.std.proofs.Common.{subst, inl, inr}
 use Rattle.std.specs.Prelude.{is_some, slice_get}
 use Rattle.std.specs.FinMap.{get, insert}
 use Rattle.std.proofs.lemmas.Bool.{and_parts}
@@ -24,10 +25,13 @@ use Rattle.tss_protocol.specs.Stations.{storage_of, operand_at, new_operand, ent
 use Rattle.tss_protocol.specs.Buffers.{new_copy, copies_after_retire, copies_after_copy, is_last_piece, piece_len}
 use Rattle.tss_protocol.specs.Workers.{busy_at_start, busy_after, exec_stretch}
 use Rattle.tss_protocol.specs.MainEvent.{after_call, main_by}
-use Rattle.tss_protocol.specs.UnitMachine.{stores_of, after_exec, after_finish, can_decode_message, can_open_message, can_use_message, can_retire, take_task, after_take, start_task, after_start, without, retire_version, after_copy, is_enabled, IsEnabled}
+use Rattle.tss_protocol.specs.UnitMachine.{stores_of, after_exec, after_finish, can_decode_message, can_open_message}
+use Rattle.tss_protocol.specs.UnitMachine.{can_use_message, can_retire, take_task, after_take, start_task, after_start}
+use Rattle.tss_protocol.specs.UnitMachine.{without, retire_version, after_copy, is_enabled, IsEnabled}
 use Rattle.tss_locality.specs.Agreement.{operand_in}
 use Rattle.tss_locality.specs.Scopes.{Scope, ChangesOnly, Closed}
-use Rattle.tss_locality.specs.Objects.{Objects, object_scope, Every, HasObject, HasObjects, StandNumbered, IsFitting, WorkerNamed, EntriesNamed, IsNamed}
+use Rattle.tss_locality.specs.Objects.{Objects, object_scope, Every, HasObject, HasObjects, StandNumbered, IsFitting}
+use Rattle.tss_locality.specs.Objects.{WorkerNamed, EntriesNamed, IsNamed}
 use Rattle.tss_locality.proofs.Messages.{mail_same, mail_posted_all}
 use Rattle.tss_locality.proofs.Flights.{record_in, from_mapped, keeps_records, flight_inserted}
 use Rattle.tss_locality.proofs.Tasks.{from_zero, decodes_sent}

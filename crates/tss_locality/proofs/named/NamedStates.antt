@@ -17,7 +17,7 @@ use Rattle.tss_locality.specs.Objects.{Objects, HasObject, AreNamed, MailNamed, 
 
 module _ (f : Objects) where
   -- a name with an object, or one without
-  pub object_by : (o : OpName) (x : Option Range) → f o ≡ x → (HasObject f o → ⊥) ⊎ HasObject f o
+  object_by : (o : OpName) (x : Option Range) → f o ≡ x → (HasObject f o → ⊥) ⊎ HasObject f o
   object_by o None e = inl (λ h. none-some h.0 (sym e ∙ h.1))
   object_by o (Some x) e = inr (x, e)
 

@@ -1,5 +1,6 @@
 -- A stretch of main stores at no address of an object that it has named.
-use Rattle.std.proofs.Common.{◌≡◌, ℕ, zero, suc, ◌+◌, ◌<◌, ◌≤◌, Bool, true, false, cond, List, [], ◌∷◌, length, Some, None, refl, sym, ◌∙◌, subst, arith}
+use Rattle.std.proofs.Common.{◌≡◌, ℕ, zero, suc, ◌+◌, ◌<◌, ◌≤◌, Bool, true, false, cond, List, [], ◌∷◌, length, Some}
+use Rattle.std.proofs.Common.{None, refl, sym, ◌∙◌, subst, arith}
 use Rattle.std.specs.Prelude.{max, min, slice_get, is_some}
 use Rattle.std.proofs.lemmas.Bool.{lt-ltb, or_parts}
 use Rattle.std.proofs.lemmas.Option.{none-some, same_Some}
@@ -22,7 +23,7 @@ false_true : false ≡ true → ⊥
 false_true e = cc
 
 -- no object of a list has the address
-abbrev pub IsOutside : List Range → ℕ → Type 0
+abbrev IsOutside : List Range → ℕ → Type 0
 IsOutside named a = (k : ℕ) (x : Range) → slice_get named k ≡ Some x → Covers x a → ⊥
 
 -- two ranges that share an address meet

@@ -5,12 +5,16 @@ use Rattle.tss_isa.specs.declared.instr.LoadKind.{LoadKind}
 use Rattle.tss_isa.specs.declared.instr.StoreKind.{StoreKind}
 use Rattle.tss_isa.specs.declared.instr.StoreKind.TheVariants.{Sb, Sh, Sw}
 use Rattle.tss_isa.specs.declared.instr.Instr.{Instr}
-use Rattle.tss_isa.specs.declared.instr.Instr.TheVariants.{Lui, Auipc, Jal, Jalr, Branch, Load, Store, OpImm, Op, Fence, Ecall, Ebreak}
+use Rattle.tss_isa.specs.declared.instr.Instr.TheVariants.{Lui, Auipc, Jal, Jalr, Branch, Load, Store, OpImm, Op, Fence}
+use Rattle.tss_isa.specs.declared.instr.Instr.TheVariants.{Ecall, Ebreak}
 use Rattle.tss_isa.specs.InstrTable.{instr_of}
 use Rattle.tss_model.specs.Access.{Actor, Loads, Stores, Access, Granted, Denied, Touch, access_of}
 use Rattle.tss_model.specs.Registers.{Registers, register_at, with_register, next_pc, completed, onward, trap_of}
 use Rattle.tss_base.specs.declared.causes.TheConstants.{JUMP_MISALIGNED, LOAD_MISALIGNED, STORE_MISALIGNED}
-use Rattle.tss_model.specs.Core.{Write, Stepped, Executed, Called, Ended, Trapped, Touched, load_width, store_width, jump_to, branch_if, load_on, loaded_value, load_range, load_from, store_on, stored_value, store_range, store_to, passes, moved, execute, execute_word, execute_fetched, core_step}
+use Rattle.tss_model.specs.Core.{Write, Stepped, Executed, Called, Ended, Trapped, Touched, load_width, store_width}
+use Rattle.tss_model.specs.Core.{jump_to, branch_if, load_on, loaded_value, load_range, load_from, store_on}
+use Rattle.tss_model.specs.Core.{stored_value, store_range, store_to, passes, moved, execute, execute_word}
+use Rattle.tss_model.specs.Core.{execute_fetched, core_step}
 use Rattle.tss_base.specs.declared.addresses.TheConstants.{END_PC}
 
 -- an actor may store these bytes

@@ -1,5 +1,6 @@
 -- What is written to storages of a scope leaves home beyond its objects and the contents of every other buffer.
-use Rattle.std.proofs.Common.{◌≡◌, ℕ, suc, ◌+◌, ◌<◌, ◌≤◌, Bool, true, false, cond, List, [], ◌∷◌, length, Some, refl, ap, ◌∙◌, subst, inl, inr, ◌⊎◌, arith}
+use Rattle.std.proofs.Common.{◌≡◌, ℕ, suc, ◌+◌, ◌<◌, ◌≤◌, Bool, true, false, cond, List, [], ◌∷◌, length, Some, refl}
+use Rattle.std.proofs.Common.{ap, ◌∙◌, subst, inl, inr, ◌⊎◌, arith}
 use Rattle.std.specs.Prelude.{unwrap_or, slice_get}
 use Rattle.std.specs.FinMap.{get, insert}
 use Rattle.std.proofs.lemmas.Bool.{cases_lt}
@@ -23,7 +24,7 @@ use Rattle.tss_locality.proofs.States.{HomeOn}
 -- ---- bytes in memory
 
 -- an address before the first byte of a write, or behind the last
-abbrev pub IsBeside : ℕ → List ℕ → ℕ → Type 0
+abbrev IsBeside : ℕ → List ℕ → ℕ → Type 0
 IsBeside at bs a = (a < at) ⊎ (at + length bs ≤ a)
 
 map_put-beside : (bs : List ℕ) (m : Numbered ℕ) (at a : ℕ) → IsBeside at bs a → get (map_put m at bs) a ≡ get m a
@@ -36,7 +37,7 @@ map_put-beside (b ∷ bs) m at a (inr high) =
     ∙ map_put-beside bs m (suc at) a (inr (omega arith))
 
 -- the byte beside a write
-pub put_bytes-beside : (m : Memory) (at : ℕ) (bs : List ℕ) (a : ℕ) → IsBeside at bs a →
+put_bytes-beside : (m : Memory) (at : ℕ) (bs : List ℕ) (a : ℕ) → IsBeside at bs a →
     byte_at (put_bytes m at bs) a ≡ byte_at m a
 put_bytes-beside m at bs a out = ap (λ o. unwrap_or o 0) (map_put-beside bs m.bytes at a out)
 

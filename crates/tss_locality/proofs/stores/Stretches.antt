@@ -1,5 +1,6 @@
 -- A stretch of a worker writes to the storages of its task's operands alone.
-use Rattle.std.proofs.Common.{◌≡◌, ℕ, zero, suc, ◌+◌, ◌-◌, ◌<◌, ◌≤◌, Bool, true, false, cond, List, [], ◌∷◌, length, Option, Some, None, refl, sym, ◌∙◌, subst, inl, inr, arith}
+use Rattle.std.proofs.Common.{◌≡◌, ℕ, zero, suc, ◌+◌, ◌-◌, ◌<◌, ◌≤◌, Bool, true, false, cond, List, [], ◌∷◌, length}
+use Rattle.std.proofs.Common.{Option, Some, None, refl, sym, ◌∙◌, subst, inl, inr, arith}
 use Rattle.std.specs.Prelude.{◌&&◌, nat_le, nat_lt, slice_get}
 use Rattle.std.specs.List.{list_any}
 use Rattle.std.proofs.lemmas.Bool.{and_parts, and_from, or_cases, le-leb, lt-ltb}
@@ -14,12 +15,14 @@ use Rattle.tss_model.specs.Access.{Granted, Denied, TaskActor, writes, task_may_
 use Rattle.tss_model.specs.Registers.{trap_of}
 use Rattle.tss_base.specs.declared.causes.TheConstants.{BUDGET_SPENT}
 use Rattle.tss_model.specs.Core.{Write, Stepped, Executed, Called, Ended, Trapped, Touched, core_step}
-use Rattle.tss_model.specs.TaskRun.{repeated, TaskState, is_over, task_byte, task_write, task_trapped, task_on, task_step}
+use Rattle.tss_model.specs.TaskRun.{repeated, TaskState, is_over, task_byte, task_write, task_trapped, task_on}
+use Rattle.tss_model.specs.TaskRun.{task_step}
 use Rattle.tss_protocol.specs.Mail.{StorageName, Home, Buffer}
 use Rattle.tss_protocol.specs.Workers.{Stores, Placed, placed_in, placed_at, storage_write, write_in, worker_write}
 use Rattle.tss_protocol.specs.Buffers.{buffer_bytes}
 use Rattle.tss_locality.specs.Scopes.{Scope, IsInside, StorageIn}
-use Rattle.tss_locality.proofs.stores.Stores.{IsWrittenIn, StoresOnly, stores_home, stores_buffer, PlacedIn, placed_rest}
+use Rattle.tss_locality.proofs.stores.Stores.{IsWrittenIn, StoresOnly, stores_home, stores_buffer, PlacedIn}
+use Rattle.tss_locality.proofs.stores.Stores.{placed_rest}
 use Rattle.tss_locality.proofs.stores.StoreSteps.{MayWrite, StoresWithin, core_step_within}
 
 false_true : false ≡ true → ⊥
@@ -72,7 +75,7 @@ module _ (c : Scope) where
   -- ---- storages
 
   -- each of these objects' storages
-  abbrev pub AreStoredIn : List Placed → Type 0
+  abbrev AreStoredIn : List Placed → Type 0
   AreStoredIn [] = Unit {0}
   AreStoredIn (p ∷ ps) = StorageIn c p.storage × AreStoredIn ps
 
@@ -115,7 +118,7 @@ module _ (c : Scope) where
   module _ (s : Stores) (os : List Operand) (ts : List StorageName) (placed : PlacedIn c os ts)
       (ranges : List MemoryRange) where
     -- its memory is changed in the scope alone
-    abbrev pub TaskOnly : TaskState Stores → Type 0
+    abbrev TaskOnly : TaskState Stores → Type 0
     TaskOnly x = StoresOnly c s x.memory
 
     task_if : (b : Bool) (x y : TaskState Stores) → TaskOnly x → TaskOnly y → TaskOnly (cond b x y)
