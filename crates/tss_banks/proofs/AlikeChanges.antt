@@ -7,14 +7,16 @@ use Rattle.tss_base.specs.declared.operand.OpName.{OpName}
 use Rattle.tss_base.specs.declared.marks.Follow.{Follow}
 use Rattle.tss_base.specs.Names.{Named}
 use Rattle.tss_maps.proofs.Keys.{name_order, decide_key}
-use Rattle.tss_maps.proofs.Changes.{at_inserted, beside_inserted, from_inserted, at_removed, beside_removed, from_removed}
+use Rattle.tss_maps.proofs.Changes.{at_inserted, beside_inserted, from_inserted, at_removed, beside_removed}
+use Rattle.tss_maps.proofs.Changes.{from_removed}
 use Rattle.tss_protocol.specs.State.{Version}
-use Rattle.tss_protocol.specs.Versions.{put_version, drop_version, version_changed, change_version, change_named, followed_by, unlinked}
+use Rattle.tss_protocol.specs.Versions.{put_version, drop_version, version_changed, change_version, change_named}
+use Rattle.tss_protocol.specs.Versions.{followed_by, unlinked}
 use Rattle.tss_banks.specs.Versions.{IsOfKind, AreAlike}
 
 module _ (P : OpName → Type 0) (A : Range → Type 0) (all own : Named Version) where
   -- a change that leaves the object, and links to the names alone
-  abbrev pub Keeps : (Version → Version) → Type 0
+  abbrev Keeps : (Version → Version) → Type 0
   Keeps f = (x : Version) → IsOfKind P A x → IsOfKind P A (f x)
 
   -- before any change
@@ -86,7 +88,7 @@ module _ (P : OpName → Type 0) (A : Range → Type 0) (all own : Named Version
             (alike_changed_by (get vs v) refl)
 
     -- the same of a version that may not be named
-    pub alike_change_named : (v : Option OpName) → ((q : OpName) → v ≡ Some q → P q) → (f : Version → Version)
+    alike_change_named : (v : Option OpName) → ((q : OpName) → v ≡ Some q → P q) → (f : Version → Version)
         → Keeps f → AreAlike P A all own (change_named ws v f) (change_named vs v f)
     alike_change_named None p f keeps = c
     alike_change_named (Some v) p f keeps = alike_change v (p v refl) f keeps

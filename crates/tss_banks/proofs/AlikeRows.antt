@@ -1,7 +1,8 @@
 -- Settle and the rows of versioning on two maps that agree at some names, to which the links of what stands there keep:
 -- both are changed alike, at these names alone, and the messages are the same. The maps may differ in how many versions
 -- they have, and so in how far a settle may go.
-use Rattle.std.proofs.Common.{◌≡◌, ℕ, zero, suc, ◌+◌, ◌<◌, Bool, true, false, not, if◌then◌else◌, List, [], ◌∷◌, ◌++◌, Option, Some, None, refl, sym, ap, ◌∙◌, subst, arith}
+use Rattle.std.proofs.Common.{◌≡◌, ℕ, zero, suc, ◌+◌, ◌<◌, Bool, true, false, not, if◌then◌else◌, List, [], ◌∷◌, ◌++◌}
+use Rattle.std.proofs.Common.{Option, Some, None, refl, sym, ap, ◌∙◌, subst, arith}
 use Rattle.std.specs.FinMap.{get, len}
 use Rattle.std.proofs.lemmas.Option.{none-some}
 use Rattle.tss_base.specs.declared.range.Range.{Range}
@@ -14,7 +15,12 @@ use Rattle.tss_base.specs.declared.marks.Follow.{Follow}
 use Rattle.tss_base.specs.Names.{Named}
 use Rattle.tss_protocol.specs.Mail.{OpenContents, ReleaseContents, Message, Bye}
 use Rattle.tss_protocol.specs.State.{Version}
-use Rattle.tss_protocol.specs.Versions.{Versioned, sending, put_version, ready_with, buffer_of, died, may_die, may_ask, unlinked, settle_how, settle_asking, unchanged, settle_by, settle_at, settle, settled, new_version, first_version, followed, opened_how, opened_by, after_open, enlisted, used_alone, used_behind, used_at, after_use, head_ready, produced_now, is_last, released_once, released_by, released_at, after_release, refused_once, nacked_at, after_nack, after_retire}
+use Rattle.tss_protocol.specs.Versions.{Versioned, sending, put_version, ready_with, buffer_of, died, may_die, may_ask}
+use Rattle.tss_protocol.specs.Versions.{unlinked, settle_how, settle_asking, unchanged, settle_by, settle_at, settle}
+use Rattle.tss_protocol.specs.Versions.{settled, new_version, first_version, followed, opened_how, opened_by}
+use Rattle.tss_protocol.specs.Versions.{after_open, enlisted, used_alone, used_behind, used_at, after_use, head_ready}
+use Rattle.tss_protocol.specs.Versions.{produced_now, is_last, released_once, released_by, released_at, after_release}
+use Rattle.tss_protocol.specs.Versions.{refused_once, nacked_at, after_nack, after_retire}
 use Rattle.tss_banks.specs.Versions.{IsOfKind, AreAlike, AreRowsAlike}
 use Rattle.tss_banks.proofs.VersionsLeft.{len_unlinked}
 use Rattle.tss_banks.proofs.AlikeChanges.{alike_put, alike_drop, alike_change, alike_unlinked}
@@ -27,11 +33,11 @@ none_below a h = omega (arith, h)
 
 module _ (P : OpName → Type 0) (A : Range → Type 0) (all own : Named Version) where
   -- maps that are changed alike
-  abbrev pub Alike : Named Version → Named Version → Type 0
+  abbrev Alike : Named Version → Named Version → Type 0
   Alike ws vs = AreAlike P A all own ws vs
 
   -- and with the same messages
-  abbrev pub RowsAlike : Versioned → Versioned → Type 0
+  abbrev RowsAlike : Versioned → Versioned → Type 0
   RowsAlike d e = AreRowsAlike P A all own d e
 
   -- the same messages before both
@@ -50,7 +56,7 @@ module _ (P : OpName → Type 0) (A : Range → Type 0) (all own : Named Version
   -- ---- settle
 
   -- settles with so much fuel for the two, which is more than there are versions
-  abbrev pub SettleAlike : ℕ → ℕ → Type 0
+  abbrev SettleAlike : ℕ → ℕ → Type 0
   SettleAlike n k =
       (ws vs : Named Version) → Alike ws vs → (v : OpName) → P v → len ws < n → len vs < k
       → RowsAlike (settle n ws v) (settle k vs v)
@@ -109,7 +115,7 @@ module _ (P : OpName → Type 0) (A : Range → Type 0) (all own : Named Version
         (sym (c.same v p)) (alike_at (get vs v) refl)
 
   -- with more fuel than there are versions each settle does the same
-  pub alike_settle : (n k : ℕ) → SettleAlike n k
+  alike_settle : (n k : ℕ) → SettleAlike n k
   unfolding settle
   alike_settle zero k ws vs c v p enough enough_own = absurd (none_below (len ws) enough)
   alike_settle (suc n) zero ws vs c v p enough enough_own = absurd (none_below (len vs) enough_own)
@@ -117,10 +123,6 @@ module _ (P : OpName → Type 0) (A : Range → Type 0) (all own : Named Version
       alike_settle_at n k (alike_settle n k) ws vs c v p enough enough_own
 
   module _ (ws vs : Named Version) (c : Alike ws vs) where
-    -- so settled versions are left alike
-    pub alike_settled : (v : OpName) → P v → RowsAlike (settled ws v) (settled vs v)
-    alike_settled v p = alike_settle (suc (len ws)) (suc (len vs)) ws vs c v p (omega arith) (omega arith)
-
     alike_put_settled : (v : OpName) → P v → (x : Version) → IsOfKind P A x
         → RowsAlike (settled (put_version ws v x) v) (settled (put_version vs v x) v)
     alike_put_settled v p x kind =

@@ -1,5 +1,6 @@
 -- What a bank has in use, and what a decode waits for, by the bank's own tables.
-use Rattle.std.proofs.Common.{◌≡◌, ◌≢◌, ◌<◌, mod-lt, ℕ, ◌==◌, ◌/◌, true, false, List, Some, is_none, sym, ap, ◌∙◌, arith, inl, inr, subst}
+use Rattle.std.proofs.Common.{◌≡◌, ◌≢◌, ◌<◌, mod-lt, ℕ, ◌==◌, ◌/◌, true, false, List, Some, sym, ap, ◌∙◌, arith, inl}
+use Rattle.std.proofs.Common.{inr}
 use Rattle.std.specs.FinMap.{empty, get, len}
 use Rattle.std.proofs.lemmas.Bool.Decides.{nat_tests}
 use Rattle.tss_base.specs.declared.bounds.TheConstants.{BANK_BYTES}
@@ -9,16 +10,17 @@ use Rattle.tss_base.specs.declared.machine.Sizes.{Sizes}
 use Rattle.tss_base.specs.Names.{Named, Numbered}
 use Rattle.tss_maps.proofs.Keys.{nat_order, name_order}
 use Rattle.tss_maps.proofs.Changes.{decide_get}
-use Rattle.tss_maps.proofs.Sums.{count_all}
 use Rattle.tss_protocol.specs.Names.{bank_of}
 use Rattle.tss_protocol.specs.State.{Entry}
-use Rattle.tss_protocol.specs.Renaming.{Tables, entries_in, places_in, buffers_in, fill_of, line_of, bank_wait, operand_wait, can_decode}
+use Rattle.tss_protocol.specs.Renaming.{Tables, entries_in, places_in, buffers_in, fill_of, line_of, bank_wait}
+use Rattle.tss_protocol.specs.Renaming.{operand_wait}
 use Rattle.tss_protocol.specs.Counts.{greatest}
-use Rattle.tss_banks.specs.Joined.{bank, joined, AreApart, IsInNoOther, numbered}
-use Rattle.tss_banks.specs.Tables.{bank_of_base, no_tables, tables_at, entries_of, places_of, buffers_of, joined_tables, EntriesInBanks, NamesInBanks, AreBankTables, own_fill}
-use Rattle.tss_banks.proofs.JoinedLemmas.{get_or-part, in_no_empty, alone_there, joined_somewhere, get-joined, apart_empties}
+use Rattle.tss_banks.specs.Joined.{bank, joined, AreApart, IsInNoOther}
+use Rattle.tss_banks.specs.Tables.{bank_of_base, no_tables, tables_at, entries_of, places_of, buffers_of, joined_tables}
+use Rattle.tss_banks.specs.Tables.{EntriesInBanks, NamesInBanks, AreBankTables, own_fill}
+use Rattle.tss_banks.proofs.JoinedLemmas.{get_or-part, in_no_empty, alone_there, joined_somewhere, get-joined}
+use Rattle.tss_banks.proofs.JoinedLemmas.{apart_empties}
 use Rattle.tss_banks.proofs.JoinedSums.{count_in_bank}
-use Rattle.tss_banks.proofs.JoinedMapped.{apart_numbered, are_numbered}
 
 -- ---- numbers
 
@@ -32,7 +34,7 @@ other_number a b e = grind (arith, nat_tests)
 
 module _ (sizes : Sizes) (es : List (Numbered Entry)) (s : EntriesInBanks sizes es) where
   -- the bank of an entry is that of its key
-  pub bank_of_key : (b k : ℕ) (e : Entry) → get (bank es b) k ≡ Some e → b ≡ bank_of_base sizes k
+  bank_of_key : (b k : ℕ) (e : Entry) → get (bank es b) k ≡ Some e → b ≡ bank_of_base sizes k
   bank_of_key b k e there = sym (s.own b k e there) ∙ ap (bank_of_base sizes) (s.base b k e there)
 
   -- banks of entries are apart
@@ -47,28 +49,22 @@ module _ (sizes : Sizes) (es : List (Numbered Entry)) (s : EntriesInBanks sizes 
   ]
 
   -- at a base the joined entries have what its bank has
-  pub entry_in_bank : (k : ℕ) → get (joined es) k ≡ get (bank es (bank_of_base sizes k)) k
+  entry_in_bank : (k : ℕ) → get (joined es) k ≡ get (bank es (bank_of_base sizes k)) k
   entry_in_bank k = get-joined nat_order es (bank_of_base sizes k) k (alone_base k)
 
   -- the entries of a bank are those of its map
-  pub entries_in_bank : (b : ℕ) → entries_in sizes b (joined es) ≡ len (bank es b)
+  entries_in_bank : (b : ℕ) → entries_in sizes b (joined es) ≡ len (bank es b)
   entries_in_bank b =
       count_in_bank nat_order (λ base e. bank_of sizes e.object == b) es b apart_entries
       (λ k e there. same_number (bank_of sizes e.object) b (s.own b k e there))
       (λ i other k e there. other_number (bank_of sizes e.object) b (λ is. other (sym (s.own i k e there) ∙ is)))
-
-  -- and of its map alone
-  pub entries_of_own : (b : ℕ) → entries_in sizes b (bank es b) ≡ len (bank es b)
-  entries_of_own b =
-      count_all nat_order (λ base e. bank_of sizes e.object == b) (bank es b)
-      (λ k e there. same_number (bank_of sizes e.object) b (s.own b k e there))
 
 -- the bank of a base is one of them
 pub bank_of_base_below : (sizes : Sizes) (k : ℕ) → 0 < sizes.banks → bank_of_base sizes k < sizes.banks
 bank_of_base_below sizes k some = mod-lt (k / BANK_BYTES) some
 
 -- banks without an entry
-pub entries_at_first : (sizes : Sizes) (es : List (Numbered Entry)) → ((i : ℕ) → bank es i ≡ empty)
+entries_at_first : (sizes : Sizes) (es : List (Numbered Entry)) → ((i : ℕ) → bank es i ≡ empty)
     → EntriesInBanks sizes es
 entries_at_first sizes es none = record {
   base = λ b k e there. absurd (in_no_empty es none b k e there);
@@ -76,22 +72,15 @@ entries_at_first sizes es none = record {
 }
 
 -- banks without a name
-pub names_at_first : (ms : List (Named ℕ)) → ((i : ℕ) → bank ms i ≡ empty) → NamesInBanks ms
+names_at_first : (ms : List (Named ℕ)) → ((i : ℕ) → bank ms i ≡ empty) → NamesInBanks ms
 names_at_first ms none = record {
   apart = apart_empties ms none;
   own = λ b k n there. absurd (in_no_empty ms none b k n there);
 }
 
--- names of banks that are apart, with the banks' numbers
-pub names_numbered : {X : Type 0} (ms : List (Named X)) → AreApart ms → NamesInBanks (numbered 0 ms)
-names_numbered ms apart = record {
-  apart = apart_numbered name_order ms apart;
-  own = are_numbered name_order ms;
-}
-
 module _ (ms : List (Named ℕ)) (s : NamesInBanks ms) where
   -- a name that is held is in the bank of its number
-  pub name_in_bank : (v : OpName) (b : ℕ) → get (joined ms) v ≡ Some b → get (bank ms b) v ≡ Some b
+  name_in_bank : (v : OpName) (b : ℕ) → get (joined ms) v ≡ Some b → get (bank ms b) v ≡ Some b
   name_in_bank v b there =
       let t = joined_somewhere name_order ms v b there in
       ap (λ i. get (bank ms i) v) (s.own t.0 v b t.1) ∙ t.1
@@ -101,20 +90,15 @@ module _ (ms : List (Named ℕ)) (s : NamesInBanks ms) where
   name_alone v b there = alone_there ms s.apart b v b (name_in_bank v b there)
 
   -- the places held of a bank are those of its map
-  pub places_in_bank : (b : ℕ) → places_in b (joined ms) ≡ len (bank ms b)
+  places_in_bank : (b : ℕ) → places_in b (joined ms) ≡ len (bank ms b)
   places_in_bank b =
       count_in_bank name_order (λ v n. n == b) ms b s.apart
       (λ k n there. same_number n b (s.own b k n there))
       (λ i other k n there. other_number n b (λ is. other (sym (s.own i k n there) ∙ is)))
 
   -- and so are the buffers
-  pub buffers_in_bank : (b : ℕ) → buffers_in b (joined ms) ≡ len (bank ms b)
+  buffers_in_bank : (b : ℕ) → buffers_in b (joined ms) ≡ len (bank ms b)
   buffers_in_bank b = places_in_bank b
-
-  -- of its map alone
-  pub places_of_own : (b : ℕ) → places_in b (bank ms b) ≡ len (bank ms b)
-  places_of_own b =
-      count_all name_order (λ v n. n == b) (bank ms b) (λ k n there. same_number n b (s.own b k n there))
 
 -- the most entries of one bank of so many, and the most places or buffers
 pub most_entries : (sizes : Sizes) (es : List (Numbered Entry)) → EntriesInBanks sizes es → (n : ℕ)
@@ -146,21 +130,11 @@ module _ (ts : List Tables) (b : ℕ) where
 
 module _ (sizes : Sizes) (ts : List Tables) (s : AreBankTables sizes ts) where
   -- what a bank has in use of all tables is what its own tables have
-  pub fill_in_bank : (b : ℕ) → fill_of sizes (joined_tables ts) b ≡ own_fill (tables_at ts b)
+  fill_in_bank : (b : ℕ) → fill_of sizes (joined_tables ts) b ≡ own_fill (tables_at ts b)
   fill_in_bank b = λ i. record {
     entries = (entries_in_bank sizes (entries_of ts) s.entries b ∙ ap len (bank-entries ts b)) i;
     places = (places_in_bank (places_of ts) s.places b ∙ ap len (bank-places ts b)) i;
     buffers = (buffers_in_bank (buffers_of ts) s.buffers b ∙ ap len (bank-buffers ts b)) i;
-  }
-
-  -- the same by its own tables
-  pub fill_of_own : (b : ℕ) → fill_of sizes (tables_at ts b) b ≡ own_fill (tables_at ts b)
-  fill_of_own b = λ i. record {
-    entries =
-        subst (λ m. entries_in sizes b m ≡ len m) (bank-entries ts b)
-        (entries_of_own sizes (entries_of ts) s.entries b) i;
-    places = subst (λ m. places_in b m ≡ len m) (bank-places ts b) (places_of_own (places_of ts) s.places b) i;
-    buffers = subst (λ m. places_in b m ≡ len m) (bank-buffers ts b) (places_of_own (buffers_of ts) s.buffers b) i;
   }
 
   -- at a base all tables have the entry that its bank has
@@ -181,24 +155,6 @@ module _ (sizes : Sizes) (ts : List Tables) (s : AreBankTables sizes ts) where
         (get (tables_at ts (bank_of sizes operand.object)).entries operand.object.base) operand.mode
     wait_in_bank = λ i. bank_wait sizes (fill_in_bank (bank_of sizes operand.object) i)
         (line_of sizes (bank_of sizes operand.object) decodes) o (entry_of_own operand.object.base i) operand.mode
-
-    -- the same by the bank's own tables
-    pub wait_of_own : operand_wait sizes (tables_at ts (bank_of sizes operand.object)) decodes o operand
-        ≡ bank_wait sizes (own_fill (tables_at ts (bank_of sizes operand.object)))
-        (line_of sizes (bank_of sizes operand.object) decodes) o
-        (get (tables_at ts (bank_of sizes operand.object)).entries operand.object.base) operand.mode
-    wait_of_own = λ i. bank_wait sizes (fill_of_own (bank_of sizes operand.object) i)
-        (line_of sizes (bank_of sizes operand.object) decodes) o (get own.entries operand.object.base) operand.mode
-
-    -- so all tables and the bank's own give one wait
-    pub same_wait : operand_wait sizes (joined_tables ts) decodes o operand
-        ≡ operand_wait sizes (tables_at ts (bank_of sizes operand.object)) decodes o operand
-    same_wait = wait_in_bank ∙ sym wait_of_own
-
-    -- and let a decode happen alike
-    pub can_decode_in_bank : can_decode sizes (joined_tables ts) decodes o operand
-        ≡ can_decode sizes (tables_at ts (bank_of sizes operand.object)) decodes o operand
-    can_decode_in_bank = ap is_none same_wait
 
 -- banks without anything
 pub tables_at_first : (sizes : Sizes) (ts : List Tables) → ((b : ℕ) → tables_at ts b ≡ no_tables)

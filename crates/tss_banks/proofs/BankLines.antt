@@ -1,5 +1,6 @@
 -- The line of a bank: what the decodes under way make of it, as they come and go.
-use Rattle.std.proofs.Common.{◌≡◌, ◌≢◌, ◌≤◌, ℕ, ◌==◌, Bool, true, false, cond, if◌then◌else◌, Option, Some, None, option_and_then, refl, sym, ap, ◌∙◌, arith}
+use Rattle.std.proofs.Common.{◌≡◌, ◌≢◌, ◌≤◌, ℕ, ◌==◌, Bool, true, false, cond, if◌then◌else◌, Option, Some, None}
+use Rattle.std.proofs.Common.{option_and_then, refl, sym, ap, ◌∙◌, arith}
 use Rattle.std.specs.declared.cmp.Ordering.{Ordering}
 use Rattle.std.specs.FinMap.{FinMap, empty, get, insert, remove, len}
 use Rattle.std.proofs.lemmas.Option.{none-some}
@@ -16,16 +17,17 @@ use Rattle.tss_maps.proofs.PartsLemmas.{get-keys_where}
 use Rattle.tss_protocol.specs.Names.{bank_of}
 use Rattle.tss_protocol.specs.Renaming.{line_of}
 use Rattle.tss_banks.specs.Collected.{collected}
-use Rattle.tss_banks.proofs.CollectedLemmas.{get-collected, collected-empty, collected-insert_some, collected-insert_left, collected-remove}
+use Rattle.tss_banks.proofs.CollectedLemmas.{get-collected, collected-empty, collected-insert_some}
+use Rattle.tss_banks.proofs.CollectedLemmas.{collected-insert_left, collected-remove}
 use Rattle.tss_banks.proofs.BankCounts.{same_number, other_number}
 
 -- an answer where the test passes
-abbrev pub key_if : {K X : Type 0} → (K → X → Bool) → K → X → Option (Unit {0})
+abbrev key_if : {K X : Type 0} → (K → X → Bool) → K → X → Option (Unit {0})
 key_if p k x = if p k x then Some tt else None
 
 module _ {K X : Type 0} {R : K → K → Ordering} (order : IsKeyOrder R) (p : K → X → Bool) where
   -- the keys that pass a test are collected
-  pub keys_where-collected : (m : FinMap R X) → keys_where p m ≡ collected (key_if p) m
+  keys_where-collected : (m : FinMap R X) → keys_where p m ≡ collected (key_if p) m
   keys_where-collected m = same_by_get order _ _ (λ k.
       get-keys_where order p m k ∙ by k (get m k) ∙ sym (get-collected order (key_if p) m k))
     where
@@ -51,14 +53,8 @@ module _ (sizes : Sizes) (b : ℕ) where
   line_at_first = collects empty ∙ collected-empty name_order (key_if is_of)
 
   module _ (decodes : Named Operand) (o : OpName) where
-    -- an operand that is to be decoded here is in it
-    pub in_line : (p : Operand) → get decodes o ≡ Some p → bank_of sizes p.object ≡ b
-        → get (line_of sizes b decodes) o ≡ Some tt
-    in_line p there own =
-        get-keys_where name_order is_of decodes o ∙ ap (key_where is_of o) there ∙ is_own o p own
-
     -- one that is to be decoded elsewhere isn't
-    pub not_in_line : (p : Operand) → get decodes o ≡ Some p → bank_of sizes p.object ≢ b
+    not_in_line : (p : Operand) → get decodes o ≡ Some p → bank_of sizes p.object ≢ b
         → get (line_of sizes b decodes) o ≡ None
     not_in_line p there other =
         get-keys_where name_order is_of decodes o ∙ ap (key_where is_of o) there ∙ is_other o p other
@@ -78,7 +74,7 @@ module _ (sizes : Sizes) (b : ℕ) where
     from_line_by (Some p) there e = (p, there, from_test p (is_of o p) refl e)
 
     -- an operand in it is to be decoded here
-    pub from_line : get (line_of sizes b decodes) o ≡ Some tt
+    from_line : get (line_of sizes b decodes) o ≡ Some tt
         → (p : Operand) × (get decodes o ≡ Some p) × (bank_of sizes p.object ≡ b)
     from_line e = from_line_by (get decodes o) refl (sym (get-keys_where name_order is_of decodes o) ∙ e)
 

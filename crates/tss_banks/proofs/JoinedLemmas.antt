@@ -1,15 +1,16 @@
 -- What stands at a key of joined maps, and what a change of one bank's map makes of them.
-use Rattle.std.proofs.Common.{get_or, map, ◌≡◌, ◌≢◌, ◌⊎◌, ◌↔◌, ◌<◌, ℕ, zero, suc, true, false, cond, List, [], ◌∷◌, ◌++◌, length, set, replicate, slice_get, Option, Some, None, refl, sym, ap, ◌∙◌, subst, inl, inr, arith}
+use Rattle.std.proofs.Common.{get_or, map, ◌≡◌, ◌≢◌, ◌⊎◌, ◌<◌, ℕ, zero, suc, true, false, cond, List, [], ◌∷◌, ◌++◌}
+use Rattle.std.proofs.Common.{length, set, Option, Some, None, refl, sym, ap, ◌∙◌, subst, inl, inr, arith}
 use Rattle.std.specs.List.{flat_map}
 use Rattle.std.specs.declared.cmp.Ordering.{Ordering}
 use Rattle.std.specs.Ordering.{eq_by_cmp}
 use Rattle.std.specs.FinMap.{FinMap, empty, get, insert, remove, entries, get-entries, get-from_entries, get-empty}
 use Rattle.std.specs.FinMap.Entries.{find}
-use Rattle.std.proofs.lemmas.Option.{none-some, slice_get_within, get_or_from_slice_get}
-use Rattle.std.proofs.lemmas.List.{get_or-set_same, get_or-set_other, get_or_past, set-get_or}
-use Rattle.std.proofs.lemmas.Bool.{cases_lt}
+use Rattle.std.proofs.lemmas.Option.{none-some}
+use Rattle.std.proofs.lemmas.List.{get_or-set_same, get_or-set_other, set-get_or}
 use Rattle.tss_maps.proofs.Keys.{IsKeyOrder, nat_order, decide_key}
-use Rattle.tss_maps.proofs.Changes.{decide_get, same_by_get, same_at_key, at_inserted, beside_inserted, at_removed, beside_removed, from_inserted, from_removed}
+use Rattle.tss_maps.proofs.Changes.{decide_get, same_by_get, same_at_key, at_inserted, beside_inserted, at_removed}
+use Rattle.tss_maps.proofs.Changes.{beside_removed, from_inserted, from_removed}
 use Rattle.tss_banks.specs.Joined.{bank, joined, AreApart, IsInNoOther, HaveKeysOf}
 
 -- the first of two values, where it is there
@@ -49,20 +50,7 @@ module _ {K X : Type 0} (R : K → K → Ordering) where
   pub get-no_bank : (b : ℕ) (k : K) → get (bank {X = X} {R = R} [] b) k ≡ None
   get-no_bank b k = get-empty R k
 
-  -- so many empty banks are all empty
-  pub bank-replicate : (n i : ℕ) → bank (replicate n (empty {X = X} {R = R})) i ≡ empty
-  bank-replicate zero i = refl
-  bank-replicate (suc n) zero = refl
-  bank-replicate (suc n) (suc i) = bank-replicate n i
-
 module _ {K X : Type 0} {R : K → K → Ordering} where
-  -- a key of a bank shows that there is such a bank
-  pub bank_within : (ms : List (FinMap R X)) (b : ℕ) (k : K) (x : X) → get (bank ms b) k ≡ Some x → b < length ms
-  bank_within ms b k x e = elim (cases_lt b (length ms)) [
-    | inl within ↦ within
-    | inr past ↦ absurd (none-some x (sym (get-empty R k) ∙ ap (λ m. get m k) (sym (get_or_past ms b empty past)) ∙ e))
-  ]
-
   -- banks that are all empty have no key
   pub in_no_empty : (ms : List (FinMap R X)) → ((i : ℕ) → bank ms i ≡ empty) → (i : ℕ) (k : K) (x : X)
       → get (bank ms i) k ≡ Some x → ⊥
@@ -72,11 +60,6 @@ module _ {K X : Type 0} {R : K → K → Ordering} where
   pub apart_empties : (ms : List (FinMap R X)) → ((i : ℕ) → bank ms i ≡ empty) → AreApart ms
   apart_empties ms none i j k x y e f = absurd (in_no_empty ms none i k x e)
 
-  -- a bank by its place in the list
-  pub bank_at : (ms : List (FinMap R X)) (b : ℕ) (m : FinMap R X) → slice_get ms b ≡ Some m
-      → (b < length ms) × (bank ms b ≡ m)
-  bank_at ms b m e = (slice_get_within ms b m e, get_or_from_slice_get ms b m empty e)
-
   -- ---- a bank of a written list
 
   module _ (ms : List (FinMap R X)) (b : ℕ) (n : FinMap R X) where
@@ -85,16 +68,12 @@ module _ {K X : Type 0} {R : K → K → Ordering} where
     bank_set within = get_or-set_same ms b n empty within
 
     -- the others have theirs
-    pub bank_set_beside : (i : ℕ) → i ≢ b → bank (set ms b n) i ≡ bank ms i
+    bank_set_beside : (i : ℕ) → i ≢ b → bank (set ms b n) i ≡ bank ms i
     bank_set_beside i apart = get_or-set_other ms b i n empty apart
 
     -- a key that is in no other bank is in none
     pub alone_set : (k : K) → IsInNoOther ms b k → IsInNoOther (set ms b n) b k
     alone_set k only i apart = ap (λ m. get m k) (bank_set_beside i apart) ∙ only i apart
-
-    -- and the other way round
-    pub alone_before_set : (k : K) → IsInNoOther (set ms b n) b k → IsInNoOther ms b k
-    alone_before_set k only i apart = ap (λ m. get m k) (sym (bank_set_beside i apart)) ∙ only i apart
 
   module _ (ms : List (FinMap R X)) (b : ℕ) where
     -- a bank's own map in its place leaves the banks as they were
@@ -165,10 +144,6 @@ module _ {K X : Type 0} {R : K → K → Ordering} where
 
 module _ {K X Y : Type 0} {R : K → K → Ordering} (ms : List (FinMap R X)) (ns : List (FinMap R Y))
     (have : HaveKeysOf ms ns) where
-  -- banks whose keys are those of banks that are apart are apart
-  pub apart_within : AreApart ns → AreApart ms
-  apart_within apart i j k x y e f = apart i j k (have i k x e).0 (have j k y f).0 (have i k x e).1 (have j k y f).1
-
   -- and a key of no other bank there is in no other here
   pub alone_within : (b : ℕ) (k : K) → IsInNoOther ns b k → IsInNoOther ms b k
   alone_within b k only i other = elim (decide_get (bank ms i) k) [
@@ -254,10 +229,6 @@ module _ {K X : Type 0} {R : K → K → Ordering} (order : IsKeyOrder R) where
     pub joined_there : (b : ℕ) (k : K) (x : X) → get (bank ms b) k ≡ Some x → get (joined ms) k ≡ Some x
     joined_there b k x e = get-joined ms b k (alone_there ms apart b k x e) ∙ e
 
-    -- a value stands in the joined map exactly where it stands in some bank
-    pub joined_exactly : (k : K) (x : X) → (get (joined ms) k ≡ Some x) ↔ ((i : ℕ) × (get (bank ms i) k ≡ Some x))
-    joined_exactly k x = (joined_somewhere ms k x, λ t. joined_there t.0 k x t.1)
-
     alone_by : (b : ℕ) (k : K) (x : X) → (i : ℕ) × (get (bank ms i) k ≡ Some x)
         → IsInNoOther ms b k ⊎ (IsInNoOther ms b k → ⊥)
     alone_by b k x t = elim (decide_key nat_order t.0 b) [
@@ -275,7 +246,7 @@ module _ {K X : Type 0} {R : K → K → Ordering} (order : IsKeyOrder R) where
   -- ---- two lists of banks
 
   -- banks that answer alike at a key, joined, do so too
-  pub joined_alike : (ms ns : List (FinMap R X)) (k : K) → ((i : ℕ) → get (bank ms i) k ≡ get (bank ns i) k)
+  joined_alike : (ms ns : List (FinMap R X)) (k : K) → ((i : ℕ) → get (bank ms i) k ≡ get (bank ns i) k)
       → get (joined ms) k ≡ get (joined ns) k
   joined_alike [] [] k alike = refl
   joined_alike [] (n ∷ ns) k alike =
@@ -297,12 +268,12 @@ module _ {K X : Type 0} {R : K → K → Ordering} (order : IsKeyOrder R) where
 
   module _ (ms : List (FinMap R X)) (b : ℕ) (within : b < length ms) where
     -- at a key that is in no other bank stands what the new map has
-    pub get-joined_set : (n : FinMap R X) (k : K) → IsInNoOther ms b k → get (joined (set ms b n)) k ≡ get n k
+    get-joined_set : (n : FinMap R X) (k : K) → IsInNoOther ms b k → get (joined (set ms b n)) k ≡ get n k
     get-joined_set n k only =
         get-joined (set ms b n) b k (alone_set ms b n k only) ∙ ap (λ m. get m k) (bank_set ms b n within)
 
     -- at a key where the new map has what the old one had stands what stood there
-    pub beside_joined_set : (n : FinMap R X) (k : K) → get n k ≡ get (bank ms b) k
+    beside_joined_set : (n : FinMap R X) (k : K) → get n k ≡ get (bank ms b) k
         → get (joined (set ms b n)) k ≡ get (joined ms) k
     beside_joined_set n k same = joined_alike (set ms b n) ms k (λ i. elim (decide_key nat_order i b) [
       | inl is ↦

@@ -1,5 +1,6 @@
 -- Sums, lengths and counts over joined maps.
-use Rattle.std.proofs.Common.{◌≡◌, ◌≢◌, ℕ, zero, suc, ◌+◌, Bool, true, false, List, [], ◌∷◌, map, sum, Some, None, refl, sym, ap, ◌∙◌, arith}
+use Rattle.std.proofs.Common.{◌≡◌, ◌≢◌, ℕ, zero, suc, ◌+◌, Bool, true, false, List, [], ◌∷◌, map, sum, Some, None, refl}
+use Rattle.std.proofs.Common.{sym, ap, ◌∙◌, arith}
 use Rattle.std.specs.declared.cmp.Ordering.{Ordering}
 use Rattle.std.specs.FinMap.{FinMap, empty, get, insert, len, get-empty}
 use Rattle.std.proofs.lemmas.List.Sums.{sum_by-cons}
@@ -7,9 +8,10 @@ use Rattle.tss_maps.specs.Sums.{sum_of, one_if, count_of}
 use Rattle.tss_maps.proofs.Keys.{IsKeyOrder}
 use Rattle.tss_maps.proofs.Changes.{same_by_get, at_inserted, beside_inserted, apart_absent}
 use Rattle.tss_maps.proofs.Entries.{map_induction}
-use Rattle.tss_maps.proofs.Sums.{sum_empty, sum_added, sum_ones, count_none, count_all}
+use Rattle.tss_maps.proofs.Sums.{sum_empty, sum_added, count_none, count_all}
 use Rattle.tss_banks.specs.Joined.{bank, joined, AreApart}
-use Rattle.tss_banks.proofs.JoinedLemmas.{get-joined_nil, joined_later, absent_in_banks, absent_in_joined, joined_insert, apart_rest, apart_first}
+use Rattle.tss_banks.proofs.JoinedLemmas.{get-joined_nil, joined_later, absent_in_banks, absent_in_joined}
+use Rattle.tss_banks.proofs.JoinedLemmas.{joined_insert, apart_rest, apart_first}
 
 -- a first number is added
 sum_more : (n : ℕ) (ns : List ℕ) → sum (n ∷ ns) ≡ n + sum ns
@@ -17,11 +19,11 @@ sum_more n ns = sum_by-cons (λ n. n) n ns
 
 module _ {K X : Type 0} {R : K → K → Ordering} (order : IsKeyOrder R) where
   -- without banks the joined map is empty
-  pub joined_nil : joined {R = R} [] ≡ empty {X = X}
+  joined_nil : joined {R = R} [] ≡ empty {X = X}
   joined_nil = same_by_get order _ _ (λ k. get-joined_nil R k ∙ sym (get-empty R k))
 
   -- a first bank that is empty adds nothing
-  pub joined_empty_first : (ms : List (FinMap R X)) → joined (empty ∷ ms) ≡ joined ms
+  joined_empty_first : (ms : List (FinMap R X)) → joined (empty ∷ ms) ≡ joined ms
   joined_empty_first ms = same_by_get order _ _ (λ k. joined_later order empty ms k (get-empty R k))
 
   -- an insertion in the first bank, of a key that is in no other
@@ -54,7 +56,7 @@ module _ {K X : Type 0} {R : K → K → Ordering} (order : IsKeyOrder R) where
         omega (arith, rest, here, all, one))
 
     -- the sum over the joined map is the sum of the banks' sums
-    pub sum_of-joined : (ms : List (FinMap R X)) → AreApart ms → sum_of f (joined ms) ≡ sum (map (sum_of f) ms)
+    sum_of-joined : (ms : List (FinMap R X)) → AreApart ms → sum_of f (joined ms) ≡ sum (map (sum_of f) ms)
     sum_of-joined [] apart = ap (sum_of f) joined_nil ∙ sum_empty order f
     sum_of-joined (m ∷ ms) apart =
         let first = sum_first ms m (λ k x e. absent_in_joined order ms k (apart_first m ms apart k x e)) in
@@ -62,21 +64,9 @@ module _ {K X : Type 0} {R : K → K → Ordering} (order : IsKeyOrder R) where
         first ∙ ap (λ n. sum_of f m + n) rest ∙ sym (sum_more (sum_of f m) (map (sum_of f) ms))
 
   -- as many pass a test as in the banks together
-  pub count_of-joined : (p : K → X → Bool) (ms : List (FinMap R X)) → AreApart ms
+  count_of-joined : (p : K → X → Bool) (ms : List (FinMap R X)) → AreApart ms
       → count_of p (joined ms) ≡ sum (map (count_of p) ms)
   count_of-joined p ms apart = sum_of-joined (λ k x. one_if (p k x)) ms apart
-
-  sum_lens : (ms : List (FinMap R X)) → sum (map (sum_of (λ (k : K) (x : X). 1)) ms) ≡ sum (map len ms)
-  sum_lens [] = refl
-  sum_lens (m ∷ ms) =
-      sum_more (sum_of (λ (k : K) (x : X). 1) m) (map (sum_of (λ (k : K) (x : X). 1)) ms)
-      ∙ (λ i. sum_ones order m i + sum_lens ms i)
-      ∙ sym (sum_more (len m) (map len ms))
-
-  -- there are as many entries as in the banks together
-  pub len-joined : (ms : List (FinMap R X)) → AreApart ms → len (joined ms) ≡ sum (map len ms)
-  len-joined ms apart =
-      sym (sum_ones order (joined ms)) ∙ sum_of-joined (λ k x. 1) ms apart ∙ sum_lens ms
 
   -- ---- counts that only one bank adds to
 
@@ -90,7 +80,7 @@ module _ {K X : Type 0} {R : K → K → Ordering} (order : IsKeyOrder R) where
         omega (arith, first, rest, all)
 
     -- where only one bank adds to a sum, it is that bank's
-    pub sum_of_one : (ms : List (FinMap R X)) (b : ℕ) → ((i : ℕ) → i ≢ b → g (bank ms i) ≡ 0)
+    sum_of_one : (ms : List (FinMap R X)) (b : ℕ) → ((i : ℕ) → i ≢ b → g (bank ms i) ≡ 0)
         → sum (map g ms) ≡ g (bank ms b)
     sum_of_one [] b none = sym nothing
     sum_of_one (m ∷ ms) zero none =

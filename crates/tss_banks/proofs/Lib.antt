@@ -1,6 +1,5 @@
 pub mod JoinedLemmas
 pub mod JoinedSums
-pub mod JoinedMapped
 pub mod CollectedLemmas
 pub mod BankCounts
 pub mod BankLines

@@ -1,5 +1,6 @@
 -- The rows of renaming on all banks' tables are the rows in their own banks.
-use Rattle.std.proofs.Common.{◌≡◌, ℕ, ◌<◌, Bool, true, false, if◌then◌else◌, List, length, set, Option, Some, None, refl, sym, ap, ◌∙◌, subst, inl, inr, map, get_or}
+use Rattle.std.proofs.Common.{◌≡◌, ℕ, ◌<◌, Bool, true, false, if◌then◌else◌, List, length, set, Option, Some, None}
+use Rattle.std.proofs.Common.{refl, sym, ap, ◌∙◌, subst, inl, inr, map, get_or}
 use Rattle.std.specs.FinMap.{FinMap, empty, get, insert, remove}
 use Rattle.std.specs.declared.cmp.Ordering.{Ordering}
 use Rattle.std.proofs.lemmas.List.{length-map, map-set}
@@ -14,10 +15,14 @@ use Rattle.tss_maps.proofs.Changes.{from_inserted, from_removed}
 use Rattle.tss_protocol.specs.Names.{bank_of}
 use Rattle.tss_protocol.specs.Mail.{GoneContents}
 use Rattle.tss_protocol.specs.State.{Entry, Outcome}
-use Rattle.tss_protocol.specs.Renaming.{buffers_after_decode, Tables, takes_place, takes_buffer, live_entry, entry_after_decode, places_after_decode, decoded_by, after_decode, may_retire, idle_by, after_idle, buffers_after_gone, after_gone}
+use Rattle.tss_protocol.specs.Renaming.{buffers_after_decode, Tables, takes_place, takes_buffer, live_entry}
+use Rattle.tss_protocol.specs.Renaming.{entry_after_decode, places_after_decode, decoded_by, after_decode, may_retire}
+use Rattle.tss_protocol.specs.Renaming.{idle_by, after_idle, buffers_after_gone, after_gone}
 use Rattle.tss_banks.specs.Joined.{bank, joined, IsInNoOther}
-use Rattle.tss_banks.specs.Tables.{bank_of_base, no_tables, tables_at, entries_of, places_of, buffers_of, joined_tables, EntriesInBanks, NamesInBanks, AreBankTables, on_entries, silent, IsRowOfTables}
-use Rattle.tss_banks.proofs.JoinedLemmas.{get_or-part, joined_insert, joined_remove, joined_unchanged, same_banks, each_set, apart_inserted, apart_removed}
+use Rattle.tss_banks.specs.Tables.{bank_of_base, no_tables, tables_at, entries_of, places_of, buffers_of, joined_tables}
+use Rattle.tss_banks.specs.Tables.{EntriesInBanks, NamesInBanks, AreBankTables, on_entries, silent, IsRowOfTables}
+use Rattle.tss_banks.proofs.JoinedLemmas.{get_or-part, joined_insert, joined_remove, joined_unchanged, same_banks}
+use Rattle.tss_banks.proofs.JoinedLemmas.{each_set, apart_inserted, apart_removed}
 use Rattle.tss_banks.proofs.BankCounts.{alone_base, bank-entries, entry_of_own}
 
 -- ---- entries of one bank are changed
@@ -215,7 +220,7 @@ module _ (sizes : Sizes) (ts : List Tables) (s : AreBankTables sizes ts) (o : Op
       (ap (λ m. get m operand.object.base) (bank-entries ts own_bank) ∙ at)
 
   -- by the entry that the bank has
-  pub decoded_in_bank : (e : Option Entry)
+  decoded_in_bank : (e : Option Entry)
       → get (tables_at ts (bank_of sizes operand.object)).entries operand.object.base ≡ e
       → IsRowOfTables sizes ts (bank_of sizes operand.object)
       (decoded_by (joined_tables ts) o operand (bank_of sizes operand.object) e)

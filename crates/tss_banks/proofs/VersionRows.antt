@@ -11,10 +11,13 @@ use Rattle.tss_maps.proofs.Changes.{decide_get}
 use Rattle.tss_protocol.specs.Names.{bank_of}
 use Rattle.tss_protocol.specs.Mail.{OpenContents, ReleaseContents}
 use Rattle.tss_protocol.specs.State.{Version}
-use Rattle.tss_protocol.specs.Versions.{Versioned, unchanged, after_open, is_followable, can_open, can_use, after_use, after_release, after_nack, after_retire}
+use Rattle.tss_protocol.specs.Versions.{Versioned, unchanged, after_open, is_followable, can_open, can_use, after_use}
+use Rattle.tss_protocol.specs.Versions.{after_release, after_nack, after_retire}
 use Rattle.tss_banks.specs.Joined.{bank, joined, IsInNoOther}
 use Rattle.tss_banks.specs.Versions.{AreAlike, AreRowsAlike, VersionsInBanks, LinksIn, LinksWithinObjects, IsRowOf}
-use Rattle.tss_banks.proofs.JoinedLemmas.{in_no_empty, apart_empties, bank_set, alone_set, alone_there, joined_somewhere, get-joined, joined_there, decide_alone, joined_set_is, each_set, apart_set}
+use Rattle.tss_banks.proofs.JoinedLemmas.{in_no_empty, apart_empties, bank_set, alone_set, alone_there}
+use Rattle.tss_banks.proofs.JoinedLemmas.{joined_somewhere, get-joined, joined_there, decide_alone, joined_set_is}
+use Rattle.tss_banks.proofs.JoinedLemmas.{each_set, apart_set}
 use Rattle.tss_banks.proofs.AlikeChanges.{alike_at_first}
 use Rattle.tss_banks.proofs.AlikeRows.{alike_open, alike_use, alike_release, alike_nack, alike_retire}
 
@@ -33,12 +36,6 @@ module _ (sizes : Sizes) (ms : List (Named Version)) (s : VersionsInBanks sizes 
   version_in_bank v x there =
       let t = joined_somewhere name_order ms v x there in
       ap (λ i. get (bank ms i) v) (s.own t.0 v x t.1) ∙ t.1
-
-  -- and in no other
-  pub version_alone : (v : OpName) (x : Version) → get (joined ms) v ≡ Some x
-      → IsInNoOther ms (bank_of sizes x.object) v
-  version_alone v x there =
-      alone_there ms s.apart (bank_of sizes x.object) v x (version_in_bank v x there)
 
   -- a version of the same object as one of a bank is in no other bank
   same_object_alone : (b : ℕ) (x : Version) (q : OpName) → bank_of sizes x.object ≡ b
@@ -63,15 +60,6 @@ module _ (sizes : Sizes) (ms : List (Named Version)) (s : VersionsInBanks sizes 
         successor = λ f to.
             same_object_alone b x f.version (s.own b v x there) (λ y e. within.successor v f x y at to e);
       }
-
-  -- a version of a bank has the neighbours there that it has among all versions
-  module _ (b : ℕ) (links : LinksIn ms b) (v : OpName) (x : Version) (there : get (bank ms b) v ≡ Some x) where
-    pub before_in_bank : (p : OpName) → x.predecessor ≡ Some p → get (joined ms) p ≡ get (bank ms b) p
-    before_in_bank p to = get-joined name_order ms b p ((links v x there).predecessor p to)
-
-    pub after_in_bank : (f : Follow) → x.successor ≡ Some f
-        → get (joined ms) f.version ≡ get (bank ms b) f.version
-    after_in_bank f to = get-joined name_order ms b f.version ((links v x there).successor f to)
 
   module _ (b : ℕ) (within : b < length ms) (links : LinksIn ms b) where
     -- the names that are in no other bank, and the objects of this one
@@ -161,7 +149,7 @@ module _ (sizes : Sizes) (ms : List (Named Version)) (s : VersionsInBanks sizes 
 
 module _ (ms : List (Named Version)) (b : ℕ) where
   -- a version of no other bank is registered where it is in the bank
-  pub can_use_in_bank : (v : OpName) → IsInNoOther ms b v → can_use (joined ms) v ≡ can_use (bank ms b) v
+  can_use_in_bank : (v : OpName) → IsInNoOther ms b v → can_use (joined ms) v ≡ can_use (bank ms b) v
   can_use_in_bank v only = ap is_some (get-joined name_order ms b v only)
 
   followable_in_bank : (f : Option Follow) → ((g : Follow) → f ≡ Some g → IsInNoOther ms b g.version)

@@ -6,7 +6,8 @@ use Rattle.tss_base.specs.Names.{Named}
 use Rattle.tss_maps.proofs.Keys.{name_order}
 use Rattle.tss_maps.proofs.Entries.{len_written, len_removed}
 use Rattle.tss_protocol.specs.State.{Version}
-use Rattle.tss_protocol.specs.Versions.{drop_version, version_changed, change_version, change_named, followed_by, unlinked}
+use Rattle.tss_protocol.specs.Versions.{drop_version, version_changed, change_version, change_named, followed_by}
+use Rattle.tss_protocol.specs.Versions.{unlinked}
 
 module _ (vs : Named Version) (f : Version → Version) where
   len_changed_by : (v : OpName) (o : Option Version) → get vs v ≡ o → len (version_changed vs v f o) ≡ len vs
@@ -14,11 +15,11 @@ module _ (vs : Named Version) (f : Version → Version) where
   len_changed_by v (Some x) there = len_written name_order vs v x (f x) there
 
   -- a change leaves as many
-  pub len_changed : (v : OpName) → len (change_version vs v f) ≡ len vs
+  len_changed : (v : OpName) → len (change_version vs v f) ≡ len vs
   len_changed v = len_changed_by v (get vs v) refl
 
   -- the same of a version that may not be named
-  pub len_changed_named : (v : Option OpName) → len (change_named vs v f) ≡ len vs
+  len_changed_named : (v : Option OpName) → len (change_named vs v f) ≡ len vs
   len_changed_named None = refl
   len_changed_named (Some v) = len_changed v
 
