@@ -1,6 +1,7 @@
 -- A call of main over two memories that agree where main may load: what it prints and the operand list that it passes
 -- lie there, so that it leaves the same main and spawns the same task.
-use Rattle.std.proofs.Common.{◌≡◌, ℕ, zero, suc, ◌+◌, ◌*◌, ◌<◌, ◌≤◌, Bool, true, false, Option, Some, None, Result, Err, List, [], ◌∷◌, ◌++◌, length, refl, ap, ◌∙◌, arith}
+use Rattle.std.proofs.Common.{◌≡◌, ℕ, zero, suc, ◌+◌, ◌*◌, ◌<◌, ◌≤◌, Bool, true, false, Option, Some, None, Result, Err}
+use Rattle.std.proofs.Common.{List, [], ◌∷◌, ◌++◌, length, refl, ap, ◌∙◌, arith}
 use Rattle.std.specs.Prelude.{cond, if◌then◌else◌, ◌==◌, ◌%◌, ◌&&◌, ◌||◌, not, is_none, nat_lt}
 use Rattle.std.proofs.lemmas.Bool.{or_parts, lt-ltb}
 use Rattle.tss_base.specs.declared.lists.TheConstants.{ENTRY_BYTES}
@@ -13,8 +14,11 @@ use Rattle.tss_model.specs.Access.{touches}
 use Rattle.tss_model.specs.Registers.{trap_of}
 use Rattle.tss_base.specs.declared.causes.TheConstants.{LOAD_DENIED}
 use Rattle.tss_base.specs.declared.refusals.TheConstants.{MAIN_TOUCH, OUTPUT_FULL, TOO_MANY_OPERANDS, LIST_PLACE}
-use Rattle.tss_model.specs.Spawn.{SpawnCall, Entry, entries_at, list_range, mode_of, mode_checked, with_rest, entries_checked, task_checked, is_misplaced, spawn_of}
-use Rattle.tss_model.specs.MainStep.{MainState, Call, ExitCall, Spawn, Barrier, Print, Await, Unknown, main_trapped, main_refused, spawn_call, spawn_on, print_range, print_call, print_done, call_done, output_of, main_call}
+use Rattle.tss_model.specs.Spawn.{SpawnCall, Entry, entries_at, list_range, mode_of, mode_checked, with_rest}
+use Rattle.tss_model.specs.Spawn.{entries_checked, task_checked, is_misplaced, spawn_of}
+use Rattle.tss_model.specs.MainStep.{MainState, Call, ExitCall, Spawn, Barrier, Print, Await, Unknown, main_trapped}
+use Rattle.tss_model.specs.MainStep.{main_refused, spawn_call, spawn_on, print_range, print_call, print_done, call_done}
+use Rattle.tss_model.specs.MainStep.{output_of, main_call}
 use Rattle.tss_program_order.specs.MainInOrder.{MayLoad}
 use Rattle.tss_program_order.proofs.FlatLoads.{may_load_readable, same_number, same_bytes}
 
@@ -26,7 +30,7 @@ some_from None e = absurd (cc)
 -- ---- the operand list
 
 -- the entries of two memories that agree on their bytes
-pub entries_at-same : (h m : Memory) (at n : ℕ)
+entries_at-same : (h m : Memory) (at n : ℕ)
     → ((a : ℕ) → at ≤ a → a < at + ENTRY_BYTES * n → byte_at h a ≡ byte_at m a)
     → entries_at h at n ≡ entries_at m at n
 entries_at-same h m at zero same = refl
@@ -58,7 +62,7 @@ module _ (limits : Limits) (h m : Memory) (ranges : h.ranges ≡ m.ranges) where
       λ i. mode_checked limits (record { ranges = ranges i; bytes = m.bytes }) named object (Some mode)
 
   -- the checks look at the ranges of memory alone
-  pub entries_checked-same : (named : List Range) (es : List Entry)
+  entries_checked-same : (named : List Range) (es : List Entry)
       → entries_checked limits h named es ≡ entries_checked limits m named es
   unfolding entries_checked
   entries_checked-same named [] = refl
@@ -94,7 +98,7 @@ module _ (limits : Limits) (h m : Memory) (ranges : h.ranges ≡ m.ranges) where
         (entries_checked-same named (listed-same call e d i) i)))
 
     -- so that the task of a spawn, or its refusal, is the same
-    pub spawn_of-same : (call : SpawnCall) (spawned : ℕ)
+    spawn_of-same : (call : SpawnCall) (spawned : ℕ)
         → spawn_of call h named limits spawned ≡ spawn_of call m named limits spawned
     unfolding spawn_of
     spawn_of-same call spawned =
@@ -126,7 +130,7 @@ module _ (limits : Limits) (h m : Memory) (ranges : h.ranges ≡ m.ranges) (s : 
       (λ a low high. same a (may_load_readable h.ranges s.epoch r a w.0 w.1 d (low, high))))
 
   -- a print's bytes lie where main may load
-  pub print_call-same : (r : Range) → print_call limits h s r ≡ print_call limits m s r
+  print_call-same : (r : Range) → print_call limits h s r ≡ print_call limits m s r
   print_call-same r =
       ap (λ (x : MainState). cond (r.len == 0) (call_done s) x)
       (print_some-same r (is_none (range_of h.ranges r)) (touches s.epoch r) refl refl

@@ -1,12 +1,14 @@
 -- One step of a core: what it reads, what it stores, and the instructions that it completes.
-use Rattle.std.proofs.Common.{◌≡◌, ℕ, zero, suc, ◌+◌, ◌%◌, ◌<◌, Bool, true, false, Option, Some, None, length, refl, sym, ap, subst, ◌∙◌, arith}
+use Rattle.std.proofs.Common.{◌≡◌, ℕ, zero, suc, ◌+◌, ◌%◌, ◌<◌, Bool, true, false, Option, Some, None, length, refl}
+use Rattle.std.proofs.Common.{sym, ap, subst, ◌∙◌, arith}
 use Rattle.std.specs.Prelude.{cond, ◌==◌, slice_set}
 use Rattle.std.specs.Int.{bytes_low_first}
 use Rattle.std.proofs.lemmas.Bool.{cond-true, cond-false}
 use Rattle.tss_base.specs.declared.range.Range.{Range}
 use Rattle.tss_base.specs.Range.{Covers}
 use Rattle.tss_isa.specs.declared.instr.Instr.{Instr}
-use Rattle.tss_isa.specs.declared.instr.Instr.TheVariants.{Lui, Auipc, Jal, Jalr, Branch, Load, Store, OpImm, Op, Fence, Ecall, Ebreak}
+use Rattle.tss_isa.specs.declared.instr.Instr.TheVariants.{Lui, Auipc, Jal, Jalr, Branch, Load, Store, OpImm, Op, Fence}
+use Rattle.tss_isa.specs.declared.instr.Instr.TheVariants.{Ecall, Ebreak}
 use Rattle.tss_isa.specs.declared.instr.LoadKind.{LoadKind}
 use Rattle.tss_isa.specs.declared.instr.StoreKind.{StoreKind}
 use Rattle.tss_isa.specs.declared.instr.StoreKind.TheVariants.{Sb, Sh, Sw}
@@ -14,14 +16,17 @@ use Rattle.tss_isa.specs.InstrTable.{instr_of}
 use Rattle.tss_base.specs.declared.causes.TheConstants.{JUMP_MISALIGNED, LOAD_MISALIGNED, STORE_MISALIGNED}
 use Rattle.tss_model.specs.Registers.{Registers, register_at, with_register, next_pc, completed, trap_of}
 use Rattle.tss_model.specs.Access.{Actor, Purpose, Loads, Stores, Access, Granted, Denied, Touch, access_of}
-use Rattle.tss_model.specs.Core.{Stepped, Executed, Called, Ended, Trapped, Touched, jump_to, branch_if, passes, load_on, load_from, load_range, load_width, loaded_value, extended, store_on, store_to, store_range, store_width, stored_value, execute, execute_word, execute_fetched, core_step, moved, result_in}
+use Rattle.tss_model.specs.Core.{Stepped, Executed, Called, Ended, Trapped, Touched, jump_to, branch_if, passes}
+use Rattle.tss_model.specs.Core.{load_on, load_from, load_range, load_width, loaded_value, extended, store_on, store_to}
+use Rattle.tss_model.specs.Core.{store_range, store_width, stored_value, execute, execute_word, execute_fetched}
+use Rattle.tss_model.specs.Core.{core_step, moved, result_in}
 use Rattle.tss_program_order.proofs.FlatLoads.{same_number}
 use Rattle.tss_base.specs.declared.addresses.TheConstants.{END_PC}
 
 -- ---- what a step reads
 
 -- two reads agree on every range that an actor may load
-abbrev pub AgreeOnLoads : Actor → (ℕ → ℕ) → (ℕ → ℕ) → Type 0
+abbrev AgreeOnLoads : Actor → (ℕ → ℕ) → (ℕ → ℕ) → Type 0
 AgreeOnLoads actor f g = (q : Range) (a : ℕ) → access_of actor Loads q ≡ Granted → Covers q a → f a ≡ g a
 
 module _ (actor : Actor) (f g : ℕ → ℕ) (same : AgreeOnLoads actor f g) (r : Registers) where
@@ -81,7 +86,7 @@ IsStep actor r (Trapped t) = Unit {0}
 IsStep actor r Touched = (purpose : Purpose) × (q : Range) × (access_of actor purpose q ≡ Touch)
 
 -- the low bytes of a number are as many as were asked for
-pub length-bytes_low_first : (i n x : ℕ) → length (bytes_low_first i n x) ≡ n
+length-bytes_low_first : (i n x : ℕ) → length (bytes_low_first i n x) ≡ n
 length-bytes_low_first i zero x = refl
 length-bytes_low_first i (suc n) x = ap suc (length-bytes_low_first (suc i) n x)
 

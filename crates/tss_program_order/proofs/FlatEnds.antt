@@ -1,5 +1,6 @@
 -- How program order ends: where it has ended after some steps, so it ends, and a task that traps is its ending.
-use Rattle.std.proofs.Common.{◌≡◌, ℕ, suc, ◌+◌, ◌-◌, ◌≤◌, inl, inr, Bool, true, false, Some, refl, sym, ap, ◌∙◌, arith, nat_le}
+use Rattle.std.proofs.Common.{◌≡◌, ℕ, suc, ◌+◌, ◌-◌, ◌≤◌, inl, inr, Bool, true, false, Some, refl, sym, ap, ◌∙◌, arith}
+use Rattle.std.proofs.Common.{nat_le}
 use Rattle.std.specs.Prelude.{is_some, unwrap_or}
 use Rattle.std.proofs.lemmas.Bool.{cases_lt, le-leb}
 use Rattle.tss_base.specs.declared.ending.Trap.{Trap}
@@ -10,15 +11,17 @@ use Rattle.tss_base.specs.declared.refusals.TheConstants.{MAIN_BUDGET_SPENT}
 use Rattle.tss_model.specs.Memory.{Memory, frozen}
 use Rattle.tss_model.specs.TaskRun.{task_end}
 use Rattle.tss_model.specs.MainStep.{MainState, Flat, has_spent, output_of}
-use Rattle.tss_model.specs.InOrder.{Started, ReferenceState, main_after_task, call_ran, flat_stepped, started_at, end_of_started, reference_of, in_order}
-use Rattle.tss_program_order.proofs.FlatSteps.{main_step-spent, next_call-spent, flat_step-main, flat_step-call, flat_step-ended}
+use Rattle.tss_model.specs.InOrder.{Started, ReferenceState, main_after_task, call_ran, flat_stepped, started_at}
+use Rattle.tss_model.specs.InOrder.{end_of_started, reference_of, in_order}
+use Rattle.tss_program_order.proofs.FlatSteps.{main_step-spent, next_call-spent, flat_step-main, flat_step-call}
+use Rattle.tss_program_order.proofs.FlatSteps.{flat_step-ended}
 use Rattle.tss_program_order.proofs.FlatOrder.{flat_stepped-next, flat_stepped-ended, StartedBy, started_at-by}
 use Rattle.tss_program_order.proofs.FlatSpawn.{IsSpawn, main_call-spawn}
 use Rattle.tss_program_order.proofs.FlatStarts.{flat_stepped-done}
 
 module _ (i : ImageState) (limits : Limits) where
   -- main that has spent its budget ends with its next step
-  pub budget_ends : is_some (flat_stepped i limits (suc limits.main_budget)).main.ending ≡ true
+  budget_ends : is_some (flat_stepped i limits (suc limits.main_budget)).main.ending ≡ true
   budget_ends = by (is_some f.main.ending) refl
     where
       f : Flat

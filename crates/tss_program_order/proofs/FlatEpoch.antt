@@ -1,5 +1,7 @@
 -- The operands of an accepted spawn, and the objects named in an epoch: any two that meet are one.
-use Rattle.std.proofs.Common.{◌≡◌, ℕ, suc, ◌+◌, ◌-◌, inl, inr, Bool, true, false, Option, Some, None, Result, Ok, Err, List, [], ◌∷◌, ◌++◌, length, map, refl, sym, ap, subst, ◌∙◌, nat_le, nat_lt, append_assoc, append-nil}
+use Rattle.std.proofs.Common.{◌≡◌, ℕ, suc, ◌+◌, ◌-◌, inl, inr, Bool, true, false, Option, Some, None, Result, Ok, Err}
+use Rattle.std.proofs.Common.{List, [], ◌∷◌, ◌++◌, length, map, refl, sym, ap, subst, ◌∙◌, nat_le, nat_lt, append_assoc}
+use Rattle.std.proofs.Common.{append-nil}
 use Rattle.std.specs.Prelude.{cond, ◌==◌, ◌%◌, ◌&&◌, not, take, is_none, replicate}
 use Rattle.std.specs.List.{list_any}
 use Rattle.std.proofs.lemmas.Bool.{not-false}
@@ -9,25 +11,34 @@ use Rattle.tss_base.specs.declared.operand.Operand.{Operand}
 use Rattle.tss_base.specs.declared.operand.Task.{Task}
 use Rattle.tss_base.specs.declared.machine.Limits.{Limits}
 use Rattle.tss_base.specs.declared.causes.TheConstants.{LOAD_DENIED}
-use Rattle.tss_base.specs.declared.refusals.TheConstants.{BAD_LENGTH, BAD_BASE, OBJECT_OUTSIDE, OVERLAP, TOO_MANY_OPERANDS, LIST_PLACE, MAIN_TOUCH, EPOCH_FULL, TOO_MANY_TASKS, OUTPUT_FULL}
+use Rattle.tss_base.specs.declared.refusals.TheConstants.{BAD_LENGTH, BAD_BASE, OBJECT_OUTSIDE, OVERLAP}
+use Rattle.tss_base.specs.declared.refusals.TheConstants.{TOO_MANY_OPERANDS, LIST_PLACE, MAIN_TOUCH, EPOCH_FULL}
+use Rattle.tss_base.specs.declared.refusals.TheConstants.{TOO_MANY_TASKS, OUTPUT_FULL}
 use Rattle.tss_model.specs.Memory.{Memory, range_of, bytes_of, frozen}
 use Rattle.tss_model.specs.Access.{touches, operands_of}
-use Rattle.tss_model.specs.Spawn.{SpawnCall, Entry, same_range, name_objects, unnamed, objects_of, is_bad_length, is_outside, overlaps, mode_of, operand_checked, mode_checked, after_first, with_rest, entries_at, entries_checked, merged_on, merged_operands, no_operand, task_of, task_checked, is_misplaced, list_range, spawn_of}
+use Rattle.tss_model.specs.Spawn.{SpawnCall, Entry, same_range, name_objects, unnamed, objects_of, is_bad_length}
+use Rattle.tss_model.specs.Spawn.{is_outside, overlaps, mode_of, operand_checked, mode_checked, after_first, with_rest}
+use Rattle.tss_model.specs.Spawn.{entries_at, entries_checked, merged_on, merged_operands, no_operand, task_of}
+use Rattle.tss_model.specs.Spawn.{task_checked, is_misplaced, list_range, spawn_of}
 use Rattle.tss_base.specs.declared.ending.Trap.{Trap}
 use Rattle.tss_base.specs.Image.{SegmentState, ImageState}
 use Rattle.tss_model.specs.Registers.{trap_of}
 use Rattle.tss_model.specs.TaskRun.{task_end}
-use Rattle.tss_model.specs.MainStep.{MainState, Flat, Call, ExitCall, Spawn, Barrier, Print, Await, Unknown, main_trapped, main_refused, next_call, call_done, spawn_call, spawn_on, print_range, print_call, print_done, output_of, main_call, await_on, awaited_object}
+use Rattle.tss_model.specs.MainStep.{MainState, Flat, Call, ExitCall, Spawn, Barrier, Print, Await, Unknown}
+use Rattle.tss_model.specs.MainStep.{main_trapped, main_refused, next_call, call_done, spawn_call, spawn_on}
+use Rattle.tss_model.specs.MainStep.{print_range, print_call, print_done, output_of, main_call, await_on}
+use Rattle.tss_model.specs.MainStep.{awaited_object}
 use Rattle.tss_model.specs.InOrder.{flat_start, main_after_task, call_ran, flat_step, flat_stepped}
 use Rattle.tss_program_order.proofs.FlatSteps.{repeated-keeps, flat_step-main, flat_step-call}
 use Rattle.tss_program_order.proofs.FlatMain.{main_step-leaves}
 use Rattle.tss_program_order.proofs.FlatSpawn.{same_Ok}
-use Rattle.tss_program_order.proofs.FlatNames.{Has, unnamed-has, AreApart, AreApart-part, AreApart-more, Has-left, Has-right, name_objects-has}
+use Rattle.tss_program_order.proofs.FlatNames.{Has, unnamed-has, AreApart, AreApart-part, AreApart-more, Has-left}
+use Rattle.tss_program_order.proofs.FlatNames.{Has-right, name_objects-has}
 
 -- ---- what a check that passed says
 
 -- where the test failed, the rest is the answer
-pub else_of : {X : Type 0} (b : Bool) (n : ℕ) (r : Result X ℕ) (x : X) → cond b (Err n) r ≡ Ok x
+else_of : {X : Type 0} (b : Bool) (n : ℕ) (r : Result X ℕ) (x : X) → cond b (Err n) r ≡ Ok x
     → (b ≡ false) × (r ≡ Ok x)
 else_of true n r x e = absurd (cc)
 else_of false n r x e = (refl, e)
@@ -84,7 +95,7 @@ module _ (limits : Limits) (m : Memory) where
           (o, parts.0, parts.1, entry_passed named object mode o d, parts.2)
 
   -- the operands of entries that passed did so one by one
-  pub entries_passed : (named : List Range) (es : List Entry) (os : List Operand)
+  entries_passed : (named : List Range) (es : List Entry) (os : List Operand)
       → entries_checked limits m named es ≡ Ok os → AreChecked named os
   unfolding entries_checked
   entries_passed named [] os e = subst (AreChecked named) (same_Ok [] os e) tt
@@ -95,7 +106,7 @@ module _ (limits : Limits) (m : Memory) where
       (parts.3, entries_passed (named ++ (parts.0).object ∷ []) es parts.1 parts.4)
 
   -- their objects are apart, with those that were named before
-  pub checked_apart : (named : List Range) (os : List Operand) → AreChecked named os → AreApart named
+  checked_apart : (named : List Range) (os : List Operand) → AreChecked named os → AreApart named
       → AreApart (named ++ objects_of os)
   checked_apart named [] checked apart = subst AreApart (sym (append-nil named)) apart
   checked_apart named (o ∷ os) checked apart =
@@ -161,7 +172,7 @@ module _ (limits : Limits) (m : Memory) (named : List Range) (t : Task) (spawn :
       ]
 
   -- with those named before they are apart
-  pub spawned-apart : AreApart named → AreApart (name_objects named (objects_of (operands_of t)))
+  spawned-apart : AreApart named → AreApart (name_objects named (objects_of (operands_of t)))
   spawned-apart apart =
       AreApart-part (name_objects named (objects_of (operands_of t))) (named ++ objects_of spawn.listed)
       (λ x has. elim (name_objects-has named (objects_of (operands_of t)) x has) [
@@ -200,7 +211,7 @@ module _ (limits : Limits) (m : Memory) (s : MainState) where
       AreApart-part (unnamed s.epoch object.base) s.epoch (λ x has. unnamed-has s.epoch object.base x has) apart
 
   -- a call keeps the objects of an epoch apart
-  pub main_call-apart : (c : Call) → AreApart s.epoch → AreApart (main_call limits m s c).0.epoch
+  main_call-apart : (c : Call) → AreApart s.epoch → AreApart (main_call limits m s c).0.epoch
   main_call-apart ExitCall apart = apart
   main_call-apart Spawn apart =
       spawn_on-apart (spawn_of (spawn_call s.registers) m s.epoch limits s.spawned) refl apart
@@ -220,7 +231,7 @@ module _ (code : List SegmentState) (limits : Limits) where
       by (Some trap) = refl
 
   -- and so does a step in program order
-  pub flat_step-apart : (f : Flat) → AreApart f.main.epoch → AreApart (flat_step code limits f).main.epoch
+  flat_step-apart : (f : Flat) → AreApart f.main.epoch → AreApart (flat_step code limits f).main.epoch
   flat_step-apart f apart = by (next_call code limits f) refl
     where
       by : (c : Option Call) → next_call code limits f ≡ c → AreApart (flat_step code limits f).main.epoch

@@ -1,5 +1,6 @@
 -- Memory that can't be written: no address of it lies in memory that can, and in program order it stays as loaded.
-use Rattle.std.proofs.Common.{◌≡◌, ℕ, zero, suc, ◌<◌, ◌≤◌, inl, inr, Bool, true, false, Option, Some, None, List, [], ◌∷◌, length, map, get_or, refl, sym, ap, subst, ◌∙◌, arith}
+use Rattle.std.proofs.Common.{◌≡◌, ℕ, zero, suc, ◌<◌, ◌≤◌, inl, inr, Bool, true, false, Option, Some, None, List, []}
+use Rattle.std.proofs.Common.{◌∷◌, length, map, get_or, refl, sym, ap, subst, ◌∙◌, arith}
 use Rattle.std.specs.Prelude.{slice_get, AllPairs, find, ◌&&◌}
 use Rattle.std.specs.List.{list_any}
 use Rattle.std.specs.FinMap.{get}
@@ -14,7 +15,8 @@ use Rattle.tss_base.specs.declared.machine.Limits.{Limits}
 use Rattle.tss_base.specs.Image.{ImageState, IsAccepted, IsSegment, segment_end}
 use Rattle.tss_base.specs.Range.{end_of, Covers, contains}
 use Rattle.tss_maps.proofs.Places.{find_there}
-use Rattle.tss_model.specs.Memory.{MemoryRange, range_of, covers, frozen, loaded, memory_range, memory_ranges, stack_range}
+use Rattle.tss_model.specs.Memory.{MemoryRange, range_of, covers, frozen, loaded, memory_range, memory_ranges}
+use Rattle.tss_model.specs.Memory.{stack_range}
 use Rattle.tss_model.specs.Access.{Stores, Granted, main_answer, writes, operands_of, touches}
 use Rattle.tss_model.specs.TaskRun.{repeated}
 use Rattle.tss_model.specs.MainStep.{Flat}
@@ -67,7 +69,7 @@ module _ (i : ImageState) (accepted : IsAccepted i) where
       (subst (EndsBefore (get_or (memory_ranges i) j x)) (get_or_from_slice_get (memory_ranges i) k y x there) pair)
 
   -- an address lies in one of them
-  pub one_range : (j k : ℕ) (x y : MemoryRange) (a : ℕ) → slice_get (memory_ranges i) j ≡ Some x
+  one_range : (j k : ℕ) (x y : MemoryRange) (a : ℕ) → slice_get (memory_ranges i) j ≡ Some x
       → slice_get (memory_ranges i) k ≡ Some y → covers x.range a ≡ true → covers y.range a ≡ true → j ≡ k
   one_range j k x y a at there in_x in_y =
       let p = covers_parts x.range a in_x in
@@ -124,7 +126,7 @@ module _ (i : ImageState) (accepted : IsAccepted i) (a : ℕ) (fixed : IsFixed i
       fixed_apart q (stored_writable (range_of (memory_ranges i) q) (touches named q) granted) covered
 
   -- nor does a task whose operands are fit
-  pub fixed_unwritten : (limits : Limits) (operands : List Operand)
+  fixed_unwritten : (limits : Limits) (operands : List Operand)
       → ((k : ℕ) (o : Operand) → slice_get operands k ≡ Some o → IsFit limits (memory_ranges i) o)
       → is_written operands a ≡ false
   fixed_unwritten limits operands fit =

@@ -1,6 +1,7 @@
 -- Where main may load: the bytes of each access that the rule of access grants it, and that two memories which agree
 -- there read alike.
-use Rattle.std.proofs.Common.{◌≡◌, ℕ, zero, suc, ◌+◌, ◌*◌, ◌<◌, ◌≤◌, Bool, true, false, Option, Some, None, List, [], ◌∷◌, map, refl, ap, arith}
+use Rattle.std.proofs.Common.{◌≡◌, ℕ, zero, suc, ◌+◌, ◌*◌, ◌<◌, ◌≤◌, Bool, true, false, Option, Some, None, List, []}
+use Rattle.std.proofs.Common.{◌∷◌, map, refl, ap, arith}
 use Rattle.std.specs.Prelude.{max, min, slice_get, option_map, find}
 use Rattle.std.specs.List.{range_with_len}
 use Rattle.std.proofs.lemmas.Bool.{ltb-true, lt-ltb, or_parts, or_from, both_ways, false_from_ne_true}
@@ -24,7 +25,7 @@ byte_contained m r a covered held =
     contains_from m (byte_range a) (omega (arith, parts.0, covered.0)) (omega (arith, parts.1, covered.1))
 
 -- lies in a range of memory where the range does
-pub range_of-byte : (ranges : List MemoryRange) (r : Range) (a : ℕ) (w : Bool) → range_of ranges r ≡ Some w →
+range_of-byte : (ranges : List MemoryRange) (r : Range) (a : ℕ) (w : Bool) → range_of ranges r ≡ Some w →
     Covers r a → (v : Bool) × (range_of ranges (byte_range a) ≡ Some v)
 range_of-byte ranges r a w placed covered =
     let m = some_mapped (λ m. m.writable) (find (λ m. contains m.range r) ranges) w placed in
@@ -50,7 +51,7 @@ apart_byte object r a covered apart =
     (lt-ltb (max object.base r.base) (min (end_of object) (end_of r)) (omega (arith, common, covered.0, covered.1))))
 
 -- the same for all objects
-pub touches-byte : (named : List Range) (r : Range) (a : ℕ) → Covers r a → touches named r ≡ false →
+touches-byte : (named : List Range) (r : Range) (a : ℕ) → Covers r a → touches named r ≡ false →
     touches named (byte_range a) ≡ false
 touches-byte [] r a covered apart = refl
 touches-byte (object ∷ named) r a covered apart =

@@ -1,6 +1,7 @@
 -- A stretch of main: over two memories that agree where main may load it gives the same main and the same stores, and
 -- it changes nothing elsewhere.
-use Rattle.std.proofs.Common.{◌≡◌, ℕ, zero, suc, ◌≤◌, Bool, true, false, Some, None, List, length, refl, sym, ap, subst, ◌∙◌, arith}
+use Rattle.std.proofs.Common.{◌≡◌, ℕ, zero, suc, ◌≤◌, Bool, true, false, Some, None, List, length, refl, sym, ap, subst}
+use Rattle.std.proofs.Common.{◌∙◌, arith}
 use Rattle.std.specs.Prelude.{◌||◌, if◌then◌else◌, is_some, unwrap_or}
 use Rattle.std.specs.FinMap.{get}
 use Rattle.tss_base.specs.declared.range.Range.{Range}
@@ -14,7 +15,8 @@ use Rattle.tss_model.specs.Access.{MainActor, Loads, Stores, Granted, main_acces
 use Rattle.tss_model.specs.Core.{Stepped, Executed, Called, Ended, Trapped, Touched, core_step}
 use Rattle.tss_model.specs.TaskRun.{repeated}
 use Rattle.tss_model.specs.Registers.{trap_of}
-use Rattle.tss_model.specs.MainStep.{MainState, Flat, main_trapped, main_refused, has_spent, main_on, main_core, main_step, main_stretch, called_by, next_call}
+use Rattle.tss_model.specs.MainStep.{MainState, Flat, main_trapped, main_refused, has_spent, main_on, main_core}
+use Rattle.tss_model.specs.MainStep.{main_step, main_stretch, called_by, next_call}
 use Rattle.tss_program_order.specs.MainInOrder.{MayLoad}
 use Rattle.tss_program_order.proofs.FlatLoads.{may_load_granted}
 use Rattle.tss_program_order.proofs.FlatCore.{IsStep, core_step-same, core_step-step}
@@ -43,7 +45,7 @@ pub record Leaves (f g : Flat) : Type 0 where
   pub bytes : (a : ℕ) → NeverStored f.memory.ranges f.main.epoch a → get g.memory.bytes a ≡ get f.memory.bytes a
 
 -- a machine leaves itself
-pub Leaves-same : (f g : Flat) → g ≡ f → Leaves f g
+Leaves-same : (f g : Flat) → g ≡ f → Leaves f g
 Leaves-same f g e = record {
   ranges = λ i. (e i).memory.ranges;
   epoch = λ i. (e i).main.epoch;
@@ -56,7 +58,7 @@ Leaves-same f g e = record {
 }
 
 -- what two steps in a row leave
-pub Leaves-then : (f g h : Flat) → Leaves f g → Leaves g h → Leaves f h
+Leaves-then : (f g h : Flat) → Leaves f g → Leaves g h → Leaves f h
 Leaves-then f g h p q = record {
   ranges = q.ranges ∙ p.ranges;
   epoch = q.epoch ∙ p.epoch;
@@ -145,7 +147,7 @@ together_by f g h k p q e d t = subst (λ (x : Flat). GoTogether f g x q) (sym e
     (subst (λ (y : Flat). GoTogether f g h y) (sym d) t)
 
 -- such machines stay alike
-pub alike_after : (f g h k : Flat) → AreAlike f g → Leaves f h → Leaves g k → GoTogether f g h k → AreAlike h k
+alike_after : (f g h k : Flat) → AreAlike f g → Leaves f h → Leaves g k → GoTogether f g h k → AreAlike h k
 alike_after f g h k alike p q t = record {
   main = t.main;
   ranges = p.ranges ∙ alike.ranges ∙ sym q.ranges;
@@ -154,7 +156,7 @@ alike_after f g h k alike p q t = record {
 
 module _ (code : List SegmentState) (limits : Limits) (f g : Flat) (alike : AreAlike f g) where
   -- main's core does the same on both
-  pub main_core-alike : main_core code f ≡ main_core code g
+  main_core-alike : main_core code f ≡ main_core code g
   main_core-alike =
       core_step-same (MainActor f.memory.ranges f.main.epoch) (byte_at f.memory) (byte_at g.memory)
       (λ q a granted covered. ap (λ o. unwrap_or o 0)

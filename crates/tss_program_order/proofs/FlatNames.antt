@@ -1,8 +1,10 @@
 -- Named objects: which a list has, and lists of objects of which any two that meet are one.
-use Rattle.std.proofs.Common.{◌≡◌, ◌⊎◌, ℕ, zero, suc, Some, ◌+◌, ◌<◌, inl, inr, Bool, true, false, List, [], ◌∷◌, ◌++◌, refl, sym, ap, ◌∙◌, arith, nat_le, nat_lt, eq-eqb}
+use Rattle.std.proofs.Common.{◌≡◌, ◌⊎◌, ℕ, zero, suc, Some, ◌+◌, ◌<◌, inl, inr, Bool, true, false, List, [], ◌∷◌, ◌++◌}
+use Rattle.std.proofs.Common.{refl, sym, ap, ◌∙◌, arith, nat_le, nat_lt, eq-eqb}
 use Rattle.std.specs.Prelude.{cond, ◌==◌, ◌&&◌, ◌||◌, not, max, min, slice_get}
 use Rattle.std.specs.List.{list_any}
-use Rattle.std.proofs.lemmas.Bool.{and_parts, and_from, or_cases, or_left, or_right, both_ways, eqb-true, leb-true, ltb-true, lt-ltb, cases_Bool, not_from_false, false_from_ne_true, or_from, or_parts}
+use Rattle.std.proofs.lemmas.Bool.{and_parts, and_from, or_cases, or_left, or_right, both_ways, eqb-true, leb-true}
+use Rattle.std.proofs.lemmas.Bool.{ltb-true, lt-ltb, cases_Bool, not_from_false, false_from_ne_true, or_from, or_parts}
 use Rattle.std.proofs.lemmas.List.Folds.{list_any-append}
 use Rattle.std.proofs.lemmas.Option.{none-some, same_Some}
 use Rattle.tss_base.specs.declared.range.Range.{Range}
@@ -34,7 +36,7 @@ abbrev pub Has : List Range → Range → Type 0
 Has named object = list_any (same_range object) named ≡ true
 
 -- what two lists in a row have
-pub Has-append : (xs ys : List Range) (x : Range) → Has (xs ++ ys) x → Has xs x ⊎ Has ys x
+Has-append : (xs ys : List Range) (x : Range) → Has (xs ++ ys) x → Has xs x ⊎ Has ys x
 Has-append xs ys x has =
     or_cases (list_any (same_range x) xs) (list_any (same_range x) ys)
     (sym (list_any-append (same_range x) xs ys) ∙ has)
@@ -71,7 +73,7 @@ Has-at (y ∷ xs) zero x e =
 Has-at (y ∷ xs) (suc k) x e = or_right (same_range x y) (list_any (same_range x) xs) (Has-at xs k x e)
 
 -- one object is itself
-pub Has-one : (x y : Range) → Has (y ∷ []) x → x ≡ y
+Has-one : (x y : Range) → Has (y ∷ []) x → x ≡ y
 Has-one x y has = elim (or_cases (same_range x y) false has) [
   | inl same ↦ same_range-equal x y same
   | inr none ↦ absurd (cc)
@@ -86,7 +88,7 @@ any_has P (y ∷ xs) any = elim (or_cases (P y) (list_any P xs) any) [
 ]
 
 -- and the other way round
-pub has_any : (P : Range → Bool) (xs : List Range) (x : Range) → Has xs x → P x ≡ true → list_any P xs ≡ true
+has_any : (P : Range → Bool) (xs : List Range) (x : Range) → Has xs x → P x ≡ true → list_any P xs ≡ true
 has_any P [] x has passes = absurd (cc)
 has_any P (y ∷ xs) x has passes = elim (or_cases (same_range x y) (list_any (same_range x) xs) has) [
   | inl same ↦ or_left _ _ (ap P (sym (same_range-equal x y same)) ∙ passes)
@@ -102,7 +104,7 @@ any_object P (o ∷ operands) = ap (λ b. P o.object || b) (any_object P operand
 -- ---- naming
 
 -- what is named was named before, or is the object
-pub name_object-has : (named : List Range) (object x : Range) → Has (name_object named object) x
+name_object-has : (named : List Range) (object x : Range) → Has (name_object named object) x
     → Has named x ⊎ (x ≡ object)
 name_object-has named object x has = by (list_any (same_range object) named) has
   where
@@ -114,7 +116,7 @@ name_object-has named object x has = by (list_any (same_range object) named) has
     ]
 
 -- what was named stays, and the object is named
-pub name_object-keeps : (named : List Range) (object x : Range) → Has named x → Has (name_object named object) x
+name_object-keeps : (named : List Range) (object x : Range) → Has named x → Has (name_object named object) x
 name_object-keeps named object x has = by (list_any (same_range object) named)
   where
     by : (b : Bool) → Has (cond b named (named ++ object ∷ [])) x
@@ -122,7 +124,7 @@ name_object-keeps named object x has = by (list_any (same_range object) named)
     by false = Has-left named (object ∷ []) x has
 
 -- the object is named
-pub name_object-names : (named : List Range) (object : Range) → Has (name_object named object) object
+name_object-names : (named : List Range) (object : Range) → Has (name_object named object) object
 name_object-names named object = by (list_any (same_range object) named) refl
   where
     by : (b : Bool) → list_any (same_range object) named ≡ b → Has (cond b named (named ++ object ∷ [])) object
@@ -143,7 +145,7 @@ name_objects-has named (object ∷ objects) x has =
     ]
 
 -- what was named stays
-pub name_objects-keeps : (named objects : List Range) (x : Range) → Has named x → Has (name_objects named objects) x
+name_objects-keeps : (named objects : List Range) (x : Range) → Has named x → Has (name_objects named objects) x
 name_objects-keeps named [] x has = has
 name_objects-keeps named (object ∷ objects) x has =
     name_objects-keeps (name_object named object) objects x (name_object-keeps named object x has)
@@ -254,7 +256,7 @@ AreOnce-push (x ∷ xs) y once absent =
     (absent_push x y xs once.0 parts.0, AreOnce-push xs y once.1 parts.1)
 
 -- naming keeps it so
-pub name_object-once : (named : List Range) (object : Range) → AreOnce named → AreOnce (name_object named object)
+name_object-once : (named : List Range) (object : Range) → AreOnce named → AreOnce (name_object named object)
 name_object-once named object once = by (list_any (same_range object) named) refl
   where
     by : (b : Bool) → list_any (same_range object) named ≡ b → AreOnce (cond b named (named ++ object ∷ []))

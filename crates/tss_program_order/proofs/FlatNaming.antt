@@ -1,10 +1,12 @@
 -- What stands in a named object changes, in program order, only by the tasks that write it: where an object is named
 -- without a break, the bytes that a task finds there are those that the last writer left.
-use Rattle.std.proofs.Common.{◌≡◌, ℕ, zero, suc, ◌+◌, ◌<◌, ◌≤◌, Bool, true, false, Option, Some, None, List, [], ◌∷◌, refl, sym, ap, ◌∙◌, arith, nat_le, nat_lt}
+use Rattle.std.proofs.Common.{◌≡◌, ℕ, zero, suc, ◌+◌, ◌<◌, ◌≤◌, Bool, true, false, Option, Some, None, List, [], ◌∷◌}
+use Rattle.std.proofs.Common.{refl, sym, ap, ◌∙◌, arith, nat_le, nat_lt}
 use Rattle.std.specs.Prelude.{◌&&◌, unwrap_or}
 use Rattle.std.specs.List.{list_any}
 use Rattle.std.specs.FinMap.{get}
-use Rattle.std.proofs.lemmas.Bool.{and_parts, and_from, or_parts, or_from, both_ways, false_from_ne_true, or_left, or_right, le-leb, lt-ltb}
+use Rattle.std.proofs.lemmas.Bool.{and_parts, and_from, or_parts, or_from, both_ways, false_from_ne_true, or_left}
+use Rattle.std.proofs.lemmas.Bool.{or_right, le-leb, lt-ltb}
 use Rattle.tss_base.specs.declared.range.Range.{Range}
 use Rattle.tss_base.specs.declared.operand.Operand.{Operand}
 use Rattle.tss_base.specs.declared.operand.Task.{Task}
@@ -21,7 +23,7 @@ use Rattle.tss_program_order.proofs.FlatLoads.{byte_range, main_granted, same_by
 use Rattle.tss_program_order.proofs.FlatSteps.{flat_step-main, flat_step-call}
 use Rattle.tss_program_order.proofs.FlatMain.{NeverStored, unloaded_unstored, main_step-leaves}
 use Rattle.tss_program_order.proofs.FlatTask.{is_written, task_end-changes}
-use Rattle.tss_program_order.proofs.FlatOrder.{flat_stepped-next, started_at-by}
+use Rattle.tss_program_order.proofs.FlatOrder.{flat_stepped-next}
 use Rattle.tss_program_order.proofs.FlatStarts.{task_started, started_at-step, started-ran, started-names}
 use Rattle.tss_program_order.proofs.FlatEpoch.{flat_stepped-apart}
 use Rattle.tss_program_order.proofs.FlatNames.{Has, AreApart, covers-meet, covers-touch, same_range-refl}
@@ -58,7 +60,7 @@ module _ (code : List SegmentState) (limits : Limits) (f : Flat) (a : ℕ)
           (λ t is. unwritten t (ap (task_called limits f) e ∙ is))
 
 -- so it is for a byte of a named object
-pub flat_step-named : (code : List SegmentState) (limits : Limits) (f : Flat) (a : ℕ)
+flat_step-named : (code : List SegmentState) (limits : Limits) (f : Flat) (a : ℕ)
     → touches f.main.epoch (byte_range a) ≡ true
     → ((t : Task) → task_called limits f (next_call code limits f) ≡ Some t → is_written (operands_of t) a ≡ false)
     → get (flat_step code limits f).memory.bytes a ≡ get f.memory.bytes a
@@ -69,13 +71,13 @@ flat_step-named code limits f a touched unwritten =
 -- ---- steps in a row
 
 -- through n steps from j on an address lies in a named object, and no task that is started writes it
-pub record StaysNamed (i : ImageState) (limits : Limits) (a j n : ℕ) : Type 0 where
+record StaysNamed (i : ImageState) (limits : Limits) (a j n : ℕ) : Type 0 where
   pub named : (k : ℕ) → k < n → touches (flat_stepped i limits (j + k)).main.epoch (byte_range a) ≡ true
   pub unwritten : (k : ℕ) (t : Task) → k < n → task_started i limits (j + k) ≡ Some t
       → is_written (operands_of t) a ≡ false
 
 -- then its byte stays
-pub named_stays : (i : ImageState) (limits : Limits) (a j n : ℕ) → StaysNamed i limits a j n
+named_stays : (i : ImageState) (limits : Limits) (a j n : ℕ) → StaysNamed i limits a j n
     → get (flat_stepped i limits (j + n)).memory.bytes a ≡ get (flat_stepped i limits j).memory.bytes a
 named_stays i limits a j zero stays = ap (λ (k : ℕ). get (flat_stepped i limits k).memory.bytes a) none
   where
@@ -101,7 +103,7 @@ abbrev pub writes_object : List Operand → Range → Bool
 writes_object operands x = list_any (λ o. writes o.mode && same_range o.object x) operands
 
 -- of objects that are apart, one that no operand writes has no byte that is written
-pub unwritten_object : (named : List Range) (operands : List Operand) (x : Range) (a : ℕ) → AreApart named
+unwritten_object : (named : List Range) (operands : List Operand) (x : Range) (a : ℕ) → AreApart named
     → ((o : Range) → Has (objects_of operands) o → Has named o) → Has named x → covers x a ≡ true
     → writes_object operands x ≡ false → is_written operands a ≡ false
 unwritten_object named [] x a apart among has inside none = refl
@@ -143,12 +145,12 @@ module _ (i : ImageState) (limits : Limits) (x : Range) (j n : ℕ) (unbroken : 
   }
 
   -- then its bytes stay
-  pub unbroken_byte : (a : ℕ) → covers x a ≡ true
+  unbroken_byte : (a : ℕ) → covers x a ≡ true
       → get (flat_stepped i limits (j + n)).memory.bytes a ≡ get (flat_stepped i limits j).memory.bytes a
   unbroken_byte a inside = named_stays i limits a j n (stays_named a inside)
 
   -- and so do all of them
-  pub unbroken_bytes : bytes_of (flat_stepped i limits (j + n)).memory x ≡ bytes_of (flat_stepped i limits j).memory x
+  unbroken_bytes : bytes_of (flat_stepped i limits (j + n)).memory x ≡ bytes_of (flat_stepped i limits j).memory x
   unbroken_bytes =
       same_bytes (byte_at (flat_stepped i limits (j + n)).memory) (byte_at (flat_stepped i limits j).memory)
       x.base x.len
@@ -161,14 +163,6 @@ pub left_stays : (i : ImageState) (limits : Limits) (x : Range) (k n : ℕ) (s :
     → bytes_of (flat_stepped i limits (suc k + n)).memory x ≡ bytes_of (end_of_started i limits s).memory x
 left_stays i limits x k n s start unbroken =
     unbroken_bytes i limits x (suc k) n unbroken ∙ ap (λ (m : Memory). bytes_of m x) (started-ran i limits k s start)
-
--- so that the next task that is started finds it there
-pub left_found : (i : ImageState) (limits : Limits) (x : Range) (k n : ℕ) (s t : Started)
-    → started_at i limits k ≡ Some s → started_at i limits (suc k + n) ≡ Some t → IsUnbroken i limits x (suc k) n
-    → bytes_of t.memory x ≡ bytes_of (end_of_started i limits s).memory x
-left_found i limits x k n s t start next unbroken =
-    ap (λ (m : Memory). bytes_of m x) (started_at-by i limits (suc k + n) t next).memory
-    ∙ left_stays i limits x k n s start unbroken
 
 -- a task leaves an object that it doesn't write as it finds it
 pub unwritten_left : (i : ImageState) (limits : Limits) (x : Range) (k : ℕ) (s : Started)

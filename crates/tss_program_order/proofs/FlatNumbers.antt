@@ -1,5 +1,6 @@
 -- Tasks of program order by their numbers: each number up to those spawned is that of one task that was started.
-use Rattle.std.proofs.Common.{◌≡◌, ℕ, zero, suc, ◌+◌, ◌-◌, ◌<◌, ◌≤◌, inl, inr, Option, Some, None, List, refl, ap, subst, ◌∙◌, arith}
+use Rattle.std.proofs.Common.{◌≡◌, ℕ, zero, suc, ◌+◌, ◌-◌, ◌<◌, ◌≤◌, inl, inr, Option, Some, None, List, refl, ap}
+use Rattle.std.proofs.Common.{subst, ◌∙◌, arith}
 use Rattle.std.proofs.lemmas.Bool.{cases_lt, cases_order}
 use Rattle.tss_base.specs.declared.operand.Task.{Task}
 use Rattle.tss_base.specs.declared.ending.Trap.{Trap}
@@ -8,7 +9,8 @@ use Rattle.tss_base.specs.Image.{SegmentState, ImageState}
 use Rattle.tss_model.specs.Memory.{Memory, frozen}
 use Rattle.tss_model.specs.TaskRun.{repeated, task_end}
 use Rattle.tss_model.specs.MainStep.{MainState, Flat, Call, next_call, main_call}
-use Rattle.tss_model.specs.InOrder.{Started, flat_step, flat_stepped, call_ran, main_after_task, started_at, task_called}
+use Rattle.tss_model.specs.InOrder.{Started, flat_step, flat_stepped, call_ran, main_after_task, started_at}
+use Rattle.tss_model.specs.InOrder.{task_called}
 use Rattle.tss_program_order.proofs.FlatSteps.{flat_step-main, flat_step-call}
 use Rattle.tss_program_order.proofs.FlatMain.{main_step-leaves}
 use Rattle.tss_program_order.proofs.FlatOrder.{flat_stepped-next}

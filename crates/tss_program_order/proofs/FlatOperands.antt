@@ -1,9 +1,11 @@
 -- The operands of an accepted spawn: each lies in memory, which can be written where the operand is, has bytes and not
 -- too many, and no address lies in two of them.
-use Rattle.std.proofs.Common.{◌≡◌, ℕ, zero, suc, ◌<◌, ◌≤◌, inl, inr, Bool, true, false, Option, Some, None, List, [], ◌∷◌, ◌++◌, refl, sym, ap, subst, ◌∙◌, arith, nat_lt}
+use Rattle.std.proofs.Common.{◌≡◌, ℕ, zero, suc, ◌<◌, ◌≤◌, inl, inr, Bool, true, false, Option, Some, None, List, []}
+use Rattle.std.proofs.Common.{◌∷◌, ◌++◌, refl, sym, ap, subst, ◌∙◌, arith, nat_lt}
 use Rattle.std.specs.Prelude.{cond, if◌then◌else◌, slice_get, filter, ◌==◌, ◌%◌, ◌&&◌, ◌||◌, option_map}
 use Rattle.std.specs.List.{list_any, list_all}
-use Rattle.std.proofs.lemmas.Bool.{and_parts, and_from, and_cases, not_from_false, or_parts, or_cases, or_left, or_right, both_ways, cases_Bool, ltb-false, eqb-true}
+use Rattle.std.proofs.lemmas.Bool.{and_parts, and_from, and_cases, not_from_false, or_parts, or_cases, or_left}
+use Rattle.std.proofs.lemmas.Bool.{or_right, both_ways, cases_Bool, ltb-false, eqb-true}
 use Rattle.std.proofs.lemmas.Option.{same_Some, slice_get-map}
 use Rattle.tss_base.specs.declared.range.Range.{Range}
 use Rattle.tss_base.specs.declared.operand.Mode.{Mode}
@@ -11,12 +13,14 @@ use Rattle.tss_base.specs.declared.operand.Mode.TheVariants.{Input, Output, Inou
 use Rattle.tss_base.specs.declared.operand.Operand.{Operand}
 use Rattle.tss_base.specs.declared.operand.Task.{Task}
 use Rattle.tss_base.specs.declared.machine.Limits.{Limits}
-use Rattle.tss_model.specs.Memory.{MemoryRange, Memory, range_of, covers}
+use Rattle.tss_model.specs.Memory.{MemoryRange, Memory, range_of}
 use Rattle.tss_model.specs.Access.{operands_of, writes}
-use Rattle.tss_model.specs.Spawn.{same_range, name_objects, objects_of, is_outside, is_input, is_output, merged_mode, merged_on}
+use Rattle.tss_model.specs.Spawn.{same_range, name_objects, objects_of, is_outside, is_input, is_output, merged_mode}
+use Rattle.tss_model.specs.Spawn.{merged_on}
 use Rattle.tss_program_order.proofs.FlatRanges.{some_mapped}
-use Rattle.tss_program_order.proofs.FlatNames.{AreOnce, AreOnce-at, name_objects-once, name_objects-names, Has, Has-at, any_object, AreApart, same_range-equal, covers-meet, name_objects-has}
-use Rattle.tss_program_order.proofs.FlatEpoch.{IsChecked, AreChecked, IsSpawned, spawned-objects, spawned-apart}
+use Rattle.tss_program_order.proofs.FlatNames.{AreOnce, AreOnce-at, name_objects-once, Has, Has-at, any_object}
+use Rattle.tss_program_order.proofs.FlatNames.{same_range-equal, name_objects-has}
+use Rattle.tss_program_order.proofs.FlatEpoch.{IsChecked, AreChecked, IsSpawned, spawned-objects}
 
 -- ---- what the checks say of an operand
 
@@ -40,7 +44,7 @@ some_length zero e = absurd (cc)
 some_length (suc n) e = omega arith
 
 -- an operand that passed its checks is fit
-pub checked_fit : (limits : Limits) (m : Memory) (named : List Range) (o : Operand) → IsChecked limits m named o
+checked_fit : (limits : Limits) (m : Memory) (named : List Range) (o : Operand) → IsChecked limits m named o
     → IsFit limits m.ranges o
 checked_fit limits m named o checked =
     let lengths = or_parts (o.object.len == 0) (nat_lt limits.object_bytes o.object.len) checked.length in
@@ -57,7 +61,7 @@ checked_fit limits m named o checked =
 -- ---- listed operands
 
 -- a listed operand that passes a test is fit
-pub listed_fit : (limits : Limits) (m : Memory) (named : List Range) (os : List Operand) (P : Operand → Bool)
+listed_fit : (limits : Limits) (m : Memory) (named : List Range) (os : List Operand) (P : Operand → Bool)
     → AreChecked limits m named os → list_any P os ≡ true
     → (o : Operand) × (P o ≡ true) × IsFit limits m.ranges o
 listed_fit limits m named [] P checked any = absurd (cc)
@@ -159,14 +163,3 @@ module _ (limits : Limits) (m : Memory) (named : List Range) (t : Task) (spawn :
   spawned-single j k o q at there same =
       AreOnce-at (objects_of (operands_of t)) j k q.object spawned-once (object_at j o at ∙ ap Some same)
       (object_at k q there)
-
-  -- and no address lies in two of them
-  pub spawned-separate : AreApart named → (j k : ℕ) (o q : Operand) (a : ℕ) → slice_get (operands_of t) j ≡ Some o
-      → slice_get (operands_of t) k ≡ Some q → covers o.object a ≡ true → covers q.object a ≡ true → j ≡ k
-  spawned-separate apart j k o q a at there in_o in_q =
-      let all = spawned-apart limits m named t spawn apart in
-      let of_task = λ (k : ℕ) (x : Range) (e : slice_get (objects_of (operands_of t)) k ≡ Some x).
-      name_objects-names named (objects_of (operands_of t)) x (Has-at (objects_of (operands_of t)) k x e) in
-      let same = all o.object q.object (of_task j o.object (object_at j o at))
-      (of_task k q.object (object_at k q there)) (covers-meet o.object q.object a in_o in_q) in
-      spawned-single j k o q at there same

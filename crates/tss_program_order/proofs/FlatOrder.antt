@@ -1,5 +1,6 @@
 -- Program order by steps of main: a stretch of main is as many steps, and after a task's trap there is no state.
-use Rattle.std.proofs.Common.{◌≡◌, ℕ, zero, suc, ◌+◌, ◌-◌, ◌<◌, Bool, true, false, Option, Some, None, List, refl, sym, ap, subst, ◌∙◌, arith, add-one, add-zero}
+use Rattle.std.proofs.Common.{◌≡◌, ℕ, zero, suc, ◌+◌, ◌-◌, ◌<◌, Bool, true, false, Option, Some, None, List, refl, sym}
+use Rattle.std.proofs.Common.{ap, subst, ◌∙◌, arith, add-one, add-zero}
 use Rattle.std.specs.Prelude.{cond, ◌==◌, ◌&&◌, is_some, option_map}
 use Rattle.std.proofs.lemmas.Bool.{cond-true, cond-false, and_from, and_right, eq-eqb}
 use Rattle.std.proofs.lemmas.Option.{none-some, same_Some}
@@ -12,13 +13,17 @@ use Rattle.tss_model.specs.Memory.{Memory, loaded, frozen, memory_ranges}
 use Rattle.tss_model.specs.Access.{MainActor}
 use Rattle.tss_model.specs.Core.{Stepped, Executed, Called, Ended, Trapped, Touched}
 use Rattle.tss_model.specs.TaskRun.{repeated, task_end}
-use Rattle.tss_model.specs.MainStep.{MainState, Flat, Call, has_spent, main_on, main_core, main_step, main_stretch, called_by, next_call, main_call}
-use Rattle.tss_model.specs.InOrder.{Started, flat_start, flat_step, flat_stepped, call_ran, main_after_task, is_executed, main_after, started_at, started_in, task_called, end_of_started}
+use Rattle.tss_model.specs.MainStep.{MainState, Flat, Call, has_spent, main_on, main_core, main_step, main_stretch}
+use Rattle.tss_model.specs.MainStep.{called_by, next_call, main_call}
+use Rattle.tss_model.specs.InOrder.{Started, flat_start, flat_step, flat_stepped, call_ran, main_after_task}
+use Rattle.tss_model.specs.InOrder.{is_executed, main_after, started_at, started_in, task_called, end_of_started}
 use Rattle.tss_program_order.specs.MainInOrder.{steps_taken}
 use Rattle.tss_program_order.proofs.FlatCore.{IsStep}
 use Rattle.tss_program_order.proofs.FlatMain.{main_step-leaves, main_core-step}
 use Rattle.tss_program_order.proofs.FlatTask.{task_end-changes}
-use Rattle.tss_program_order.proofs.FlatSteps.{repeated-add, repeated-last, repeated-still, repeated-keeps, main_step-ended, main_step-spent, main_step-core, next_call-spent, next_call-core, flat_step-main, flat_step-ended, flat_step-call}
+use Rattle.tss_program_order.proofs.FlatSteps.{repeated-add, repeated-last, repeated-still, repeated-keeps}
+use Rattle.tss_program_order.proofs.FlatSteps.{main_step-ended, main_step-spent, main_step-core, next_call-spent}
+use Rattle.tss_program_order.proofs.FlatSteps.{next_call-core, flat_step-main, flat_step-ended, flat_step-call}
 
 -- ---- the ranges of memory
 
@@ -28,7 +33,7 @@ module _ (code : List SegmentState) (limits : Limits) where
   call_ran-ranges m (main, Some t) = (task_end-changes code limits m t).ranges
 
   -- a step in program order keeps them
-  pub flat_step-ranges : (f : Flat) → (flat_step code limits f).memory.ranges ≡ f.memory.ranges
+  flat_step-ranges : (f : Flat) → (flat_step code limits f).memory.ranges ≡ f.memory.ranges
   flat_step-ranges f = by (next_call code limits f) refl
     where
       by : (c : Option Call) → next_call code limits f ≡ c → (flat_step code limits f).memory.ranges ≡ f.memory.ranges
@@ -83,7 +88,7 @@ module _ (code : List SegmentState) (limits : Limits) where
   }
 
   -- steps after steps
-  pub reaches_then : (f g h : Flat) → Reaches f g → Reaches g h → Reaches f h
+  reaches_then : (f g h : Flat) → Reaches f g → Reaches g h → Reaches f h
   reaches_then f g h p q = record {
     steps = p.steps + q.steps;
     reached =
@@ -153,7 +158,7 @@ module _ (i : ImageState) (limits : Limits) where
   main_after-there k done executed = cond-true _ _ _ (and_from _ _ (eq-eqb _ _ done) executed)
 
   -- where another ending has come, there is none
-  pub main_after-ended : (k : ℕ) → is_executed (flat_stepped i limits k).main.ending ≡ false
+  main_after-ended : (k : ℕ) → is_executed (flat_stepped i limits k).main.ending ≡ false
       → main_after i limits k ≡ None
   main_after-ended k ended = cond-false _ _ _ (and_right _ _ ended)
 

@@ -1,6 +1,7 @@
 -- What a call of main leaves of main: the steps that it has taken, the tasks that it has spawned, and the objects of a
 -- spawned task, which main may not load from then on.
-use Rattle.std.proofs.Common.{◌≡◌, ◌⊎◌, inl, inr, ℕ, suc, ◌+◌, ◌≤◌, Bool, true, false, Option, Some, None, Result, Ok, Err, List, [], ◌∷◌, ◌++◌, refl, sym, ap, ◌∙◌, arith, add-one, nat_le, nat_lt}
+use Rattle.std.proofs.Common.{◌≡◌, ◌⊎◌, inl, inr, ℕ, suc, ◌+◌, ◌≤◌, Bool, true, false, Option, Some, None, Result, Ok}
+use Rattle.std.proofs.Common.{Err, List, [], ◌∷◌, ◌++◌, refl, sym, ap, ◌∙◌, arith, add-one, nat_le, nat_lt}
 use Rattle.std.specs.Prelude.{cond, ◌==◌, ◌&&◌, length, is_some, is_none}
 use Rattle.std.specs.List.{list_any}
 use Rattle.std.proofs.lemmas.Bool.{both_ways, false_from_ne_true}
@@ -10,12 +11,16 @@ use Rattle.tss_base.specs.declared.operand.Operand.{Operand}
 use Rattle.tss_base.specs.declared.operand.Task.{Task}
 use Rattle.tss_base.specs.declared.machine.Limits.{Limits}
 use Rattle.tss_base.specs.declared.causes.TheConstants.{LOAD_DENIED}
-use Rattle.tss_base.specs.declared.refusals.TheConstants.{TOO_MANY_OPERANDS, LIST_PLACE, MAIN_TOUCH, EPOCH_FULL, TOO_MANY_TASKS, OUTPUT_FULL}
+use Rattle.tss_base.specs.declared.refusals.TheConstants.{TOO_MANY_OPERANDS, LIST_PLACE, MAIN_TOUCH, EPOCH_FULL}
+use Rattle.tss_base.specs.declared.refusals.TheConstants.{TOO_MANY_TASKS, OUTPUT_FULL}
 use Rattle.tss_model.specs.Memory.{MemoryRange, Memory, range_of, bytes_of, covers}
 use Rattle.tss_model.specs.Registers.{trap_of}
 use Rattle.tss_model.specs.Access.{Loads, touches}
-use Rattle.tss_model.specs.Spawn.{SpawnCall, name_objects, objects_of, entries_at, entries_checked, task_of, merged_operands, task_checked, is_misplaced, list_range, spawn_of}
-use Rattle.tss_model.specs.MainStep.{MainState, Call, ExitCall, Spawn, Barrier, Print, Await, Unknown, main_trapped, main_refused, call_done, spawn_call, spawn_done, spawn_on, print_range, print_some, print_call, print_done, output_of, main_call, await_done, await_on, awaited_object}
+use Rattle.tss_model.specs.Spawn.{SpawnCall, name_objects, objects_of, entries_at, entries_checked, task_of}
+use Rattle.tss_model.specs.Spawn.{merged_operands, task_checked, is_misplaced, list_range, spawn_of}
+use Rattle.tss_model.specs.MainStep.{MainState, Call, ExitCall, Spawn, Barrier, Print, Await, Unknown, main_trapped}
+use Rattle.tss_model.specs.MainStep.{main_refused, call_done, spawn_call, spawn_done, spawn_on, print_range, print_some}
+use Rattle.tss_model.specs.MainStep.{print_call, print_done, output_of, main_call, await_done, await_on, awaited_object}
 use Rattle.tss_program_order.specs.MainInOrder.{MayLoad, steps_taken}
 use Rattle.tss_program_order.proofs.FlatLoads.{byte_range, main_granted}
 use Rattle.tss_program_order.proofs.FlatNames.{any_has, any_object, name_objects-names, covers-touch}
@@ -69,7 +74,7 @@ module _ (limits : Limits) (m : Memory) (s : MainState) (on : is_some s.ending �
 -- ---- what it counts and prints
 
 -- main has printed nothing more, or a piece with the tasks that it has spawned
-abbrev pub PrintsOne : MainState → MainState → Type 0
+abbrev PrintsOne : MainState → MainState → Type 0
 PrintsOne s t =
     (t.pieces ≡ s.pieces)
     ⊎ ((bytes : List ℕ) × (t.pieces ≡ s.pieces ++ record { before = s.spawned; bytes = bytes } ∷ []))
@@ -143,7 +148,7 @@ task_checked-number limits call named spawned (Ok listed) t e =
         ap (λ (x : Task). x.number) (sym (same_Ok (task_of call (suc spawned) listed (merged_operands listed)) t e))
 
 -- it has the next number
-pub spawn_of-number : (call : SpawnCall) (m : Memory) (named : List Range) (limits : Limits) (spawned : ℕ) (t : Task)
+spawn_of-number : (call : SpawnCall) (m : Memory) (named : List Range) (limits : Limits) (spawned : ℕ) (t : Task)
     → spawn_of call m named limits spawned ≡ Ok t → t.number ≡ suc spawned
 unfolding spawn_of
 spawn_of-number call m named limits spawned t e =

@@ -1,23 +1,23 @@
 -- The operands of a task that program order starts, and memory that can't be written, which stays as it was loaded.
-use Rattle.std.proofs.Common.{◌≡◌, ℕ, true, Some, List, subst}
+use Rattle.std.proofs.Common.{◌≡◌, ℕ, Some, List, subst}
 use Rattle.std.specs.Prelude.{slice_get}
 use Rattle.tss_base.specs.declared.operand.Operand.{Operand}
 use Rattle.tss_base.specs.declared.machine.Limits.{Limits}
 use Rattle.tss_base.specs.Image.{ImageState}
-use Rattle.tss_model.specs.Memory.{MemoryRange, covers, memory_ranges}
+use Rattle.tss_model.specs.Memory.{MemoryRange, memory_ranges}
 use Rattle.tss_model.specs.Access.{operands_of}
 use Rattle.tss_model.specs.MainStep.{spawn_call}
 use Rattle.tss_model.specs.InOrder.{Started, flat_stepped, started_at}
 use Rattle.tss_program_order.proofs.FlatOrder.{flat_stepped-ranges, started_at-by}
 use Rattle.tss_program_order.proofs.FlatSpawn.{main_call-accepted}
-use Rattle.tss_program_order.proofs.FlatEpoch.{IsSpawned, spawn_of-spawned, flat_stepped-apart}
-use Rattle.tss_program_order.proofs.FlatOperands.{IsFit, spawned-fit, spawned-separate}
+use Rattle.tss_program_order.proofs.FlatEpoch.{IsSpawned, spawn_of-spawned}
+use Rattle.tss_program_order.proofs.FlatOperands.{IsFit, spawned-fit}
 
 -- ---- its operands
 
 module _ (i : ImageState) (limits : Limits) (k : ℕ) (s : Started) (start : started_at i limits k ≡ Some s) where
   -- it is the task of an accepted spawn
-  pub started-spawned : IsSpawned limits (flat_stepped i limits k).memory (flat_stepped i limits k).main.epoch s.task
+  started-spawned : IsSpawned limits (flat_stepped i limits k).memory (flat_stepped i limits k).main.epoch s.task
   started-spawned =
       let by = started_at-by i limits k s start in
       let f = flat_stepped i limits k in
@@ -30,10 +30,3 @@ module _ (i : ImageState) (limits : Limits) (k : ℕ) (s : Started) (start : sta
       subst (λ (ranges : List MemoryRange). IsFit limits ranges o) (flat_stepped-ranges i limits k)
       (spawned-fit limits (flat_stepped i limits k).memory (flat_stepped i limits k).main.epoch s.task started-spawned j
       o at)
-
-  -- no address lies in two of them
-  pub started-separate : (j l : ℕ) (o q : Operand) (a : ℕ) → slice_get (operands_of s.task) j ≡ Some o
-      → slice_get (operands_of s.task) l ≡ Some q → covers o.object a ≡ true → covers q.object a ≡ true → j ≡ l
-  started-separate =
-      spawned-separate limits (flat_stepped i limits k).memory (flat_stepped i limits k).main.epoch s.task
-      started-spawned (flat_stepped-apart i limits k)

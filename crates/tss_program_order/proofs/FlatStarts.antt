@@ -1,5 +1,6 @@
 -- The tasks that program order starts: where one is started, before which memory, and what it names.
-use Rattle.std.proofs.Common.{◌≡◌, ℕ, zero, suc, Bool, true, false, Option, Some, None, List, refl, sym, ap, subst, ◌∙◌, add-one}
+use Rattle.std.proofs.Common.{◌≡◌, ℕ, zero, suc, Bool, true, false, Option, Some, None, List, refl, sym, ap, subst, ◌∙◌}
+use Rattle.std.proofs.Common.{add-one}
 use Rattle.std.specs.Prelude.{is_some, option_map}
 use Rattle.std.proofs.lemmas.Bool.{both_ways}
 use Rattle.std.proofs.lemmas.Option.{none-some}
@@ -13,13 +14,17 @@ use Rattle.tss_model.specs.Access.{MainActor, operands_of}
 use Rattle.tss_model.specs.Core.{Stepped, Executed, Called, Ended, Trapped, Touched}
 use Rattle.tss_model.specs.TaskRun.{repeated, task_end}
 use Rattle.tss_model.specs.Spawn.{name_objects, objects_of}
-use Rattle.tss_model.specs.MainStep.{MainState, Flat, Call, has_spent, main_on, main_core, main_step, called_by, next_call, main_call}
-use Rattle.tss_model.specs.InOrder.{Started, flat_step, flat_stepped, call_ran, main_after_task, started_at, started_in, task_called, end_of_started}
+use Rattle.tss_model.specs.MainStep.{MainState, Flat, Call, has_spent, main_on, main_core, main_step, called_by}
+use Rattle.tss_model.specs.MainStep.{next_call, main_call}
+use Rattle.tss_model.specs.InOrder.{Started, flat_step, flat_stepped, call_ran, main_after_task, started_at, started_in}
+use Rattle.tss_model.specs.InOrder.{task_called, end_of_started}
 use Rattle.tss_program_order.specs.MainInOrder.{steps_taken}
 use Rattle.tss_program_order.proofs.FlatCore.{IsStep}
-use Rattle.tss_program_order.proofs.FlatSteps.{main_step-spent, main_step-core, next_call-core, flat_step-main, flat_step-call, flat_step-ended, next_call-on}
+use Rattle.tss_program_order.proofs.FlatSteps.{main_step-spent, main_step-core, next_call-core, flat_step-main}
+use Rattle.tss_program_order.proofs.FlatSteps.{flat_step-call, flat_step-ended, next_call-on}
 use Rattle.tss_program_order.proofs.FlatMain.{main_core-step}
-use Rattle.tss_program_order.proofs.FlatOrder.{steps_taken-on, executed_on, main_after-there, flat_stepped-next, started_at-by}
+use Rattle.tss_program_order.proofs.FlatOrder.{steps_taken-on, executed_on, main_after-there, flat_stepped-next}
+use Rattle.tss_program_order.proofs.FlatOrder.{started_at-by}
 use Rattle.tss_program_order.proofs.FlatSpawn.{main_call-step, main_call-spawn}
 use Rattle.tss_program_order.proofs.FlatNames.{Has, name_objects-names}
 use Rattle.tss_program_order.proofs.FlatEpoch.{call_ran-epoch}

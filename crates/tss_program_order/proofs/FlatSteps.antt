@@ -7,7 +7,8 @@ use Rattle.tss_base.specs.declared.machine.Limits.{Limits}
 use Rattle.tss_base.specs.Image.{SegmentState}
 use Rattle.tss_base.specs.declared.refusals.TheConstants.{MAIN_BUDGET_SPENT}
 use Rattle.tss_model.specs.TaskRun.{repeated}
-use Rattle.tss_model.specs.MainStep.{Flat, Call, main_refused, has_spent, main_on, main_core, main_step, called_by, next_call}
+use Rattle.tss_model.specs.MainStep.{Flat, Call, main_refused, has_spent, main_on, main_core, main_step, called_by}
+use Rattle.tss_model.specs.MainStep.{next_call}
 use Rattle.tss_model.specs.InOrder.{flat_by, flat_step}
 
 -- ---- steps that are repeated
@@ -62,7 +63,7 @@ module _ (code : List SegmentState) (limits : Limits) (f : Flat) where
   main_step-core on left = cond-false _ _ _ on ∙ cond-false _ _ _ left
 
   -- and only then a call may come next
-  pub next_call-ended : is_some f.main.ending ≡ true → next_call code limits f ≡ None
+  next_call-ended : is_some f.main.ending ≡ true → next_call code limits f ≡ None
   next_call-ended ended = cond-true _ _ _ (or_left _ _ ended)
 
   -- where the budget is spent there is none

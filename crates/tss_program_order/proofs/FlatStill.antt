@@ -1,5 +1,6 @@
 -- A step of program order that completes no instruction of main changes nothing but main's ending.
-use Rattle.std.proofs.Common.{◌≡◌, ℕ, ◌+◌, Bool, true, false, List, Option, Some, None, Result, Ok, Err, refl, sym, ap, ◌∙◌, subst, arith}
+use Rattle.std.proofs.Common.{◌≡◌, ℕ, ◌+◌, Bool, true, false, List, Option, Some, None, Result, Ok, Err, refl, sym, ap}
+use Rattle.std.proofs.Common.{◌∙◌, subst, arith}
 use Rattle.std.specs.Prelude.{cond, is_some, is_none, nat_lt, length, ◌==◌}
 use Rattle.tss_base.specs.declared.range.Range.{Range}
 use Rattle.tss_base.specs.declared.operand.Task.{Task}
@@ -14,11 +15,15 @@ use Rattle.tss_model.specs.Access.{MainActor, touches}
 use Rattle.tss_model.specs.Core.{Stepped, Executed, Called, Ended, Trapped, Touched}
 use Rattle.tss_model.specs.Spawn.{spawn_of}
 use Rattle.tss_model.specs.TaskRun.{task_end}
-use Rattle.tss_model.specs.MainStep.{MainState, Flat, Call, ExitCall, Spawn, Barrier, Print, Await, Unknown, main_on, main_core, main_step, main_call, next_call, has_spent, output_of, spawn_on, spawn_call, spawn_done, call_done, main_trapped, main_refused, print_done, print_call, print_range, await_on, awaited_object}
+use Rattle.tss_model.specs.MainStep.{MainState, Flat, Call, ExitCall, Spawn, Barrier, Print, Await, Unknown, main_on}
+use Rattle.tss_model.specs.MainStep.{main_core, main_step, main_call, next_call, has_spent, output_of, spawn_on}
+use Rattle.tss_model.specs.MainStep.{spawn_call, spawn_done, call_done, main_trapped, main_refused, print_done}
+use Rattle.tss_model.specs.MainStep.{print_call, print_range, await_on, awaited_object}
 use Rattle.tss_model.specs.InOrder.{flat_step, call_ran, main_after_task}
 use Rattle.tss_program_order.proofs.FlatCore.{IsStep}
 use Rattle.tss_program_order.proofs.FlatMain.{main_core-step}
-use Rattle.tss_program_order.proofs.FlatSteps.{main_step-ended, main_step-spent, main_step-core, flat_step-main, flat_step-call}
+use Rattle.tss_program_order.proofs.FlatSteps.{main_step-ended, main_step-spent, main_step-core, flat_step-main}
+use Rattle.tss_program_order.proofs.FlatSteps.{flat_step-call}
 
 -- main is the same but for its ending
 pub record SameButEnding (x y : MainState) : Type 0 where

@@ -1,9 +1,11 @@
 -- A task on the flat memory: from its start to its end it changes only bytes of its output and inout operands.
-use Rattle.std.proofs.Common.{◌≡◌, ℕ, zero, suc, ◌+◌, ◌<◌, ◌≤◌, inl, inr, Bool, true, false, Some, None, List, [], ◌∷◌, length, refl, sym, ap, subst, ◌∙◌, arith, nat_le, nat_lt}
+use Rattle.std.proofs.Common.{◌≡◌, ℕ, zero, suc, ◌+◌, ◌<◌, ◌≤◌, inl, inr, Bool, true, false, Some, None, List, [], ◌∷◌}
+use Rattle.std.proofs.Common.{length, refl, sym, ap, subst, ◌∙◌, arith, nat_le, nat_lt}
 use Rattle.std.specs.Prelude.{◌&&◌, cond}
 use Rattle.std.specs.List.{list_any}
 use Rattle.std.specs.FinMap.{get}
-use Rattle.std.proofs.lemmas.Bool.{and_parts, and_from, and_right, or_cases, or_parts, or_left, or_right, or_from, both_ways, le-leb, lt-ltb, cond-true, cond-false}
+use Rattle.std.proofs.lemmas.Bool.{and_parts, and_from, and_right, or_cases, or_parts, or_left, or_right, or_from}
+use Rattle.std.proofs.lemmas.Bool.{both_ways, le-leb, lt-ltb, cond-true, cond-false}
 use Rattle.std.proofs.lemmas.List.{length-replicate}
 use Rattle.tss_base.specs.declared.range.Range.{Range}
 use Rattle.tss_base.specs.declared.operand.Mode.{Mode}
@@ -16,9 +18,11 @@ use Rattle.tss_base.specs.Range.{end_of, Covers, contains}
 use Rattle.tss_base.specs.declared.causes.TheConstants.{BUDGET_SPENT}
 use Rattle.tss_model.specs.Memory.{MemoryRange, Memory, scratch_range, covers, zeros, zeroed, byte_at, code_word}
 use Rattle.tss_model.specs.Registers.{trap_of}
-use Rattle.tss_model.specs.Access.{TaskActor, Stores, Granted, Denied, reads, writes, operands_of, task_may_store, task_access}
+use Rattle.tss_model.specs.Access.{TaskActor, Stores, Granted, Denied, reads, writes, operands_of, task_may_store}
+use Rattle.tss_model.specs.Access.{task_access}
 use Rattle.tss_model.specs.Core.{Write, Stepped, Executed, Called, Ended, Trapped, Touched, core_step}
-use Rattle.tss_model.specs.TaskRun.{TaskState, repeated, is_over, task_byte, task_write, task_on, task_step, task_trapped, memory_write, zeroed_outputs, task_start, task_stepped, task_end}
+use Rattle.tss_model.specs.TaskRun.{TaskState, repeated, is_over, task_byte, task_write, task_on, task_step}
+use Rattle.tss_model.specs.TaskRun.{task_trapped, memory_write, zeroed_outputs, task_start, task_stepped, task_end}
 use Rattle.tss_program_order.proofs.FlatRanges.{contains_parts}
 use Rattle.tss_program_order.proofs.FlatCore.{IsStep, core_step-step}
 use Rattle.tss_program_order.proofs.FlatWrites.{map_put-beside}
@@ -33,11 +37,11 @@ pub record ChangesWritten (operands : List Operand) (m n : Memory) : Type 0 wher
   pub bytes : (a : ℕ) → is_written operands a ≡ false → get n.bytes a ≡ get m.bytes a
 
 -- a memory does so of itself
-pub ChangesWritten-same : (operands : List Operand) (m n : Memory) → n ≡ m → ChangesWritten operands m n
+ChangesWritten-same : (operands : List Operand) (m n : Memory) → n ≡ m → ChangesWritten operands m n
 ChangesWritten-same operands m n e = record { ranges = λ i. (e i).ranges; bytes = λ a out i. get (e i).bytes a }
 
 -- changes after changes
-pub ChangesWritten-then : (operands : List Operand) (m n k : Memory) → ChangesWritten operands m n
+ChangesWritten-then : (operands : List Operand) (m n k : Memory) → ChangesWritten operands m n
     → ChangesWritten operands n k → ChangesWritten operands m k
 ChangesWritten-then operands m n k p q =
     record { ranges = q.ranges ∙ p.ranges; bytes = λ a out. q.bytes a out ∙ p.bytes a out }
@@ -90,7 +94,7 @@ granted_write ranges operands w some granted outside =
     ]
 
 -- it leaves each address beside the objects that the task writes
-pub write_beside : (operands : List Operand) (w : Write) (a : ℕ) → MayWrite operands w → is_written operands a ≡ false
+write_beside : (operands : List Operand) (w : Write) (a : ℕ) → MayWrite operands w → is_written operands a ≡ false
     → w.at ≤ a → a < w.at + length w.bytes → ⊥
 write_beside operands w a may beside low high =
     both_ways (is_written operands a) beside
@@ -129,7 +133,7 @@ module _ (ranges : List MemoryRange) (operands : List Operand) (s : TaskState Me
 
 module _ (budget : ℕ) (code : List SegmentState) (ranges : List MemoryRange) (operands : List Operand) where
   -- a step of a task
-  pub task_step-changes : (s : TaskState Memory) → ChangesWritten operands s.memory
+  task_step-changes : (s : TaskState Memory) → ChangesWritten operands s.memory
       (task_step byte_at memory_write budget code (TaskActor ranges operands) s).memory
   unfolding task_step
   task_step-changes s = by (is_over s) (nat_le budget s.registers.done) refl refl
@@ -151,7 +155,7 @@ module _ (budget : ℕ) (code : List SegmentState) (ranges : List MemoryRange) (
           (core_step-step (TaskActor ranges operands) (task_byte byte_at s) s.registers (code_word code)))
 
   -- and so many
-  pub task_stretch-changes : (n : ℕ) (s : TaskState Memory) → ChangesWritten operands s.memory
+  task_stretch-changes : (n : ℕ) (s : TaskState Memory) → ChangesWritten operands s.memory
       (repeated (task_step byte_at memory_write budget code (TaskActor ranges operands)) n s).memory
   unfolding repeated
   task_stretch-changes zero s = ChangesWritten-same operands s.memory s.memory refl
@@ -178,7 +182,7 @@ zeroed-beside m o a unread beside =
     (lt-ltb a (end_of o.object) (omega (arith, high, length-replicate {A = ℕ} o.object.len 0))))))
 
 -- the outputs of a task lie in objects that it writes
-pub zeroed_outputs-changes : (operands : List Operand) (m : Memory)
+zeroed_outputs-changes : (operands : List Operand) (m : Memory)
     → ChangesWritten operands m (zeroed_outputs m operands)
 zeroed_outputs-changes [] m = ChangesWritten-same [] m m refl
 zeroed_outputs-changes (o ∷ operands) m = by (reads o.mode) refl (zeroed_outputs-changes operands m)
@@ -200,7 +204,7 @@ zeroed_outputs-changes (o ∷ operands) m = by (reads o.mode) refl (zeroed_outpu
 -- ---- the whole
 
 -- a task after so many steps
-pub task_stepped-changes : (code : List SegmentState) (limits : Limits) (m : Memory) (t : Task) (n : ℕ)
+task_stepped-changes : (code : List SegmentState) (limits : Limits) (m : Memory) (t : Task) (n : ℕ)
     → ChangesWritten (operands_of t) m (task_stepped code limits m t n).memory
 task_stepped-changes code limits m t n =
     ChangesWritten-then (operands_of t) m (zeroed_outputs m (operands_of t)) _

@@ -1,6 +1,7 @@
 -- A task depends on the bytes that it may load alone. Two runs of a task, each with its own form of memory, go alike as
 -- long as both memories show the same there.
-use Rattle.std.proofs.Common.{◌≡◌, ℕ, zero, suc, ◌-◌, ◌<◌, Bool, true, false, Some, None, List, length, refl, sym, ap, subst, ◌∙◌, nat_le}
+use Rattle.std.proofs.Common.{◌≡◌, ℕ, zero, suc, ◌-◌, ◌<◌, Bool, true, false, Some, None, List, length, refl, sym, ap}
+use Rattle.std.proofs.Common.{subst, ◌∙◌, nat_le}
 use Rattle.std.specs.Prelude.{◌||◌, ◌==◌, slice_index, is_some}
 use Rattle.std.proofs.lemmas.Bool.{cond-true, cond-false}
 use Rattle.tss_base.specs.declared.range.Range.{Range}
@@ -13,7 +14,8 @@ use Rattle.tss_model.specs.Memory.{MemoryRange, scratch_range, covers, list_put,
 use Rattle.tss_model.specs.Registers.{register_at, trap_of}
 use Rattle.tss_model.specs.Access.{Actor, TaskActor, Loads, Stores, Granted, task_access}
 use Rattle.tss_model.specs.Core.{Write, Stepped, Executed, Called, Ended, Trapped, Touched, core_step}
-use Rattle.tss_model.specs.TaskRun.{TaskState, repeated, is_over, task_byte, task_write, task_on, task_step, task_stretch, task_trapped}
+use Rattle.tss_model.specs.TaskRun.{TaskState, repeated, is_over, task_byte, task_write, task_on, task_step}
+use Rattle.tss_model.specs.TaskRun.{task_stretch, task_trapped}
 use Rattle.tss_program_order.proofs.FlatCore.{IsStep, core_step-same, core_step-step}
 use Rattle.tss_program_order.proofs.FlatTask.{MayWrite, granted_write}
 use Rattle.tss_base.specs.declared.addresses.TheConstants.{END_PC}
@@ -134,7 +136,7 @@ module _ {M N : Type 0} (byte : M → ℕ → ℕ) (write : M → Write → M) (
     task_on-alike Touched step = alike
 
     -- a step of both
-    pub task_step-alike : (budget : ℕ) (code : List SegmentState)
+    task_step-alike : (budget : ℕ) (code : List SegmentState)
         → RunAlike R (task_step byte write budget code (TaskActor ranges operands) s)
         (task_step other rewrite budget code (TaskActor ranges operands) u)
     task_step-alike budget code = by (is_over s) (nat_le budget s.registers.done) refl refl

@@ -1,5 +1,6 @@
 -- A task by its steps and by its completed instructions, and its end.
-use Rattle.std.proofs.Common.{◌≡◌, ◌⊎◌, ℕ, zero, suc, ◌+◌, ◌-◌, ◌≤◌, inl, inr, Bool, true, false, Some, None, List, refl, sym, ap, subst, ◌∙◌, arith, add-one, nat_le}
+use Rattle.std.proofs.Common.{◌≡◌, ◌⊎◌, ℕ, zero, suc, ◌+◌, ◌-◌, ◌≤◌, inl, inr, Bool, true, false, Some, None, List}
+use Rattle.std.proofs.Common.{refl, sym, ap, subst, ◌∙◌, arith, add-one, nat_le}
 use Rattle.std.specs.Prelude.{cond, ◌==◌, is_some}
 use Rattle.std.proofs.lemmas.Bool.{cond-true, both_ways, or_left, or_parts, cases_lt, eq-eqb, le-leb}
 use Rattle.tss_base.specs.declared.range.Range.{Range}
@@ -10,9 +11,12 @@ use Rattle.tss_base.specs.declared.machine.Limits.{Limits}
 use Rattle.tss_base.specs.Image.{SegmentState}
 use Rattle.tss_model.specs.Memory.{MemoryRange, Memory, range_of, scratch_range, covers, byte_at, code_word, list_put}
 use Rattle.tss_base.specs.declared.addresses.TheConstants.{END_PC}
-use Rattle.tss_model.specs.Access.{TaskActor, Purpose, Touch, Granted, Denied, operands_of, task_access, task_may_within}
+use Rattle.tss_model.specs.Access.{TaskActor, Purpose, Touch, Granted, Denied, operands_of, task_access}
+use Rattle.tss_model.specs.Access.{task_may_within}
 use Rattle.tss_model.specs.Core.{Write, Stepped, Executed, Called, Ended, Trapped, Touched, core_step}
-use Rattle.tss_model.specs.TaskRun.{TaskState, TaskEnd, repeated, is_over, task_byte, task_write, task_on, task_step, task_trapped, memory_write, task_start, task_actor, task_stepped, task_after, end_of_task, task_end}
+use Rattle.tss_model.specs.TaskRun.{TaskState, TaskEnd, repeated, is_over, task_byte, task_write, task_on, task_step}
+use Rattle.tss_model.specs.TaskRun.{task_trapped, memory_write, task_start, task_actor, task_stepped, task_after}
+use Rattle.tss_model.specs.TaskRun.{end_of_task, task_end}
 use Rattle.tss_program_order.proofs.FlatCore.{IsStep, core_step-step}
 use Rattle.tss_program_order.proofs.FlatSteps.{repeated-add, repeated-last, repeated-still}
 use Rattle.tss_program_order.proofs.FlatTaskAlike.{task_step-over, task_step-spent, task_step-core}
@@ -28,7 +32,7 @@ never_touched ranges operands purpose q e = by (task_may_within purpose operands
     by false e = cc
 
 -- a step of a task that isn't over completes an instruction, or it traps and keeps the rest
-abbrev pub Goes : TaskState Memory → TaskState Memory → Type 0
+abbrev Goes : TaskState Memory → TaskState Memory → Type 0
 Goes s t =
     ((t.registers.done ≡ suc s.registers.done) × (t.trap ≡ s.trap))
     ⊎ ((trap : Trap) × (t ≡ task_trapped s trap))
@@ -52,7 +56,7 @@ module _ (budget : ℕ) (code : List SegmentState) (ranges : List MemoryRange) (
   on_goes s Touched on is = absurd (never_touched ranges operands is.0 is.1 is.2)
 
   -- each step does so
-  pub task_step-goes : (s : TaskState Memory) → is_over s ≡ false
+  task_step-goes : (s : TaskState Memory) → is_over s ≡ false
       → Goes s (task_step byte_at memory_write budget code (TaskActor ranges operands) s)
   task_step-goes s on = by (nat_le budget s.registers.done) refl
     where
@@ -68,13 +72,13 @@ module _ (budget : ℕ) (code : List SegmentState) (ranges : List MemoryRange) (
 
 module _ (code : List SegmentState) (limits : Limits) (m : Memory) (t : Task) where
   -- one step more
-  pub task_stepped-next : (n : ℕ) → task_stepped code limits m t (suc n)
+  task_stepped-next : (n : ℕ) → task_stepped code limits m t (suc n)
       ≡ task_step byte_at memory_write limits.task_budget code (task_actor m t) (task_stepped code limits m t n)
   task_stepped-next n =
       repeated-last (task_step byte_at memory_write limits.task_budget code (task_actor m t)) n (task_start m t)
 
   -- a task that is over stays
-  pub task_stepped-over : (n k : ℕ) → is_over (task_stepped code limits m t n) ≡ true
+  task_stepped-over : (n k : ℕ) → is_over (task_stepped code limits m t n) ≡ true
       → task_stepped code limits m t (n + k) ≡ task_stepped code limits m t n
   task_stepped-over n k over =
       repeated-add (task_step byte_at memory_write limits.task_budget code (task_actor m t)) n k (task_start m t)

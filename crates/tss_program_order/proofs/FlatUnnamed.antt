@@ -1,5 +1,6 @@
 -- A step in program order that starts no task names nothing: what is named after it was named before.
-use Rattle.std.proofs.Common.{◌≡◌, ℕ, zero, suc, ◌+◌, Option, Some, None, Result, Ok, Err, List, refl, sym, ap, subst, ◌∙◌, arith}
+use Rattle.std.proofs.Common.{◌≡◌, ℕ, zero, suc, ◌+◌, Option, Some, None, Result, Ok, Err, List, refl, sym, ap, subst}
+use Rattle.std.proofs.Common.{◌∙◌, arith}
 use Rattle.std.proofs.lemmas.Option.{none-some}
 use Rattle.tss_base.specs.declared.range.Range.{Range}
 use Rattle.tss_base.specs.declared.operand.Task.{Task}
@@ -7,7 +8,8 @@ use Rattle.tss_base.specs.declared.machine.Limits.{Limits}
 use Rattle.tss_base.specs.Image.{SegmentState, ImageState}
 use Rattle.tss_model.specs.Memory.{Memory, frozen}
 use Rattle.tss_model.specs.Spawn.{spawn_of}
-use Rattle.tss_model.specs.MainStep.{MainState, Flat, Call, ExitCall, Spawn, Barrier, Print, Await, Unknown, next_call, spawn_call, spawn_on, print_range, main_call, await_on, awaited_object}
+use Rattle.tss_model.specs.MainStep.{MainState, Flat, Call, ExitCall, Spawn, Barrier, Print, Await, Unknown, next_call}
+use Rattle.tss_model.specs.MainStep.{spawn_call, spawn_on, print_range, main_call, await_on, awaited_object}
 use Rattle.tss_model.specs.InOrder.{flat_step, flat_stepped, task_called}
 use Rattle.tss_program_order.proofs.FlatSteps.{flat_step-main, flat_step-call}
 use Rattle.tss_program_order.proofs.FlatMain.{main_step-leaves}
@@ -40,7 +42,7 @@ module _ (limits : Limits) (m : Memory) (s : MainState) (x : Range) where
   call_unnamed (Unknown n) none has = has
 
 -- it names nothing
-pub flat_step-unnamed : (code : List SegmentState) (limits : Limits) (f : Flat) (x : Range)
+flat_step-unnamed : (code : List SegmentState) (limits : Limits) (f : Flat) (x : Range)
     → task_called limits f (next_call code limits f) ≡ None → Has (flat_step code limits f).main.epoch x
     → Has f.main.epoch x
 flat_step-unnamed code limits f x none has = by (next_call code limits f) refl

@@ -7,7 +7,7 @@ use Rattle.tss_maps.proofs.Changes.{at_inserted, beside_inserted}
 use Rattle.tss_model.specs.Memory.{map_put}
 
 -- where two maps agree they do so after the same insertion
-pub insert-agrees : (m n : Numbered ℕ) (k v a : ℕ) → get m a ≡ get n a → get (insert m k v) a ≡ get (insert n k v) a
+insert-agrees : (m n : Numbered ℕ) (k v a : ℕ) → get m a ≡ get n a → get (insert m k v) a ≡ get (insert n k v) a
 insert-agrees m n k v a same = elim (decide_key nat_order a k) [
   | inl here ↦ ap (get (insert m k v)) here ∙ at_inserted nat_order m k v ∙ sym (at_inserted nat_order n k v)
       ∙ ap (get (insert n k v)) (sym here)
@@ -28,15 +28,3 @@ map_put-beside m at [] a out = refl
 map_put-beside m at (b ∷ bs) a out =
     beside_inserted nat_order (map_put m (suc at) bs) at b a (λ here. out (omega (arith, here)) (omega (arith, here)))
     ∙ map_put-beside m (suc at) bs a (λ low high. out (omega arith) (omega arith))
-
--- within them two maps have the same afterwards, whatever they had
-pub map_put-inside : (m n : Numbered ℕ) (at : ℕ) (bs : List ℕ) (a : ℕ) → at ≤ a → a < at + length bs
-    → get (map_put m at bs) a ≡ get (map_put n at bs) a
-map_put-inside m n at [] a low high = absurd (omega arith)
-map_put-inside m n at (b ∷ bs) a low high = elim (decide_key nat_order a at) [
-  | inl here ↦ ap (get (insert (map_put m (suc at) bs) at b)) here ∙ at_inserted nat_order (map_put m (suc at) bs) at b
-      ∙ sym (at_inserted nat_order (map_put n (suc at) bs) at b)
-      ∙ ap (get (insert (map_put n (suc at) bs) at b)) (sym here)
-  | inr apart ↦ insert-agrees (map_put m (suc at) bs) (map_put n (suc at) bs) at b a
-      (map_put-inside m n (suc at) bs a (omega (arith, apart)) (omega arith))
-]

@@ -1,5 +1,6 @@
 -- No store takes a byte of memory away: home and the memory of program order keep all that were loaded.
-use Rattle.std.proofs.Common.{◌≡◌, ℕ, suc, inl, inr, Bool, true, false, List, [], ◌∷◌, Option, Some, None, sym, ap, subst, ◌∙◌}
+use Rattle.std.proofs.Common.{◌≡◌, ℕ, suc, inl, inr, Bool, true, false, List, [], ◌∷◌, Option, Some, None, sym, ap}
+use Rattle.std.proofs.Common.{subst, ◌∙◌}
 use Rattle.std.specs.Prelude.{cond, ◌-◌, is_some, nat_le}
 use Rattle.std.specs.FinMap.{get, insert}
 use Rattle.tss_base.specs.declared.operand.Operand.{Operand}
@@ -13,21 +14,25 @@ use Rattle.tss_base.specs.Image.{SegmentState, ImageState}
 use Rattle.tss_base.specs.Names.{Numbered}
 use Rattle.tss_maps.proofs.Keys.{nat_order, decide_key}
 use Rattle.tss_maps.proofs.Changes.{at_inserted, beside_inserted}
-use Rattle.tss_model.specs.Memory.{Memory, scratch_range, covers, map_put, put_bytes, zeroed, byte_at, code_word, loaded, frozen, list_put}
+use Rattle.tss_model.specs.Memory.{Memory, scratch_range, covers, map_put, put_bytes, zeroed, byte_at, code_word}
+use Rattle.tss_model.specs.Memory.{loaded, frozen, list_put}
 use Rattle.tss_model.specs.Registers.{trap_of}
 use Rattle.tss_base.specs.declared.causes.TheConstants.{BUDGET_SPENT}
 use Rattle.tss_base.specs.declared.refusals.TheConstants.{MAIN_BUDGET_SPENT}
 use Rattle.tss_model.specs.Access.{Actor, TaskActor, operands_of, reads}
 use Rattle.tss_model.specs.Core.{Write, Stepped, Executed, Called, Ended, Trapped, Touched, core_step}
-use Rattle.tss_model.specs.TaskRun.{TaskState, is_over, task_byte, task_write, task_on, task_step, task_trapped, memory_write, zeroed_output, zeroed_outputs, task_start, task_actor, task_end}
-use Rattle.tss_model.specs.MainStep.{MainState, Flat, Call, has_spent, main_core, main_on, main_refused, main_step, main_stretch, main_call, next_call, flat_written}
+use Rattle.tss_model.specs.TaskRun.{TaskState, is_over, task_byte, task_write, task_on, task_step, task_trapped}
+use Rattle.tss_model.specs.TaskRun.{memory_write, zeroed_output, zeroed_outputs, task_start, task_actor, task_end}
+use Rattle.tss_model.specs.MainStep.{MainState, Flat, Call, has_spent, main_core, main_on, main_refused, main_step}
+use Rattle.tss_model.specs.MainStep.{main_stretch, main_call, next_call, flat_written}
 use Rattle.tss_model.specs.InOrder.{flat_start, call_ran, flat_by, flat_step, flat_stepped}
 use Rattle.tss_protocol.specs.Mail.{StorageName, Home, Buffer}
 use Rattle.tss_protocol.specs.State.{State, Flying, Busy, CopyState}
 use Rattle.tss_protocol.specs.Stations.{storages_of}
 use Rattle.tss_protocol.specs.Buffers.{buffer_bytes, piece_of}
 use Rattle.tss_protocol.specs.MainEvent.{flat_of, call_next, after_call, main_by}
-use Rattle.tss_protocol.specs.Workers.{Stores, Placed, placed_in, placed_at, worker_byte, worker_write, write_in, storage_write, storage_zeroed, output_zeroed, outputs_zeroed, task_state_of}
+use Rattle.tss_protocol.specs.Workers.{Stores, Placed, placed_in, placed_at, worker_byte, worker_write, write_in}
+use Rattle.tss_protocol.specs.Workers.{storage_write, storage_zeroed, output_zeroed, outputs_zeroed, task_state_of}
 use Rattle.tss_protocol.specs.UnitMachine.{after_event, start_task, after_start, after_exec, after_copy, stores_of}
 use Rattle.tss_locality.proofs.LeftFields.{Leaves-after_event}
 use Rattle.tss_program_order.proofs.FlatSteps.{repeated-keeps}
@@ -51,7 +56,7 @@ module _ (a : ℕ) where
   there_put bytes at (b ∷ bs) h = there_inserted (map_put bytes (suc at) bs) at b (there_put bytes (suc at) bs h)
 
   -- a store keeps it
-  pub kept_put : (m : Memory) (at : ℕ) (bs : List ℕ) → HasByte m a → HasByte (put_bytes m at bs) a
+  kept_put : (m : Memory) (at : ℕ) (bs : List ℕ) → HasByte m a → HasByte (put_bytes m at bs) a
   kept_put m at bs h = there_put m.bytes at bs h
 
   kept_flat : (m : Memory) (w : Option Write) → HasByte m a → HasByte (flat_written m w) a
@@ -104,7 +109,7 @@ module _ (a : ℕ) where
   kept_outputs m (o ∷ os) h = kept_zeroed (zeroed_outputs m os) o (kept_outputs m os h)
 
   -- all of a task keeps it
-  pub kept_task : (code : List SegmentState) (limits : Limits) (m : Memory) (t : Task) → HasByte m a
+  kept_task : (code : List SegmentState) (limits : Limits) (m : Memory) (t : Task) → HasByte m a
       → HasByte (task_end code limits m t).memory a
   kept_task code limits m t h =
       repeated-keeps (λ (s : TaskState Memory). HasByte s.memory a)

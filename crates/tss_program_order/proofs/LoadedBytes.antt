@@ -1,5 +1,6 @@
 -- The memory of an image has a byte at each address of its ranges.
-use Rattle.std.proofs.Common.{◌≡◌, inl, inr, ℕ, ◌+◌, ◌<◌, ◌≤◌, Bool, true, false, List, [], ◌∷◌, ◌++◌, length, map, Option, Some, None, refl, ap, subst, ◌∙◌, arith}
+use Rattle.std.proofs.Common.{◌≡◌, inl, inr, ℕ, ◌+◌, ◌<◌, ◌≤◌, Bool, true, false, List, [], ◌∷◌, ◌++◌, length, map}
+use Rattle.std.proofs.Common.{Option, Some, None, refl, ap, subst, ◌∙◌, arith}
 use Rattle.std.specs.Prelude.{cond, is_some, nat_le, find, flat_map, option_map}
 use Rattle.std.specs.List.{enumerate_from}
 use Rattle.std.specs.Ordering.{nat_cmp, eq_by_cmp}
@@ -10,7 +11,8 @@ use Rattle.tss_base.specs.declared.range.Range.{Range}
 use Rattle.tss_base.specs.Range.{Covers, contains, end_of}
 use Rattle.tss_base.specs.Image.{SegmentState, ImageState}
 use Rattle.tss_maps.proofs.Keys.{nat_order, decide_key, same_key}
-use Rattle.tss_model.specs.Memory.{MemoryRange, Memory, range_of, stack_range, zeros, memory_range, memory_ranges, segment_range, loaded_bytes, loaded}
+use Rattle.tss_model.specs.Memory.{MemoryRange, Memory, range_of, stack_range, zeros, memory_range, memory_ranges}
+use Rattle.tss_model.specs.Memory.{segment_range, loaded_bytes, loaded}
 use Rattle.tss_program_order.proofs.StoreStart.{length-zeros}
 
 -- memory has a byte at an address

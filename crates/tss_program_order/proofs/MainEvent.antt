@@ -1,5 +1,6 @@
 -- One event of main in a state of a run: main and the bytes that it may load stay those of program order.
-use Rattle.std.proofs.Common.{◌≡◌, ℕ, suc, ◌+◌, ◌<◌, ◌⊎◌, inl, inr, false, Option, Some, None, List, refl, sym, ap, subst, ◌∙◌, arith}
+use Rattle.std.proofs.Common.{◌≡◌, ℕ, suc, ◌+◌, ◌<◌, ◌⊎◌, inl, inr, false, Option, Some, None, List, refl, sym, ap}
+use Rattle.std.proofs.Common.{subst, ◌∙◌, arith}
 use Rattle.std.specs.Prelude.{is_some, option_map, unwrap_or}
 use Rattle.std.specs.List.{list_any}
 use Rattle.std.specs.FinMap.{get}
@@ -14,23 +15,29 @@ use Rattle.tss_base.specs.Image.{SegmentState, ImageState}
 use Rattle.tss_model.specs.Memory.{covers, frozen}
 use Rattle.tss_model.specs.Access.{Loads, main_access, operands_of}
 use Rattle.tss_model.specs.MainStep.{MainState, Flat, Call, main_stretch, next_call, main_call, output_of}
-use Rattle.tss_model.specs.InOrder.{Started, flat_start, flat_step, flat_stepped, call_ran, main_after_task, main_after, started_in, task_called, end_of_started, in_order}
+use Rattle.tss_model.specs.InOrder.{Started, flat_start, flat_step, flat_stepped, call_ran, main_after_task, main_after}
+use Rattle.tss_model.specs.InOrder.{started_in, task_called, end_of_started, in_order}
 use Rattle.tss_protocol.specs.State.{State, initial_state}
 use Rattle.tss_protocol.specs.Run.{IsRun}
 use Rattle.tss_protocol.specs.MainEvent.{flat_of, with_flat, call_next, after_call, main_by}
 use Rattle.tss_protocol.specs.UnitMachine.{is_enabled, IsEnabled, after_event}
-use Rattle.tss_program_order.specs.MainInOrder.{MayLoad, Agrees, FollowsInOrder, FollowsAfter, IsCutOff, steps_taken, flat_beside, started_next, inbox_with, is_operand_of}
+use Rattle.tss_program_order.specs.MainInOrder.{MayLoad, Agrees, FollowsInOrder, FollowsAfter, IsCutOff, steps_taken}
+use Rattle.tss_program_order.specs.MainInOrder.{flat_beside, started_next, inbox_with, is_operand_of}
 use Rattle.tss_program_order.proofs.FlatSteps.{repeated-add, flat_step-call}
 use Rattle.tss_program_order.proofs.FlatLoads.{byte_range}
-use Rattle.tss_program_order.proofs.FlatMain.{AreAlike, unloaded_unstored, main_stretch-leaves, main_stretch-together, next_call-alike}
+use Rattle.tss_program_order.proofs.FlatMain.{AreAlike, unloaded_unstored, main_stretch-leaves, main_stretch-together}
+use Rattle.tss_program_order.proofs.FlatMain.{next_call-alike}
 use Rattle.tss_program_order.proofs.FlatCalls.{main_call-same}
 use Rattle.tss_program_order.proofs.FlatTask.{task_end-changes, unwritten_beside}
-use Rattle.tss_program_order.proofs.FlatOrder.{flat_stepped-ranges, steps_taken-on, Reaches, main_stretch-reaches, flat_stepped-next, trapped_after}
-use Rattle.tss_program_order.proofs.FlatSpawn.{Rises, main_call-step, main_call-rises, main_call-spawn, may_load_unnamed, IsSpawn}
+use Rattle.tss_program_order.proofs.FlatOrder.{flat_stepped-ranges, steps_taken-on, Reaches, main_stretch-reaches}
+use Rattle.tss_program_order.proofs.FlatOrder.{flat_stepped-next, trapped_after}
+use Rattle.tss_program_order.proofs.FlatSpawn.{Rises, main_call-step, main_call-rises, main_call-spawn}
+use Rattle.tss_program_order.proofs.FlatSpawn.{may_load_unnamed, IsSpawn}
 use Rattle.tss_program_order.proofs.FlatEpoch.{call_ran-epoch}
 use Rattle.tss_program_order.proofs.FlatNumbers.{call_ran-spawned}
 use Rattle.tss_program_order.proofs.FlatEnds.{in_order-trap, in_order-tasks, in_order-output}
-use Rattle.tss_program_order.proofs.FlatPieces.{NoneAfter, pieces_below, pieces_below-all, pieces_below-rises, NoneAfter-rises}
+use Rattle.tss_program_order.proofs.FlatPieces.{NoneAfter, pieces_below, pieces_below-all, pieces_below-rises}
+use Rattle.tss_program_order.proofs.FlatPieces.{NoneAfter-rises}
 use Rattle.tss_program_order.proofs.MainFollows.{followed_by}
 use Rattle.tss_program_order.proofs.RunKeeps.{HasGround, main_keeps}
 

@@ -1,5 +1,6 @@
 -- What each event of the unit machine keeps, every run keeps: the code and the ranges of memory are those of the image.
-use Rattle.std.proofs.Common.{◌≡◌, ◌⊎◌, inl, inr, ℕ, Bool, true, false, Option, Some, None, List, [], ◌∷◌, refl, sym, ap, subst, ◌∙◌, nat_le}
+use Rattle.std.proofs.Common.{◌≡◌, ◌⊎◌, inl, inr, ℕ, Bool, true, false, Option, Some, None, List, [], ◌∷◌, refl, sym}
+use Rattle.std.proofs.Common.{ap, subst, ◌∙◌, nat_le}
 use Rattle.std.specs.Prelude.{cond}
 use Rattle.std.specs.FinMap.{get, insert}
 use Rattle.std.proofs.lemmas.Bool.{cond-true, cond-false}
@@ -13,21 +14,27 @@ use Rattle.tss_base.specs.declared.event.Event.{Event}
 use Rattle.tss_base.specs.declared.event.Event.TheVariants as event
 use Rattle.tss_base.specs.Image.{SegmentState, ImageState}
 use Rattle.tss_base.specs.declared.causes.TheConstants.{BUDGET_SPENT}
-use Rattle.tss_model.specs.Memory.{MemoryRange, scratch_range, covers, zeros, zeroed, loaded, frozen, memory_ranges, code_word}
+use Rattle.tss_model.specs.Memory.{MemoryRange, scratch_range, covers, zeros, zeroed, loaded, frozen, memory_ranges}
+use Rattle.tss_model.specs.Memory.{code_word}
 use Rattle.tss_model.specs.Registers.{trap_of}
 use Rattle.tss_model.specs.Access.{Actor, TaskActor, operands_of, reads}
 use Rattle.tss_model.specs.Core.{Write, Stepped, Executed, Called, Ended, Trapped, Touched, core_step}
-use Rattle.tss_model.specs.TaskRun.{TaskState, is_over, task_byte, task_write, task_on, task_step, task_stretch, task_trapped}
+use Rattle.tss_model.specs.TaskRun.{TaskState, is_over, task_byte, task_write, task_on, task_step, task_stretch}
+use Rattle.tss_model.specs.TaskRun.{task_trapped}
 use Rattle.tss_model.specs.MainStep.{MainState, Call, main_call}
-use Rattle.tss_protocol.specs.Mail.{StorageName, Home, Buffer, Source, OpenContents, ReleaseContents, IdleContents, GoneContents}
+use Rattle.tss_protocol.specs.Mail.{StorageName, Home, Buffer, Source, OpenContents, ReleaseContents, IdleContents}
+use Rattle.tss_protocol.specs.Mail.{GoneContents}
 use Rattle.tss_protocol.specs.State.{State, Flying, Busy, Version, CopyState, initial_state}
 use Rattle.tss_protocol.specs.MainEvent.{flat_of, call_next, after_call, main_by}
 use Rattle.tss_protocol.specs.Stations.{storages_of}
-use Rattle.tss_protocol.specs.Workers.{Stores, task_state_of, Placed, placed_in, placed_at, worker_byte, storage_write, write_in, worker_write, output_zeroed, outputs_zeroed}
-use Rattle.tss_protocol.specs.UnitMachine.{is_enabled, IsEnabled, after_event, after_take, decode_message_taken, open_message_taken, use_message_taken, ready_message_taken, link_message_taken, bye_message_taken, start_task, after_start, after_exec, after_finish, release_message_taken, idle_message_taken, retire_version, after_copy, gone_message_taken, stores_of, without}
+use Rattle.tss_protocol.specs.Workers.{Stores, task_state_of, Placed, placed_in, placed_at, worker_byte, storage_write}
+use Rattle.tss_protocol.specs.Workers.{write_in, worker_write, output_zeroed, outputs_zeroed}
+use Rattle.tss_protocol.specs.UnitMachine.{is_enabled, IsEnabled, after_event, after_take, decode_message_taken}
+use Rattle.tss_protocol.specs.UnitMachine.{open_message_taken, use_message_taken, ready_message_taken}
+use Rattle.tss_protocol.specs.UnitMachine.{link_message_taken, bye_message_taken, start_task, after_start, after_exec}
+use Rattle.tss_protocol.specs.UnitMachine.{after_finish, release_message_taken, idle_message_taken, retire_version}
+use Rattle.tss_protocol.specs.UnitMachine.{after_copy, gone_message_taken, stores_of, without}
 use Rattle.tss_protocol.specs.Run.{after_events, IsRun}
-use Rattle.tss_program_order.proofs.FlatNames.{AreApart}
-use Rattle.tss_program_order.proofs.FlatEpoch.{main_call-apart}
 use Rattle.tss_program_order.proofs.FlatMain.{main_stretch-leaves}
 use Rattle.tss_program_order.proofs.FlatSteps.{repeated-keeps}
 
@@ -90,7 +97,7 @@ is_main (event.Copy b) = false
 is_main (event.Gone v) = false
 
 -- it is main's, or it isn't
-pub cases_main : (e : Event) → (e ≡ event.Main) ⊎ (is_main e ≡ false)
+cases_main : (e : Event) → (e ≡ event.Main) ⊎ (is_main e ≡ false)
 cases_main event.Main = inl refl
 cases_main event.Take = inr refl
 cases_main (event.Decode o) = inr refl
@@ -313,12 +320,12 @@ pub record HasGround (i : ImageState) (S : State) : Type 0 where
   pub ranges : S.home.ranges ≡ memory_ranges i
 
 -- the first state has it
-pub HasGround-initial_state : (i : ImageState) → HasGround i (initial_state i)
+HasGround-initial_state : (i : ImageState) → HasGround i (initial_state i)
 unfolding loaded
 HasGround-initial_state i = record { code = refl; ranges = refl }
 
 -- each event keeps it
-pub HasGround-event : (m : Machine) (i : ImageState) (S : State) (e : Event) → HasGround i S
+HasGround-event : (m : Machine) (i : ImageState) (S : State) (e : Event) → HasGround i S
     → HasGround i (after_event m S e)
 HasGround-event m i S e ground =
     let same = after_event-ground m S e in
@@ -341,23 +348,3 @@ main_keeps P m kept es S T p e =
       | inl same ↦ subst (λ (e : Event). P (after_event m S e).main) (sym same) (kept S p)
       | inr other ↦ subst P (sym (after_event-kept m S e other).main) p
     ]) es S T p e
-
--- the objects that main has named are apart after its event
-main_by-apart : (m : Machine) (S : State) (c : Option Call) → AreApart S.main.epoch
-    → AreApart (main_by m S c).main.epoch
-main_by-apart m S None apart =
-    subst AreApart (sym (main_stretch-leaves S.code m.limits m.sizes.quantum (flat_of S)).epoch) apart
-main_by-apart m S (Some call) apart =
-    by (main_call m.limits S.home S.main call) (main_call-apart m.limits S.home S.main call apart)
-  where
-    by : (p : MainState × Option Task) → AreApart p.0.epoch → AreApart (after_call S p).main.epoch
-    by (main, None) apart = apart
-    by (main, Some t) apart = apart
-
--- and so after every run
-pub epoch_apart-run : (m : Machine) (i : ImageState) (es : List Event) (S : State) → IsRun m i es S
-    → AreApart S.main.epoch
-unfolding after_event
-epoch_apart-run m i es S run =
-    main_keeps (λ (s : MainState). AreApart s.epoch) m (λ S apart. main_by-apart m S (call_next m S) apart) es
-    (initial_state i) S (λ x y has also meet. absurd (cc)) run

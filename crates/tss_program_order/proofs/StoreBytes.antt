@@ -1,5 +1,6 @@
 -- The bytes of a task's operands in their storages: what a worker reads after it writes an operand.
-use Rattle.std.proofs.Common.{◌≡◌, ◌⊎◌, ℕ, zero, suc, ◌+◌, ◌-◌, ◌<◌, ◌≤◌, inl, inr, true, false, Option, Some, None, List, [], ◌∷◌, length, refl, sym, ap, ◌∙◌, arith, nat_le, nat_lt}
+use Rattle.std.proofs.Common.{◌≡◌, ◌⊎◌, ℕ, zero, suc, ◌+◌, ◌-◌, ◌<◌, ◌≤◌, inl, inr, true, false, Option, Some, None}
+use Rattle.std.proofs.Common.{List, [], ◌∷◌, length, refl, sym, ap, ◌∙◌, arith, nat_le, nat_lt}
 use Rattle.std.specs.Prelude.{slice_get, slice_index, slice_set, unwrap_or}
 use Rattle.std.specs.FinMap.{get, insert}
 use Rattle.std.proofs.lemmas.Bool.{and_parts, both_ways, cases_lt, leb-true, ltb-true, and_from, le-leb, lt-ltb}
@@ -17,7 +18,8 @@ use Rattle.tss_model.specs.Core.{Write}
 use Rattle.tss_model.specs.TaskRun.{memory_write}
 use Rattle.tss_protocol.specs.Mail.{StorageName, Home, Buffer}
 use Rattle.tss_protocol.specs.Buffers.{buffer_bytes}
-use Rattle.tss_protocol.specs.Workers.{Stores, Placed, placed_at, byte_in, storage_byte, worker_byte, storage_write, write_in, worker_write}
+use Rattle.tss_protocol.specs.Workers.{Stores, Placed, placed_at, byte_in, storage_byte, worker_byte, storage_write}
+use Rattle.tss_protocol.specs.Workers.{write_in, worker_write}
 use Rattle.tss_program_order.proofs.FlatRanges.{contains_parts}
 use Rattle.tss_program_order.proofs.FlatWrites.{map_put-beside}
 
@@ -102,7 +104,7 @@ covers_parts r a inside =
 
 module _ (placed : List Placed) (separate : AreSeparate placed) (k : ℕ) (p : Placed) (there : IsPlaced placed k p) where
   -- the object in which one of its addresses lies is found
-  pub placed_at-there : (a : ℕ) → covers p.object a ≡ true → placed_at placed a ≡ Some p
+  placed_at-there : (a : ℕ) → covers p.object a ≡ true → placed_at placed a ≡ Some p
   placed_at-there a inside = by (placed_at placed a) refl
     where
       by : (o : Option Placed) → placed_at placed a ≡ o → placed_at placed a ≡ Some p

@@ -1,5 +1,6 @@
 -- A busy worker and its task in program order: at its start, through its stretches, and what it then shows.
-use Rattle.std.proofs.Common.{◌≡◌, ℕ, zero, suc, ◌+◌, inl, true, Some, List, [], ◌∷◌, length, map, refl, sym, ap, subst, ◌∙◌, arith}
+use Rattle.std.proofs.Common.{◌≡◌, ℕ, zero, suc, ◌+◌, inl, true, Some, List, [], ◌∷◌, length, map, refl, sym, ap, subst}
+use Rattle.std.proofs.Common.{◌∙◌, arith}
 use Rattle.std.specs.Prelude.{slice_get, is_some, ◌==◌, ◌||◌}
 use Rattle.std.specs.List.{list_any}
 use Rattle.std.proofs.lemmas.Bool.{or_left, or_right}
@@ -13,15 +14,18 @@ use Rattle.tss_base.specs.Image.{SegmentState, ImageState}
 use Rattle.tss_model.specs.Memory.{MemoryRange, Memory, covers, frozen, byte_at, bytes_of}
 use Rattle.tss_model.specs.Registers.{Registers}
 use Rattle.tss_model.specs.Access.{TaskActor, operands_of}
-use Rattle.tss_model.specs.TaskRun.{TaskState, repeated, task_step, task_stretch, memory_write, task_start, task_stepped, task_after, TaskEnd, is_over}
+use Rattle.tss_model.specs.TaskRun.{TaskState, repeated, task_step, task_stretch, memory_write, task_start}
+use Rattle.tss_model.specs.TaskRun.{task_stepped, task_after, TaskEnd, is_over}
 use Rattle.tss_model.specs.InOrder.{started_at, Started, end_of_started}
 use Rattle.tss_protocol.specs.Mail.{StorageName}
 use Rattle.tss_protocol.specs.State.{State, Busy}
-use Rattle.tss_protocol.specs.Workers.{Stores, Placed, placed_in, stored_bytes, outputs_zeroed, busy_with, busy_after, task_state_of, exec_stretch, has_ended, worker_byte}
+use Rattle.tss_protocol.specs.Workers.{Stores, Placed, placed_in, stored_bytes, outputs_zeroed, busy_with, busy_after}
+use Rattle.tss_protocol.specs.Workers.{task_state_of, exec_stretch, has_ended, worker_byte}
 use Rattle.tss_protocol.specs.UnitMachine.{stores_of}
 use Rattle.tss_program_order.specs.Refinement.{FollowsTask}
 use Rattle.tss_program_order.proofs.FlatSteps.{repeated-add}
-use Rattle.tss_program_order.proofs.FlatTaskEnds.{task_stepped-counts, task_after-there, task_end-trapped, task_end-over}
+use Rattle.tss_program_order.proofs.FlatTaskEnds.{task_stepped-counts, task_after-there, task_end-trapped}
+use Rattle.tss_program_order.proofs.FlatTaskEnds.{task_end-over}
 use Rattle.tss_program_order.proofs.StoreBytes.{IsPlaced, AreSeparate, HaveRoom}
 use Rattle.tss_program_order.proofs.StoreRuns.{InScope, WorksAlike, exec_stretch-alike, stored_bytes-same}
 use Rattle.tss_program_order.proofs.StoreStart.{FindsOperands, placed_in-parts, start-alike}

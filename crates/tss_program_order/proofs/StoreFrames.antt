@@ -1,5 +1,6 @@
 -- What a worker leaves of the bytes that others have, and what a copy brings home.
-use Rattle.std.proofs.Common.{◌≡◌, ℕ, ◌+◌, ◌-◌, ◌<◌, ◌≤◌, inl, inr, true, false, Some, List, length, drop, refl, ap, ◌∙◌, arith, nat_le, nat_lt}
+use Rattle.std.proofs.Common.{◌≡◌, ℕ, ◌+◌, ◌-◌, ◌<◌, ◌≤◌, inl, inr, true, false, Some, List, length, drop, refl, ap}
+use Rattle.std.proofs.Common.{◌∙◌, arith, nat_le, nat_lt}
 use Rattle.std.specs.Prelude.{slice_get, slice_index, min}
 use Rattle.std.proofs.lemmas.Bool.{le-leb, lt-ltb, and_from, both_ways, cases_lt}
 use Rattle.std.proofs.lemmas.List.{get_or-take, get_or-drop, length-take, length-drop}
@@ -15,8 +16,10 @@ use Rattle.tss_model.specs.Core.{Write}
 use Rattle.tss_protocol.specs.Mail.{StorageName, Home, Buffer}
 use Rattle.tss_protocol.specs.State.{Busy, CopyState}
 use Rattle.tss_protocol.specs.Buffers.{piece_len, piece_of, home_after_copy}
-use Rattle.tss_protocol.specs.Workers.{Stores as WorkerStores, placed_in, storage_byte, storage_write, storage_zeroed, outputs_zeroed, exec_stretch}
-use Rattle.tss_program_order.proofs.StoreBytes.{AreSeparate, LiesIn, beside_write, unwritten_byte, written_byte, buffer_beside}
+use Rattle.tss_protocol.specs.Workers.{Stores as WorkerStores, placed_in, storage_byte, storage_write, storage_zeroed}
+use Rattle.tss_protocol.specs.Workers.{outputs_zeroed, exec_stretch}
+use Rattle.tss_program_order.proofs.StoreBytes.{AreSeparate, LiesIn, beside_write, unwritten_byte, written_byte}
+use Rattle.tss_program_order.proofs.StoreBytes.{buffer_beside}
 use Rattle.tss_program_order.proofs.StoreStart.{zeroed_beside}
 use Rattle.tss_program_order.proofs.StoreViews.{AreUnseen, outputs_zeroed-unseen, exec_stretch-unseen}
 

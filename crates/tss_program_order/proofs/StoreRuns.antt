@@ -1,6 +1,7 @@
 -- A worker's stretch over the storages of its operands goes as the task's on the flat memory, as long as each operand's
 -- bytes in its storage are those of its object.
-use Rattle.std.proofs.Common.{◌≡◌, ◌⊎◌, ℕ, suc, ◌+◌, ◌-◌, ◌<◌, ◌≤◌, inl, inr, true, false, Option, Some, None, List, [], ◌∷◌, length, take, refl, sym, ap, subst, ◌∙◌, arith, nat_le, nat_lt}
+use Rattle.std.proofs.Common.{◌≡◌, ◌⊎◌, ℕ, suc, ◌+◌, ◌-◌, ◌<◌, ◌≤◌, inl, inr, true, false, Option, Some, None, List, []}
+use Rattle.std.proofs.Common.{◌∷◌, length, take, refl, sym, ap, subst, ◌∙◌, arith, nat_le, nat_lt}
 use Rattle.std.specs.Prelude.{slice_get, slice_index, ◌&&◌}
 use Rattle.std.specs.List.{list_any}
 use Rattle.std.proofs.lemmas.Bool.{and_parts, and_from, le-leb, lt-ltb, or_cases, both_ways, cases_Bool}
@@ -21,12 +22,15 @@ use Rattle.tss_model.specs.TaskRun.{TaskState, task_stretch, memory_write}
 use Rattle.tss_protocol.specs.Mail.{StorageName, Home, Buffer}
 use Rattle.tss_protocol.specs.State.{Busy}
 use Rattle.tss_protocol.specs.Buffers.{buffer_bytes}
-use Rattle.tss_protocol.specs.Workers.{Stores, Placed, placed_in, placed_at, storage_byte, byte_in, worker_byte, worker_write, storage_write, stored_bytes, exec_stretch, task_state_of}
+use Rattle.tss_protocol.specs.Workers.{Stores, Placed, placed_in, placed_at, storage_byte, byte_in, worker_byte}
+use Rattle.tss_protocol.specs.Workers.{worker_write, storage_write, stored_bytes, exec_stretch, task_state_of}
 use Rattle.tss_program_order.proofs.FlatLoads.{same_bytes}
 use Rattle.tss_program_order.proofs.FlatTask.{MayWrite, covers_inside}
 use Rattle.tss_program_order.proofs.FlatTaskAlike.{RunAlike, task_stretch-alike}
 use Rattle.tss_program_order.proofs.FlatTaskRuns.{task_loads}
-use Rattle.tss_program_order.proofs.StoreBytes.{unwritten_byte, beside_write, IsPlaced, AreSeparate, HaveRoom, LiesIn, worker_byte-there, worker_write-there, storage_write-at, storage_write-home, storage_write-other, storage_write-room}
+use Rattle.tss_program_order.proofs.StoreBytes.{unwritten_byte, beside_write, IsPlaced, AreSeparate, HaveRoom, LiesIn}
+use Rattle.tss_program_order.proofs.StoreBytes.{worker_byte-there, worker_write-there, storage_write-at}
+use Rattle.tss_program_order.proofs.StoreBytes.{storage_write-home, storage_write-other, storage_write-room}
 
 -- ---- the relation
 
@@ -42,14 +46,14 @@ pub record SameBytes (placed : List Placed) (P : ℕ → Type 0) (s : Stores) (m
   pub bytes : (a : ℕ) → P a → worker_byte placed s a ≡ byte_at m a
 
 -- each object of an operand that is written has a place
-abbrev pub HasPlaces : List Operand → List Placed → Type 0
+abbrev HasPlaces : List Operand → List Placed → Type 0
 HasPlaces operands placed =
     (r : Range)
     → list_any (λ o. writes o.mode && contains o.object r) operands ≡ true
     → (k : ℕ) × (p : Placed) × IsPlaced placed k p × (contains p.object r ≡ true)
 
 -- so it is where each operand has a storage
-pub placed_in-places : (operands : List Operand) (storages : List StorageName) → length storages ≡ length operands
+placed_in-places : (operands : List Operand) (storages : List StorageName) → length storages ≡ length operands
     → HasPlaces operands (placed_in operands storages)
 placed_in-places [] storages e r stored = absurd (cc)
 placed_in-places (o ∷ operands) [] e r stored = absurd (omega (arith, e))
@@ -94,7 +98,7 @@ module _ (placed : List Placed) (separate : AreSeparate placed) (P : ℕ → Typ
   ]
 
   -- a write of the operand keeps the relation
-  pub written_same : SameBytes placed P (worker_write placed s w) (memory_write m w)
+  written_same : SameBytes placed P (worker_write placed s w) (memory_write m w)
   written_same =
       let first = covers_inside p.object (record { base = w.at; len = length w.bytes }) w.at lies.1
       (omega arith, omega (arith, lies.0)) in
@@ -131,7 +135,7 @@ module _ (placed : List Placed) (ranges : List MemoryRange) (operands : List Ope
       written_same placed separate (InScope ranges operands) s m same place.0 place.1 place.2 w (may.0, place.3)
 
   -- a stretch of both
-  pub worker_stretch-alike : (budget : ℕ) (code : List SegmentState) (n : ℕ) (s : TaskState Stores)
+  worker_stretch-alike : (budget : ℕ) (code : List SegmentState) (n : ℕ) (s : TaskState Stores)
       (u : TaskState Memory) → WorksAlike placed ranges operands s u
       → WorksAlike placed ranges operands
       (task_stretch (worker_byte placed) (worker_write placed) budget code (TaskActor ranges operands) n s)

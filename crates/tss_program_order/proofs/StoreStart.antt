@@ -1,5 +1,6 @@
 -- The storages of a worker's operands at its start: outputs are zeros there as on the flat memory.
-use Rattle.std.proofs.Common.{◌≡◌, ◌⊎◌, ℕ, zero, suc, ◌+◌, ◌-◌, ◌≤◌, inl, inr, Bool, true, false, Option, Some, None, List, [], ◌∷◌, length, refl, sym, ap, subst, ◌∙◌, arith, nat_le, nat_lt}
+use Rattle.std.proofs.Common.{◌≡◌, ◌⊎◌, ℕ, zero, suc, ◌+◌, ◌-◌, ◌≤◌, inl, inr, Bool, true, false, Option, Some, None}
+use Rattle.std.proofs.Common.{List, [], ◌∷◌, length, refl, sym, ap, subst, ◌∙◌, arith, nat_le, nat_lt}
 use Rattle.std.specs.Prelude.{cond, slice_get, slice_index, replicate, not, ◌&&◌, ◌||◌}
 use Rattle.std.specs.FinMap.{insert}
 use Rattle.std.proofs.lemmas.Bool.{or_cases, both_ways, cases_Bool, and_from, le-leb, lt-ltb}
@@ -18,10 +19,12 @@ use Rattle.tss_model.specs.Access.{reads, operands_of}
 use Rattle.tss_model.specs.TaskRun.{zeroed_outputs, task_start}
 use Rattle.tss_protocol.specs.Mail.{StorageName, Home, Buffer}
 use Rattle.tss_protocol.specs.Buffers.{buffer_bytes}
-use Rattle.tss_protocol.specs.Workers.{Stores, Placed, placed_in, placed_at, storage_byte, byte_in, worker_byte, storage_zeroed, output_zeroed, outputs_zeroed, busy_with, task_state_of}
+use Rattle.tss_protocol.specs.Workers.{Stores, Placed, placed_in, placed_at, storage_byte, byte_in, worker_byte}
+use Rattle.tss_protocol.specs.Workers.{storage_zeroed, output_zeroed, outputs_zeroed, busy_with, task_state_of}
 use Rattle.tss_program_order.proofs.FlatTaskRuns.{is_read, is_zeroed, read_or_zeroed}
 use Rattle.tss_program_order.proofs.StoreRuns.{InScope, WorksAlike}
-use Rattle.tss_program_order.proofs.StoreBytes.{IsPlaced, AreSeparate, covers_parts, worker_byte-there, written_byte, unwritten_byte, buffer_put, buffer_beside}
+use Rattle.tss_program_order.proofs.StoreBytes.{IsPlaced, AreSeparate, covers_parts, worker_byte-there, written_byte}
+use Rattle.tss_program_order.proofs.StoreBytes.{unwritten_byte, buffer_put, buffer_beside}
 
 -- ---- zeros
 

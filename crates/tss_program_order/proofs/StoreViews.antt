@@ -1,5 +1,6 @@
 -- What a worker leaves of its stores: what stays when an object that its task writes is written, or zeroed.
-use Rattle.std.proofs.Common.{◌≡◌, ℕ, zero, suc, inl, inr, Bool, true, false, Some, None, List, [], ◌∷◌, length, refl, sym, ap, subst, ◌∙◌, arith, nat_le, nat_lt}
+use Rattle.std.proofs.Common.{◌≡◌, ℕ, zero, suc, inl, inr, Bool, true, false, Some, None, List, [], ◌∷◌, length, refl}
+use Rattle.std.proofs.Common.{sym, ap, subst, ◌∙◌, arith, nat_le, nat_lt}
 use Rattle.std.specs.Prelude.{◌-◌, cond, slice_get, ◌&&◌}
 use Rattle.std.specs.List.{list_any}
 use Rattle.std.specs.FinMap.{get}
@@ -17,12 +18,14 @@ use Rattle.tss_model.specs.TaskRun.{TaskState, repeated, is_over, task_byte, tas
 use Rattle.tss_protocol.specs.Mail.{StorageName, Home, Buffer}
 use Rattle.tss_protocol.specs.State.{Busy}
 use Rattle.tss_protocol.specs.Buffers.{buffer_bytes}
-use Rattle.tss_protocol.specs.Workers.{Stores as WorkerStores, Placed, placed_in, worker_byte, worker_write, storage_write, storage_zeroed, outputs_zeroed, exec_stretch, task_state_of}
+use Rattle.tss_protocol.specs.Workers.{Stores as WorkerStores, Placed, placed_in, worker_byte, worker_write}
+use Rattle.tss_protocol.specs.Workers.{storage_write, storage_zeroed, outputs_zeroed, exec_stretch, task_state_of}
 use Rattle.tss_program_order.proofs.FlatCore.{IsStep, core_step-step}
 use Rattle.tss_program_order.proofs.FlatTask.{MayWrite, granted_write, covers_inside, written_where_unread}
 use Rattle.tss_program_order.proofs.FlatTaskAlike.{task_step-over, task_step-spent, task_step-core}
 use Rattle.tss_program_order.proofs.FlatWrites.{map_put-beside}
-use Rattle.tss_program_order.proofs.StoreBytes.{IsPlaced, AreSeparate, LiesIn, beside_write, buffer_beside, worker_write-there}
+use Rattle.tss_program_order.proofs.StoreBytes.{IsPlaced, AreSeparate, LiesIn, beside_write, buffer_beside}
+use Rattle.tss_program_order.proofs.StoreBytes.{worker_write-there}
 use Rattle.tss_program_order.proofs.StoreStart.{length-zeros}
 
 -- what is seen of the stores is left when this object is written in its storage, or zeroed there

@@ -15,7 +15,8 @@ use Rattle.tss_base.specs.Image.{ImageState}
 use Rattle.tss_model.specs.Memory.{MemoryRange, covers}
 use Rattle.tss_model.specs.Access.{Loads, Granted, main_access, operands_of}
 use Rattle.tss_model.specs.MainStep.{MainState, Flat, output_of}
-use Rattle.tss_model.specs.InOrder.{Started, is_executed, flat_stepped, main_after, started_at, end_of_started, in_order}
+use Rattle.tss_model.specs.InOrder.{Started, is_executed, flat_stepped, main_after, started_at, end_of_started}
+use Rattle.tss_model.specs.InOrder.{in_order}
 use Rattle.tss_protocol.specs.State.{State}
 use Rattle.tss_protocol.specs.Result.{pieces_by}
 use Rattle.tss_protocol.specs.UnitMachine.{IsEnabled, after_event}

@@ -1,4 +1,4 @@
-//! The execution in program order beside a run of the unit machine: what `refines` and `main_event` state (`specs/`), how
-//! main and tasks step over two memories that agree where they look, and what every run keeps of memory. There is no code
-//! here.
+//! The execution in program order beside a run of the unit machine: what `refines` and `main_event` state (`specs/`),
+//! how main and tasks step over two memories that agree where they look, and what every run keeps of memory. There is
+//! no code here.
 #![tactic(auto)]
