@@ -14,13 +14,19 @@ use Rattle.tss_base.specs.Names.{name_cmp}
 use Rattle.tss_base.specs.Image.{ImageState}
 use Rattle.tss_model.specs.Access.{operands_of}
 use Rattle.tss_model.specs.MainStep.{MainState, Call, main_call}
-use Rattle.tss_protocol.specs.Mail.{StorageName, Home, Buffer, Source, OpenContents, ReleaseContents, IdleContents, GoneContents, posted_all, taken}
+use Rattle.tss_protocol.specs.Mail.{StorageName, Home, Buffer, Source, OpenContents, ReleaseContents, IdleContents}
+use Rattle.tss_protocol.specs.Mail.{GoneContents, posted_all, taken}
 use Rattle.tss_protocol.specs.State.{State, Flying, Busy, Version, CopyState, initial_state}
 use Rattle.tss_protocol.specs.Renaming.{sent_by_decode, may_retire, idle_by}
 use Rattle.tss_protocol.specs.Versions.{put_version, drop_version, refused_once, nacked_at}
 use Rattle.tss_protocol.specs.Buffers.{is_last_piece, sent_by_retire, sent_by_copy}
 use Rattle.tss_protocol.specs.MainEvent.{call_next, main_by, after_call}
-use Rattle.tss_protocol.specs.UnitMachine.{IsEnabled, is_enabled, after_event, without, after_take, decode_message_taken, open_message_taken, use_message_taken, ready_message_taken, link_message_taken, after_start, start_task, after_exec, after_finish, release_message_taken, bye_message_taken, idle_message_taken, nack_message_taken, can_retire, retire_version, after_copy, gone_message_taken}
+use Rattle.tss_protocol.specs.UnitMachine.{IsEnabled, is_enabled, after_event, without, after_take}
+use Rattle.tss_protocol.specs.UnitMachine.{decode_message_taken, open_message_taken, use_message_taken}
+use Rattle.tss_protocol.specs.UnitMachine.{ready_message_taken, link_message_taken, after_start, start_task, after_exec}
+use Rattle.tss_protocol.specs.UnitMachine.{after_finish, release_message_taken, bye_message_taken, idle_message_taken}
+use Rattle.tss_protocol.specs.UnitMachine.{nack_message_taken, can_retire, retire_version, after_copy}
+use Rattle.tss_protocol.specs.UnitMachine.{gone_message_taken}
 use Rattle.tss_names.specs.Tasks.{TasksFact}
 use Rattle.tss_names.specs.Asking.{HasAsking, AskingLaw}
 use Rattle.tss_protocol.proofs.SentLemmas.{after_ready-all, after_link-all, flight_after_finish-all}
@@ -28,13 +34,15 @@ use Rattle.tss_names.proofs.RunLemmas.{IsKept, law_from}
 use Rattle.tss_names.proofs.OpeningLemmas.{AreOpeningsSound}
 use Rattle.tss_names.proofs.EnlistedNames.{AreOpeningsSound-after_event, AreOpeningsSound-initial_state}
 use Rattle.tss_names.proofs.JointLemmas.{joint_settled, joint_open, joint_use, joint_release}
-use Rattle.tss_names.proofs.AskingLemmas.{Asking, IsJoint-Asking, IsAside, asking_posted_all, decodes_aside, decode_aside, asking_new, asking_nacked, asking_granted, asking_refused, asking_retired}
+use Rattle.tss_names.proofs.AskingLemmas.{Asking, IsJoint-Asking, IsAside, asking_posted_all, decodes_aside}
+use Rattle.tss_names.proofs.AskingLemmas.{decode_aside, asking_new, asking_nacked, asking_granted, asking_refused}
+use Rattle.tss_names.proofs.AskingLemmas.{asking_retired}
 use Rattle.tss_names.proofs.PlainLemmas.{some_unit}
 
 -- ---- all events
 
 -- of a state
-abbrev pub AskingOf : State → Type 0
+abbrev AskingOf : State → Type 0
 AskingOf S = Asking S.versions S.mail
 
 module _ (m : Machine) (ts : List Task) (S : State) (s : AreOpeningsSound m ts S) (h : AskingOf S) where

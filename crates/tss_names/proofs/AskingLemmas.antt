@@ -9,8 +9,10 @@ use Rattle.tss_base.specs.declared.operand.Operand.{Operand}
 use Rattle.tss_base.specs.declared.event.Event.TheVariants as event
 use Rattle.tss_base.specs.Names.{Named}
 use Rattle.tss_maps.proofs.Keys.{name_order, decide_key}
-use Rattle.tss_maps.proofs.Changes.{at_inserted, beside_inserted, from_inserted, beside_removed, from_removed, decide_get}
-use Rattle.tss_protocol.specs.Mail.{IdleContents, GoneContents, Message, Decode, Ack, Open, Use, Ready, Link, Release, Bye, Idle, Nack, Retire, Gone, Mail, posted, posted_all, taken}
+use Rattle.tss_maps.proofs.Changes.{at_inserted, beside_inserted, from_inserted, beside_removed, from_removed}
+use Rattle.tss_maps.proofs.Changes.{decide_get}
+use Rattle.tss_protocol.specs.Mail.{IdleContents, GoneContents, Message, Decode, Ack, Open, Use, Ready, Link, Release}
+use Rattle.tss_protocol.specs.Mail.{Bye, Idle, Nack, Retire, Gone, Mail, posted, posted_all, taken}
 use Rattle.tss_protocol.specs.State.{Entry, Version}
 use Rattle.tss_protocol.specs.Gateway.{decodes_from}
 use Rattle.tss_protocol.specs.Renaming.{live_message, decode_message}

@@ -1,5 +1,6 @@
 -- What each event does to where tasks stand: the counter and the inbox, the tasks in flight, the queue and the workers.
-use Rattle.std.proofs.Common.{◌≡◌, ℕ, zero, suc, ◌<◌, ◌≤◌, ◌⊎◌, inl, inr, Bool, true, List, [], ◌∷◌, map, Option, Some, None, refl, sym, ap, ◌∙◌, subst, true≢false}
+use Rattle.std.proofs.Common.{◌≡◌, ℕ, zero, suc, ◌<◌, ◌≤◌, ◌⊎◌, inl, inr, Bool, true, List, [], ◌∷◌, map, Option, Some}
+use Rattle.std.proofs.Common.{None, refl, sym, ap, ◌∙◌, subst, true≢false}
 use Rattle.std.specs.Prelude.{◌&&◌, nat_lt, is_none, slice_get, slice_set}
 use Rattle.std.specs.List.{list_all}
 use Rattle.std.specs.FinMap.{get, insert, remove}
@@ -11,10 +12,18 @@ use Rattle.tss_base.specs.declared.event.Event.TheVariants as event
 use Rattle.tss_base.specs.Names.{Numbered}
 use Rattle.tss_protocol.specs.Mail.{Source, StorageName, OpenContents, ReleaseContents, IdleContents, GoneContents}
 use Rattle.tss_protocol.specs.State.{State, OperandState, Flying, Busy, Version, CopyState}
-use Rattle.tss_protocol.specs.Stations.{is_ready, is_complete, storage_of, storages_of, awaited, with_operand, remaining_tasks, woken_in, woken_by, task_after_ready, linked_in, linked_by, operand_after_link, flight_after_start, flight_after_finish, parted_in, parted_by, operand_after_bye}
-use Rattle.tss_protocol.specs.Workers.{can_start, busy_at_start, busy_after, can_exec, can_finish, exec_stretch, placed_in, worker_byte, worker_write, task_state_of}
+use Rattle.tss_protocol.specs.Stations.{is_ready, is_complete, storage_of, storages_of, awaited, with_operand}
+use Rattle.tss_protocol.specs.Stations.{remaining_tasks, woken_in, woken_by, task_after_ready, linked_in, linked_by}
+use Rattle.tss_protocol.specs.Stations.{operand_after_link, flight_after_start, flight_after_finish, parted_in}
+use Rattle.tss_protocol.specs.Stations.{parted_by, operand_after_bye}
+use Rattle.tss_protocol.specs.Workers.{can_start, busy_at_start, busy_after, can_exec, can_finish, exec_stretch}
+use Rattle.tss_protocol.specs.Workers.{placed_in, worker_byte, worker_write, task_state_of}
 use Rattle.tss_protocol.specs.MainEvent.{call_next}
-use Rattle.tss_protocol.specs.UnitMachine.{is_enabled, after_event, queue_with, with_woken, with_flight, without, stores_of, open_message_taken, use_message_taken, ready_message_taken, link_message_taken, after_start, start_task, after_exec, after_finish, release_message_taken, bye_message_taken, idle_message_taken, retire_version, after_copy, gone_message_taken}
+use Rattle.tss_protocol.specs.UnitMachine.{is_enabled, after_event, queue_with, with_woken, with_flight, without}
+use Rattle.tss_protocol.specs.UnitMachine.{stores_of, open_message_taken, use_message_taken, ready_message_taken}
+use Rattle.tss_protocol.specs.UnitMachine.{link_message_taken, after_start, start_task, after_exec, after_finish}
+use Rattle.tss_protocol.specs.UnitMachine.{release_message_taken, bye_message_taken, idle_message_taken, retire_version}
+use Rattle.tss_protocol.specs.UnitMachine.{after_copy, gone_message_taken}
 use Rattle.tss_model.specs.Access.{TaskActor, operands_of}
 use Rattle.tss_names.proofs.PlainLemmas.{none_from_test}
 use Rattle.tss_names.specs.Tasks.{TasksFact, spawned_by_main}
@@ -44,7 +53,7 @@ standing_of S = standing_by (front_of S) (back_of S)
 -- ---- records of operands
 
 -- a record that is written over with one that is ready as well, or as little
-pub all_ready-slice_set : (rs : List OperandState) (i : ℕ) (r s : OperandState) → slice_get rs i ≡ Some r
+all_ready-slice_set : (rs : List OperandState) (i : ℕ) (r s : OperandState) → slice_get rs i ≡ Some r
     → is_ready s ≡ is_ready r → list_all is_ready (slice_set rs i s) ≡ list_all is_ready rs
 all_ready-slice_set [] i r s e same = absurd (cc)
 all_ready-slice_set (q ∷ rs) zero r s e same =
@@ -91,7 +100,7 @@ pub record ReadiesOperand (S T : State) (o : OpName) : Type 0 where
       }
 
 -- or nothing changes
-abbrev pub ReadiesAtMost : State → State → OpName → Type 0
+abbrev ReadiesAtMost : State → State → OpName → Type 0
 ReadiesAtMost S T o = (back_of T ≡ back_of S) ⊎ ReadiesOperand S T o
 
 module _ (S : State) (o : OpName) (source : Source) (sent : get S.mail.readies o ≡ Some source) where
@@ -133,7 +142,7 @@ pub record ChangesTask (S T : State) (n : ℕ) : Type 0 where
   pub back : back_of T ≡ record (back_of S) { flight = remaining_tasks S.flight n changed }
 
 -- or nothing changes
-abbrev pub ChangesAtMost : State → State → ℕ → Type 0
+abbrev ChangesAtMost : State → State → ℕ → Type 0
 ChangesAtMost S T n = (back_of T ≡ back_of S) ⊎ ChangesTask S T n
 
 module _ (S : State) (o : OpName) where
@@ -307,7 +316,7 @@ module _ (m : Machine) (S : State) where
 -- ---- all events
 
 -- where the front and the rest are as they were, tasks stand as they stood
-pub standing_same : (S T : State) → KeepsFront S T → back_of T ≡ back_of S → standing_of T ≡ standing_of S
+standing_same : (S T : State) → KeepsFront S T → back_of T ≡ back_of S → standing_of T ≡ standing_of S
 standing_same S T k b i = standing_by (k.front i) (b i)
 
 -- a fact is kept by every event, maybe as another one, where it is by each of these changes, the front being left alone

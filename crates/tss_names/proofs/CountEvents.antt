@@ -1,5 +1,6 @@
 -- Every event keeps the counts of readers.
-use Rattle.std.proofs.Common.{◌≡◌, ℕ, ◌+◌, ◌≤◌, inl, inr, Bool, true, false, if◌then◌else◌, List, [], ◌∷◌, length, Option, Some, None, refl, sym, ap, ◌∙◌, subst, arith, mul-le-mul_right}
+use Rattle.std.proofs.Common.{◌≡◌, ℕ, ◌+◌, ◌≤◌, inl, inr, Bool, true, false, if◌then◌else◌, List, [], ◌∷◌, length}
+use Rattle.std.proofs.Common.{Option, Some, None, refl, sym, ap, ◌∙◌, subst, arith, mul-le-mul_right}
 use Rattle.std.specs.FinMap.{get, remove, len, get-empty, len-empty}
 use Rattle.std.specs.Ordering.{nat_cmp}
 use Rattle.std.proofs.lemmas.Option.{none-some}
@@ -16,23 +17,33 @@ use Rattle.tss_maps.proofs.Changes.{from_inserted, from_removed, absent_removed}
 use Rattle.tss_maps.proofs.Entries.{len_removed}
 use Rattle.tss_model.specs.Access.{operands_of}
 use Rattle.tss_model.specs.MainStep.{MainState, Call, main_call}
-use Rattle.tss_protocol.specs.Mail.{Source, OpenContents, ReleaseContents, IdleContents, GoneContents, Message, Mail, taken}
+use Rattle.tss_protocol.specs.Mail.{Source, OpenContents, ReleaseContents, IdleContents, GoneContents, Message, Mail}
+use Rattle.tss_protocol.specs.Mail.{taken}
 use Rattle.tss_protocol.specs.State.{State, Flying, Busy, Entry, Version, CopyState, initial_state}
 use Rattle.tss_protocol.specs.Renaming.{may_retire, retiring_entry, idle_by, after_idle}
 use Rattle.tss_protocol.specs.Versions.{after_open, after_use, after_release, after_nack, after_retire}
 use Rattle.tss_protocol.specs.Buffers.{is_last_piece}
 use Rattle.tss_protocol.specs.MainEvent.{call_next, main_by, after_call}
-use Rattle.tss_protocol.specs.UnitMachine.{IsEnabled, is_enabled, after_event, with_sent, without, after_take, decode_message_taken, open_message_taken, use_message_taken, ready_message_taken, link_message_taken, after_start, start_task, after_exec, after_finish, release_message_taken, bye_message_taken, idle_message_taken, nack_message_taken, retire_version, after_copy, gone_message_taken}
+use Rattle.tss_protocol.specs.UnitMachine.{IsEnabled, is_enabled, after_event, with_sent, without, after_take}
+use Rattle.tss_protocol.specs.UnitMachine.{decode_message_taken, open_message_taken, use_message_taken}
+use Rattle.tss_protocol.specs.UnitMachine.{ready_message_taken, link_message_taken, after_start, start_task, after_exec}
+use Rattle.tss_protocol.specs.UnitMachine.{after_finish, release_message_taken, bye_message_taken, idle_message_taken}
+use Rattle.tss_protocol.specs.UnitMachine.{nack_message_taken, retire_version, after_copy, gone_message_taken}
 use Rattle.tss_names.specs.Tasks.{TasksFact, spawned_after_event, spawned_by_main, HasTaskNumbers}
 use Rattle.tss_names.specs.UseCounts.{CountsReaders, ReadersLaw}
-use Rattle.tss_protocol.proofs.SentLemmas.{AllSent, IsLater, posted_all-later, after_open-later, after_use-later, after_release-later, after_nack-later, after_ready-later, after_link-later, flight_after_finish-later, after_idle-later, sent_by_retire-later, sent_by_copy-later}
+use Rattle.tss_protocol.proofs.SentLemmas.{AllSent, IsLater, posted_all-later, after_open-later, after_use-later}
+use Rattle.tss_protocol.proofs.SentLemmas.{after_release-later, after_nack-later, after_ready-later, after_link-later}
+use Rattle.tss_protocol.proofs.SentLemmas.{flight_after_finish-later, after_idle-later, sent_by_retire-later}
+use Rattle.tss_protocol.proofs.SentLemmas.{sent_by_copy-later}
 use Rattle.tss_names.proofs.SpawnLemmas.{SpawnsAtMostOne, spawns_main}
 use Rattle.tss_names.proofs.TakeLemmas.{TakesTask, takes_take, decode_message-front}
 use Rattle.tss_names.proofs.RunLemmas.{IsKept, law_from}
 use Rattle.tss_names.proofs.NumberLemmas.{HasTaskNumbers-after_event, HasTaskNumbers-initial_state}
 use Rattle.tss_names.proofs.OpeningFrames.{posted_all-taken}
 use Rattle.tss_names.proofs.VersionFacts.{each_release, each_nack, each_retire}
-use Rattle.tss_names.proofs.CountLemmas.{operands_in, operands_waiting, operands_few, Counts, counts_less, counts_still, readers_of_each, len-spread, len_message, counts_decoded, counts_opened, counts_used}
+use Rattle.tss_names.proofs.CountLemmas.{operands_in, operands_waiting, operands_few, Counts, counts_less, counts_still}
+use Rattle.tss_names.proofs.CountLemmas.{readers_of_each, len-spread, len_message, counts_decoded, counts_opened}
+use Rattle.tss_names.proofs.CountLemmas.{counts_used}
 
 -- all of which the counts speak
 record Load : Type 0 where
@@ -67,7 +78,7 @@ abbrev CountsBy : List Task → Load → Type 0
 CountsBy ts l = Counts (operands_in ts) (undecoded_in l) (enlisting_in l) l.entries l.versions
 
 -- those of a state
-abbrev pub CountsOf : List Task → State → Type 0
+abbrev CountsOf : List Task → State → Type 0
 CountsOf ts S = CountsBy ts (load_of S)
 
 -- later messages change none
@@ -292,11 +303,11 @@ counts_after_event m ts S h (event.Copy b) on = counts_copy ts S h b (get S.copi
 counts_after_event m ts S h (event.Gone v) on = counts_gone ts S h v (get S.mail.gones v)
 
 -- with the tasks' numbers
-abbrev pub AreReadersCounted : TasksFact
+abbrev AreReadersCounted : TasksFact
 AreReadersCounted m ts S = HasTaskNumbers m ts S × CountsOf ts S
 
 -- it is kept
-pub AreReadersCounted-after_event : IsKept AreReadersCounted
+AreReadersCounted-after_event : IsKept AreReadersCounted
 AreReadersCounted-after_event m ts S e h on =
     (HasTaskNumbers-after_event m ts S e h.0 on, counts_after_event m ts S h.1 e on)
 

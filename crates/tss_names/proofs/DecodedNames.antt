@@ -13,12 +13,14 @@ use Rattle.tss_base.specs.declared.marks.Follow.{Follow}
 use Rattle.tss_maps.proofs.Keys.{name_order, decide_key}
 use Rattle.tss_maps.proofs.Changes.{decide_get, at_removed, beside_removed}
 use Rattle.tss_model.specs.Access.{operands_of}
-use Rattle.tss_protocol.specs.Mail.{StorageName, Home, Buffer, Source, Message, Decode, Ack, Open, Use, Ready, Link, Release, Bye, Idle, Nack, Retire, Gone}
+use Rattle.tss_protocol.specs.Mail.{StorageName, Home, Buffer, Source, Message, Decode, Ack, Open, Use, Ready, Link}
+use Rattle.tss_protocol.specs.Mail.{Release, Bye, Idle, Nack, Retire, Gone}
 use Rattle.tss_protocol.specs.State.{State, OperandState, Version}
 use Rattle.tss_protocol.specs.UnitMachine.{IsEnabled, after_event}
 use Rattle.tss_names.specs.Tasks.{TasksFact, taken_by, IsOperandOf}
 use Rattle.tss_names.proofs.SpawnLemmas.{SpawnsOne}
-use Rattle.tss_names.specs.Names.{WhereThere, StorageNames, SourceNames, LinkNames, OperandNames, VersionNames, MessageNames}
+use Rattle.tss_names.specs.Names.{WhereThere, StorageNames, SourceNames, LinkNames, OperandNames, VersionNames}
+use Rattle.tss_names.specs.Names.{MessageNames}
 use Rattle.tss_protocol.proofs.FrontLemmas.{Front, front_of}
 use Rattle.tss_names.proofs.TakeLemmas.{spread, from_spread, TakesTask, DecodesOperand, decodes_decode}
 use Rattle.tss_names.proofs.RunLemmas.{IsKeptAs, kept_by_front}
@@ -118,7 +120,7 @@ not_spread f t o before none =
     ]
 
 -- in a state with a sound front, where this operand is decoded
-abbrev pub HasDecoded : OpName → TasksFact
+abbrev HasDecoded : OpName → TasksFact
 HasDecoded o m ts S = IsFrontSound m ts S × DecodedBy ts (front_of S) o
 
 decoded_spawned : (o : OpName) (m : Machine) (ts us : List Task) (S T : State) → HasDecoded o m ts S

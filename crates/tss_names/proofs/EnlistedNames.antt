@@ -1,5 +1,6 @@
 -- Every name is of a decoded operand, and after open and use of an enlisted one.
-use Rattle.std.proofs.Common.{◌≡◌, true, true≢false, ◌≢◌, ◌⊎◌, inl, inr, List, [], Option, Some, None, refl, sym, ap, ◌∙◌, subst}
+use Rattle.std.proofs.Common.{◌≡◌, true, true≢false, ◌≢◌, ◌⊎◌, inl, inr, List, [], Option, Some, None, refl, sym, ap}
+use Rattle.std.proofs.Common.{◌∙◌, subst}
 use Rattle.std.specs.FinMap.{get, get-empty}
 use Rattle.std.proofs.lemmas.Option.{none-some}
 use Rattle.tss_base.specs.declared.operand.OpName.{OpName}
@@ -18,7 +19,8 @@ use Rattle.tss_protocol.specs.Mail.{OpenContents, Message, Mail, posted, taken}
 use Rattle.tss_protocol.specs.State.{State, Entry, initial_state}
 use Rattle.tss_protocol.specs.Renaming.{live_message, decode_message}
 use Rattle.tss_protocol.specs.MainEvent.{call_next}
-use Rattle.tss_protocol.specs.UnitMachine.{IsEnabled, is_enabled, can_open_message, can_use_message, after_event, without, decode_message_taken, open_message_taken, use_message_taken}
+use Rattle.tss_protocol.specs.UnitMachine.{IsEnabled, is_enabled, can_open_message, can_use_message, after_event}
+use Rattle.tss_protocol.specs.UnitMachine.{without, decode_message_taken, open_message_taken, use_message_taken}
 use Rattle.tss_names.specs.Tasks.{spawned_after_event}
 use Rattle.tss_names.specs.Openings.{HasOpenings, OpeningsLaw}
 use Rattle.tss_protocol.proofs.SentLemmas.{posted_all-later, after_open-later, after_use-later}
@@ -28,12 +30,15 @@ use Rattle.tss_names.specs.Names.{IsDecoded, IsEnlisted, HasDecodedNames, NamesL
 use Rattle.tss_names.proofs.GatewayLemmas.{IsFrontSound-after_event, IsFrontSound-initial_state}
 use Rattle.tss_names.proofs.NameEvents.{StateNames-after_event, StateNames-initial_state, each_name}
 use Rattle.tss_names.proofs.DecodedNames.{state_weaker, DecodedBy, still_decoded, decoded_now, EnlistedIn}
-use Rattle.tss_names.proofs.OpeningFrames.{KeepsOpenings, openings_main, openings_take, openings_ready, openings_link, openings_bye, openings_start, openings_exec, openings_finish, openings_release, openings_idle, openings_nack, openings_retire, openings_copy, openings_gone}
+use Rattle.tss_names.proofs.OpeningFrames.{KeepsOpenings, openings_main, openings_take, openings_ready, openings_link}
+use Rattle.tss_names.proofs.OpeningFrames.{openings_bye, openings_start, openings_exec, openings_finish}
+use Rattle.tss_names.proofs.OpeningFrames.{openings_release, openings_idle, openings_nack, openings_retire}
+use Rattle.tss_names.proofs.OpeningFrames.{openings_copy, openings_gone}
 use Rattle.tss_names.proofs.OpeningLemmas.{AreOpeningsSound, opens_after_event}
 use Rattle.tss_names.proofs.PlainLemmas.{still_none}
 
 -- neither the open nor the use of an operand is under way
-abbrev pub IsPast : State → OpName → Type 0
+abbrev IsPast : State → OpName → Type 0
 IsPast S o = (get S.mail.opens o ≡ None) × (get S.mail.uses o ≡ None)
 
 past_kept : (S T : State) (o : OpName) → KeepsOpenings S T → IsPast S o → IsPast T o

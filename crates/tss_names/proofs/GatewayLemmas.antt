@@ -1,5 +1,6 @@
 -- The gateway has what is still to be decoded or acknowledged, and decodes keep the order of tasks.
-use Rattle.std.proofs.Common.{◌≡◌, ◌≢◌, ℕ, suc, ◌+◌, ◌<◌, ◌≤◌, ◌⊎◌, inl, inr, true, List, [], ◌∷◌, length, Option, Some, None, refl, sym, ap, ◌∙◌, subst, arith, true≢false}
+use Rattle.std.proofs.Common.{◌≡◌, ◌≢◌, ℕ, suc, ◌+◌, ◌<◌, ◌≤◌, ◌⊎◌, inl, inr, true, List, [], ◌∷◌, length, Option, Some}
+use Rattle.std.proofs.Common.{None, refl, sym, ap, ◌∙◌, subst, arith, true≢false}
 use Rattle.std.specs.Prelude.{slice_get}
 use Rattle.std.specs.FinMap.{get, insert, remove, empty, get-empty, len-empty}
 use Rattle.std.proofs.lemmas.Bool.Decides.{nat_tests}
@@ -13,25 +14,30 @@ use Rattle.tss_base.specs.declared.machine.Sizes.{Sizes}
 use Rattle.tss_base.specs.Names.{Named, name_cmp}
 use Rattle.tss_base.specs.Image.{ImageState}
 use Rattle.tss_maps.proofs.Keys.{name_order, decide_key}
-use Rattle.tss_maps.proofs.Changes.{at_inserted, beside_inserted, from_inserted, at_removed, beside_removed, from_removed}
+use Rattle.tss_maps.proofs.Changes.{at_inserted, beside_inserted, from_inserted, at_removed, beside_removed}
+use Rattle.tss_maps.proofs.Changes.{from_removed}
 use Rattle.tss_model.specs.Access.{operands_of}
 use Rattle.tss_protocol.specs.Names.{bank_of, operand_name}
 use Rattle.tss_protocol.specs.Gateway.{held_tasks, has_window}
 use Rattle.tss_protocol.specs.Renaming.{HasTurn}
 use Rattle.tss_protocol.specs.State.{State, initial_state}
 use Rattle.tss_protocol.specs.Needs.{is_in_inbox}
-use Rattle.tss_names.specs.Tasks.{task_at, taken_by, last_taken, HasTaskNumbers, IsOperandOf, IsOfTaken, IsInGateway, AreGatewayTasks, HasGateway, GatewayLaw, DecodesInOrder, DecodeOrderLaw}
+use Rattle.tss_names.specs.Tasks.{task_at, taken_by, last_taken, HasTaskNumbers, IsOperandOf, IsOfTaken, IsInGateway}
+use Rattle.tss_names.specs.Tasks.{AreGatewayTasks, HasGateway, GatewayLaw, DecodesInOrder, DecodeOrderLaw}
 use Rattle.tss_protocol.proofs.FrontLemmas.{Front, front_of}
-use Rattle.tss_protocol.proofs.HeldTasks.{pairs_rise, all_among, any_among, held_numbers, length-held_numbers, held_numbers_rise, held_operand, operand_held, few_held}
+use Rattle.tss_protocol.proofs.HeldTasks.{pairs_rise, all_among, any_among, held_numbers, length-held_numbers}
+use Rattle.tss_protocol.proofs.HeldTasks.{held_numbers_rise, held_operand, operand_held, few_held}
 use Rattle.tss_protocol.proofs.WindowLemmas.{none_held_idle}
 use Rattle.tss_protocol.proofs.TurnLemmas.{none_before_turn}
 use Rattle.tss_names.proofs.TakeLemmas.{spread, outside_spread, at_spread, from_spread}
 use Rattle.tss_names.proofs.RunLemmas.{IsKept, kept_by_front, law_from}
-use Rattle.tss_names.proofs.NumberLemmas.{from_task_at, number_within, still_at, taken_newest, last_taken_before, numbers_spawned, numbers_take, numbers_decode, numbers_ack, numbers_kept, HasTaskNumbers-initial_state}
+use Rattle.tss_names.proofs.NumberLemmas.{from_task_at, number_within, still_at, taken_newest, last_taken_before}
+use Rattle.tss_names.proofs.NumberLemmas.{numbers_spawned, numbers_take, numbers_decode, numbers_ack, numbers_kept}
+use Rattle.tss_names.proofs.NumberLemmas.{HasTaskNumbers-initial_state}
 
--- the gateway has operands of a window of tasks that were taken, each with its decode or else its ack under way. Where one
--- is to be decoded, so are those of later tasks that were taken, on objects of its bank
-pub record Acknowledges (sizes : Sizes) (ts : List Task) (f : Front) : Type 0 where
+-- the gateway has operands of a window of tasks that were taken, each with its decode or else its ack under way. Where
+-- one is to be decoded, so are those of later tasks that were taken, on objects of its bank
+record Acknowledges (sizes : Sizes) (ts : List Task) (f : Front) : Type 0 where
   pub few : length (held_tasks f.gateway) ≤ sizes.window
   pub last : (o : OpName) → get f.gateway o ≡ Some tt → o.task ≤ taken_by f.inbox f.spawned
   pub each : (o : OpName) → get f.gateway o ≡ Some tt → (x : Operand) × IsOperandOf ts o x
@@ -320,7 +326,9 @@ pub IsFrontSound-initial_state : (m : Machine) (i : ImageState) → IsFrontSound
 IsFrontSound-initial_state m i = (
   HasTaskNumbers-initial_state m i,
   record {
-    few = let none = ap length (none_held_idle (empty {R = name_cmp}) (len-empty name_cmp (Unit {0}))) in omega (arith, none);
+    few =
+        let none = ap length (none_held_idle (empty {R = name_cmp}) (len-empty name_cmp (Unit {0}))) in
+        omega (arith, none);
     last = λ o e. absurd (none-some tt (sym (get-empty name_cmp o) ∙ e));
     each = λ o e. absurd (none-some tt (sym (get-empty name_cmp o) ∙ e));
     held = λ o e. absurd (none-some tt (sym (get-empty name_cmp o) ∙ e));

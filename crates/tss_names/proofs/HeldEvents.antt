@@ -1,5 +1,6 @@
 -- Every event leaves one holder under each held place.
-use Rattle.std.proofs.Common.{◌≡◌, ℕ, suc, ◌+◌, inl, inr, Bool, true, false, List, [], ◌∷◌, Option, Some, None, refl, sym, ap, ◌∙◌, subst, true≢false}
+use Rattle.std.proofs.Common.{◌≡◌, ℕ, suc, ◌+◌, inl, inr, Bool, true, false, List, [], ◌∷◌, Option, Some, None, refl}
+use Rattle.std.proofs.Common.{sym, ap, ◌∙◌, subst, true≢false}
 use Rattle.std.specs.Prelude.{is_some}
 use Rattle.std.specs.Ordering.{nat_cmp}
 use Rattle.std.specs.FinMap.{get, insert, remove, get-empty}
@@ -19,14 +20,22 @@ use Rattle.tss_maps.proofs.Changes.{decide_get}
 use Rattle.tss_model.specs.Access.{operands_of}
 use Rattle.tss_model.specs.MainStep.{MainState, Call, main_call}
 use Rattle.tss_protocol.specs.Names.{bank_of}
-use Rattle.tss_protocol.specs.Mail.{StorageName, Home, Buffer, Source, OpenContents, ReleaseContents, IdleContents, GoneContents, Message, Decode, Ack, Open, Use, Ready, Link, Release, Bye, Idle, Nack, Retire, Gone, Mail, posted, posted_all, taken}
+use Rattle.tss_protocol.specs.Mail.{StorageName, Home, Buffer, Source, OpenContents, ReleaseContents, IdleContents}
+use Rattle.tss_protocol.specs.Mail.{GoneContents, Message, Decode, Ack, Open, Use, Ready, Link, Release, Bye, Idle}
+use Rattle.tss_protocol.specs.Mail.{Nack, Retire, Gone, Mail, posted, posted_all, taken}
 use Rattle.tss_protocol.specs.State.{State, Flying, Busy, Entry, Version, CopyState, initial_state}
 use Rattle.tss_protocol.specs.Gateway.{decodes_from}
-use Rattle.tss_protocol.specs.Renaming.{takes_place, places_after_decode, live_message, decode_message, may_retire, idle_by}
+use Rattle.tss_protocol.specs.Renaming.{takes_place, places_after_decode, live_message, decode_message, may_retire}
+use Rattle.tss_protocol.specs.Renaming.{idle_by}
 use Rattle.tss_protocol.specs.Versions.{put_version, refused_once, nacked_at, retired}
-use Rattle.tss_protocol.specs.Buffers.{can_retire_from, sent_by_retire, copies_after_retire, is_last_piece, piece_len, copies_after_copy, sent_by_copy}
+use Rattle.tss_protocol.specs.Buffers.{can_retire_from, sent_by_retire, copies_after_retire, is_last_piece, piece_len}
+use Rattle.tss_protocol.specs.Buffers.{copies_after_copy, sent_by_copy}
 use Rattle.tss_protocol.specs.MainEvent.{call_next, main_by, after_call}
-use Rattle.tss_protocol.specs.UnitMachine.{IsEnabled, is_enabled, after_event, without, after_take, can_open_message, decode_message_taken, open_message_taken, use_message_taken, ready_message_taken, link_message_taken, after_start, start_task, after_exec, after_finish, release_message_taken, bye_message_taken, idle_message_taken, can_retire, retire_version, after_copy, gone_message_taken}
+use Rattle.tss_protocol.specs.UnitMachine.{IsEnabled, is_enabled, after_event, without, after_take, can_open_message}
+use Rattle.tss_protocol.specs.UnitMachine.{decode_message_taken, open_message_taken, use_message_taken}
+use Rattle.tss_protocol.specs.UnitMachine.{ready_message_taken, link_message_taken, after_start, start_task, after_exec}
+use Rattle.tss_protocol.specs.UnitMachine.{after_finish, release_message_taken, bye_message_taken, idle_message_taken}
+use Rattle.tss_protocol.specs.UnitMachine.{can_retire, retire_version, after_copy, gone_message_taken}
 use Rattle.tss_names.specs.Tasks.{TasksFact}
 use Rattle.tss_names.specs.Held.{IsCopied, HoldsPlaces, HasHeldPlaces, HeldPlacesLaw}
 use Rattle.tss_protocol.proofs.SentLemmas.{AllSent, after_ready-all, after_link-all, flight_after_finish-all}
@@ -34,7 +43,8 @@ use Rattle.tss_names.proofs.RunLemmas.{IsKept, law_from}
 use Rattle.tss_names.proofs.OpeningLemmas.{AreOpeningsSound, no_version_yet}
 use Rattle.tss_names.proofs.EnlistedNames.{AreOpeningsSound-after_event, AreOpeningsSound-initial_state}
 use Rattle.tss_names.proofs.JointLemmas.{joint_settled, joint_open, joint_use, joint_release}
-use Rattle.tss_names.proofs.HeldLemmas.{Holding, IsJoint-Holding, held_decoded, held_opened, held_written, held_dies, held_copied, held_moved, held_home, held_gone}
+use Rattle.tss_names.proofs.HeldLemmas.{Holding, IsJoint-Holding, held_decoded, held_opened, held_written, held_dies}
+use Rattle.tss_names.proofs.HeldLemmas.{held_copied, held_moved, held_home, held_gone}
 use Rattle.tss_names.proofs.PlainLemmas.{none_from_test}
 
 -- ---- messages that hold nothing
@@ -87,7 +97,7 @@ decodes_nothing n place (o ∷ os) = (tt, decodes_nothing n (suc place) os)
 -- ---- all events
 
 -- of a state
-abbrev pub HoldingOf : Machine → State → Type 0
+abbrev HoldingOf : Machine → State → Type 0
 HoldingOf m S = Holding m.sizes S.places S.copies S.versions S.mail
 
 module _ (m : Machine) (ts : List Task) (S : State) (s : AreOpeningsSound m ts S) (h : HoldingOf m S) where

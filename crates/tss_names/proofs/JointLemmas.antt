@@ -1,6 +1,7 @@
 -- A fact that joins the versions with the mail, kept by the events of the versioning tables where a few changes keep
 -- it.
-use Rattle.std.proofs.Common.{◌≡◌, ℕ, zero, suc, Bool, true, false, if◌then◌else◌, List, [], ◌∷◌, ◌++◌, Option, Some, None, refl, sym, subst}
+use Rattle.std.proofs.Common.{◌≡◌, ℕ, zero, suc, Bool, true, false, if◌then◌else◌, List, [], ◌∷◌, ◌++◌, Option, Some}
+use Rattle.std.proofs.Common.{None, refl, sym, subst}
 use Rattle.std.specs.Prelude.{not, ◌&&◌, ◌==◌, is_none}
 use Rattle.std.specs.FinMap.{get}
 use Rattle.std.proofs.lemmas.Bool.{and_parts}
@@ -11,9 +12,16 @@ use Rattle.tss_base.specs.declared.marks.How.{How}
 use Rattle.tss_base.specs.declared.marks.How.TheVariants.{Beside, Over}
 use Rattle.tss_base.specs.declared.marks.Follow.{Follow}
 use Rattle.tss_base.specs.Names.{Named}
-use Rattle.tss_protocol.specs.Mail.{StorageName, Source, GoneContents, OpenContents, ReleaseContents, Message, Ready, Link, Bye, Idle, Gone, Mail, posted, posted_all}
+use Rattle.tss_protocol.specs.Mail.{StorageName, Source, GoneContents, OpenContents, ReleaseContents, Message, Ready}
+use Rattle.tss_protocol.specs.Mail.{Link, Bye, Idle, Gone, Mail, posted, posted_all}
 use Rattle.tss_protocol.specs.State.{Version}
-use Rattle.tss_protocol.specs.Versions.{Versioned, Settling, sending, put_version, drop_version, version_changed, change_version, change_named, ready_with, buffer_of, may_die, may_ask, is_count, followed_by, unlinked, settle_how, settle_asking, unchanged, settle_by, settle_at, settle, settled, new_version, first_version, followed, opened_how, opened_by, after_open, enlisted, used_alone, used_behind, used_at, after_use, head_ready, produced_now, is_last, released_once, released_by, released_at, after_release}
+use Rattle.tss_protocol.specs.Versions.{Versioned, Settling, sending, put_version, drop_version, version_changed}
+use Rattle.tss_protocol.specs.Versions.{change_version, change_named, ready_with, buffer_of, may_die, may_ask, is_count}
+use Rattle.tss_protocol.specs.Versions.{followed_by, unlinked, settle_how, settle_asking, unchanged, settle_by}
+use Rattle.tss_protocol.specs.Versions.{settle_at, settle, settled, new_version, first_version, followed, opened_how}
+use Rattle.tss_protocol.specs.Versions.{opened_by, after_open, enlisted, used_alone, used_behind, used_at, after_use}
+use Rattle.tss_protocol.specs.Versions.{head_ready, produced_now, is_last, released_once, released_by, released_at}
+use Rattle.tss_protocol.specs.Versions.{after_release}
 use Rattle.tss_names.proofs.PlainLemmas.{none_from_test}
 
 -- such facts, and the changes that keep them: a version is written over with one that asks as it did, one that doesn't
@@ -37,7 +45,7 @@ posted_all-append m (x ∷ xs) ys = posted_all-append (posted m x) xs ys
 
 module _ (J : Named Version → Mail → Type 0) (k : IsJoint J) where
   -- of an outcome, with its messages in the mail
-  abbrev pub After : Mail → Versioned → Type 0
+  abbrev After : Mail → Versioned → Type 0
   After m d = J d.part (posted_all m d.sent)
 
   after_sending : (m : Mail) (ms : List Message) (d : Versioned) → After (posted_all m ms) d → After m (sending ms d)

@@ -21,7 +21,6 @@ pub mod VersionObjects
 pub mod OpeningFrames
 pub mod OpeningLemmas
 pub mod EnlistedNames
-pub mod PlaceLemmas
 pub mod TableLemmas
 pub mod JointLemmas
 pub mod HeldLemmas

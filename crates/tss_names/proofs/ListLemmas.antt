@@ -1,5 +1,6 @@
 -- Who uses an object in a list of tasks whose numbers rise: the last that writes it, and those that read it after that.
-use Rattle.std.proofs.Common.{◌≡◌, ℕ, zero, suc, ◌<◌, Bool, true, false, List, [], ◌∷◌, Some, refl, sym, ap, ◌∙◌, subst, true≢false}
+use Rattle.std.proofs.Common.{◌≡◌, ℕ, zero, suc, ◌<◌, Bool, true, false, List, [], ◌∷◌, Some, refl, sym, ap, ◌∙◌, subst}
+use Rattle.std.proofs.Common.{true≢false}
 use Rattle.std.specs.Prelude.{◌||◌, cond, filter, flat_map, fold, slice_get}
 use Rattle.std.specs.List.{list_all, list_any}
 use Rattle.std.proofs.lemmas.Bool.{and_parts, or_left, or_right}
@@ -72,7 +73,7 @@ from_filtered {X} test (y ∷ xs) k x at = by (test y) refl k at (from_filtered 
 -- ---- tasks in order
 
 -- a task comes before all of a list
-abbrev pub ComesBefore : Task → List Task → Type 0
+abbrev ComesBefore : Task → List Task → Type 0
 ComesBefore t ts = (k : ℕ) (u : Task) → slice_get ts k ≡ Some u → t.number < u.number
 
 -- their numbers rise
@@ -93,7 +94,7 @@ AreRising-filter test (t ∷ ts) rise = by (test t) (AreRising-filter test ts ri
 
 module _ (x : Range) where
   -- after the tasks of a list, where these used it before
-  abbrev pub users_from : Users → List Task → Users
+  abbrev users_from : Users → List Task → Users
   users_from u ts = fold (λ u t. users_with u t.number (has_written x t) (has_read x t)) u ts
 
   -- with one more
@@ -101,7 +102,7 @@ module _ (x : Range) where
   users_more u t = users_with u t.number (has_written x t) (has_read x t)
 
   -- no task of a list writes it
-  abbrev pub NoneWrites : List Task → Type 0
+  abbrev NoneWrites : List Task → Type 0
   NoneWrites ts = (k : ℕ) (t : Task) → slice_get ts k ≡ Some t → has_written x t ≡ false
 
   -- none of those that come after a task
@@ -138,7 +139,7 @@ module _ (x : Range) where
 
   module _ (test : ℕ → Bool) where
     -- all readers since the last writer pass a test
-    abbrev pub ReadersPass : Users → Type 0
+    abbrev ReadersPass : Users → Type 0
     ReadersPass u = list_all test u.readers ≡ true
 
     one_fewer : (u : Users) (n : ℕ) (read : Bool) → ReadersPass (users_with u n false read) → ReadersPass u

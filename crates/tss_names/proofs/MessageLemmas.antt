@@ -1,5 +1,6 @@
 -- Bounds on messages and on tasks in flight, from the laws on who holds what.
-use Rattle.std.proofs.Common.{◌≡◌, ℕ, zero, suc, ◌+◌, ◌-◌, ◌*◌, ◌/◌, ◌<◌, ◌≤◌, ◌⊎◌, inl, inr, true, List, [], ◌∷◌, length, Some, refl, sym, ap, ◌∙◌, arith, mod-lt}
+use Rattle.std.proofs.Common.{◌≡◌, ℕ, zero, suc, ◌+◌, ◌-◌, ◌*◌, ◌/◌, ◌<◌, ◌≤◌, ◌⊎◌, inl, inr, true, List, [], ◌∷◌}
+use Rattle.std.proofs.Common.{length, Some, refl, sym, ap, ◌∙◌, arith, mod-lt}
 use Rattle.std.specs.Prelude.{nat_lt, is_some}
 use Rattle.std.specs.Ordering.{nat_cmp}
 use Rattle.std.specs.FinMap.{get, insert, empty, len, len-empty}
@@ -98,7 +99,10 @@ module _ (m : Machine) (ts : List Task) (S : State) (h : IsFrontSound m ts S) wh
       let p = in_tasks (map_of ns) m.limits.max_operands in
       let all = those_all S.gateway p held_place in
       let few = few_in_tasks (those_in S.gateway) (IsMeasure-map S.gateway)
-      (λ k. let a = those_at S.gateway k in let one = one_if-le-one (is_some (get S.gateway k)) in omega (arith, a, one))
+      (λ k.
+      let a = those_at S.gateway k in
+      let one = one_if-le-one (is_some (get S.gateway k)) in
+      omega (arith, a, one))
       m.limits.max_operands (map_of ns) in
       let most = len-map_of ns in
       let many = length-held_numbers S.gateway in

@@ -1,6 +1,7 @@
 -- How many there are of names that pass a test: at most one under each name, so at most one for each place of each task
 -- in flight.
-use Rattle.std.proofs.Common.{◌≡◌, ◌≢◌, ℕ, zero, suc, ◌+◌, ◌*◌, ◌≤◌, ◌⊎◌, inl, inr, Bool, true, false, Option, Some, refl, sym, ap, ◌∙◌, arith, true≢false}
+use Rattle.std.proofs.Common.{◌≡◌, ◌≢◌, ℕ, zero, suc, ◌+◌, ◌*◌, ◌≤◌, ◌⊎◌, inl, inr, Bool, true, false, Option, Some}
+use Rattle.std.proofs.Common.{refl, sym, ap, ◌∙◌, arith, true≢false}
 use Rattle.std.specs.Prelude.{◌==◌, ◌&&◌, nat_lt, is_some}
 use Rattle.std.specs.Ordering.{nat_cmp}
 use Rattle.std.specs.FinMap.{empty, get, insert, remove, len, get-empty}
@@ -92,7 +93,7 @@ those_all {X} m p each = count_all name_order (λ o (x : X). p o) m each
 -- ---- few names
 
 -- of a task, at places below one
-abbrev pub in_task : ℕ → ℕ → NameTest
+abbrev in_task : ℕ → ℕ → NameTest
 in_task task places o = (o.task == task) && nat_lt o.place places
 
 -- of tasks with an entry
@@ -142,7 +143,7 @@ there_inserted F k v n b e = elim (decide_key nat_order n k) [
 -- a measure that is at most one under each name
 module _ (many : NameTest → ℕ) (f : IsMeasure many) (few : (k : OpName) → many (λ o. same_name o k) ≤ 1) where
   -- at places of one task there are no more than places
-  pub few_in_task : (task places : ℕ) → many (in_task task places) ≤ places
+  few_in_task : (task places : ℕ) → many (in_task task places) ≤ places
   few_in_task task zero = let z = f.none (in_task task 0) (λ o. no_place (o.task == task) o.place) in omega (arith, z)
   few_in_task task (suc places) =
       let k = operand_name task places in

@@ -13,25 +13,36 @@ use Rattle.tss_maps.proofs.Keys.{nat_order, name_order}
 use Rattle.tss_model.specs.Access.{TaskActor, operands_of}
 use Rattle.tss_model.specs.MainStep.{MainState, Call, main_call}
 use Rattle.tss_protocol.specs.Names.{bank_of}
-use Rattle.tss_protocol.specs.Mail.{Source, OpenContents, ReleaseContents, IdleContents, GoneContents, Message, posted_all, taken}
+use Rattle.tss_protocol.specs.Mail.{Source, OpenContents, ReleaseContents, IdleContents, GoneContents, Message}
+use Rattle.tss_protocol.specs.Mail.{posted_all, taken}
 use Rattle.tss_protocol.specs.State.{State, Flying, Busy, Version, CopyState, initial_state}
 use Rattle.tss_protocol.specs.Gateway.{decodes_from}
 use Rattle.tss_protocol.specs.Stations.{storages_of}
-use Rattle.tss_protocol.specs.Workers.{Stores, busy_at_start, busy_after, exec_stretch, placed_in, worker_byte, worker_write, task_state_of}
+use Rattle.tss_protocol.specs.Workers.{Stores, busy_at_start, busy_after, exec_stretch, placed_in, worker_byte}
+use Rattle.tss_protocol.specs.Workers.{worker_write, task_state_of}
 use Rattle.tss_protocol.specs.Renaming.{takes_place, takes_buffer, may_retire, sent_by_decode}
 use Rattle.tss_protocol.specs.Buffers.{is_last_piece}
 use Rattle.tss_protocol.specs.MainEvent.{call_next, main_by, after_call}
-use Rattle.tss_protocol.specs.UnitMachine.{after_event, stores_of, without, after_take, decode_message_taken, open_message_taken, use_message_taken, ready_message_taken, link_message_taken, after_start, start_task, after_exec, after_finish, release_message_taken, bye_message_taken, idle_message_taken, nack_message_taken, retire_version, after_copy, gone_message_taken}
+use Rattle.tss_protocol.specs.UnitMachine.{after_event, stores_of, without, after_take, decode_message_taken}
+use Rattle.tss_protocol.specs.UnitMachine.{open_message_taken, use_message_taken, ready_message_taken}
+use Rattle.tss_protocol.specs.UnitMachine.{link_message_taken, after_start, start_task, after_exec, after_finish}
+use Rattle.tss_protocol.specs.UnitMachine.{release_message_taken, bye_message_taken, idle_message_taken}
+use Rattle.tss_protocol.specs.UnitMachine.{nack_message_taken, retire_version, after_copy, gone_message_taken}
 use Rattle.tss_names.specs.Names.{EachEntry, EachOf, StorageNames, MessageNames, EachName}
 use Rattle.tss_protocol.proofs.SentLemmas.{AllSent}
-use Rattle.tss_names.proofs.NameLemmas.{EachSent, each_inserted, each_removed, each_empty, each_posted_all, each_taken, each_no_mail, each_message}
+use Rattle.tss_names.proofs.NameLemmas.{EachSent, each_inserted, each_removed, each_empty, each_posted_all, each_taken}
+use Rattle.tss_names.proofs.NameLemmas.{each_no_mail, each_message}
 use Rattle.tss_names.proofs.VersionNames.{VersionsNames, names_open, names_use, names_release, names_nack, names_retire}
-use Rattle.tss_names.proofs.StationNames.{FlightNames, names_taken, names_after_ready, names_after_link, names_after_bye, names_after_finish, names_started, names_storages_of}
-use Rattle.tss_names.proofs.UnitNames.{ContentsNames, EntriesNames, HeldNames, CopiesNames, memory_stretch, names_outputs_zeroed, names_written, names_entry, names_held, names_sent_by_decode, latest_at, names_idle_by, names_buffers_gone, names_contents_gone, names_entries_gone, names_copies_retired, names_copied}
+use Rattle.tss_names.proofs.StationNames.{FlightNames, names_taken, names_after_ready, names_after_link}
+use Rattle.tss_names.proofs.StationNames.{names_after_bye, names_after_finish, names_started, names_storages_of}
+use Rattle.tss_names.proofs.UnitNames.{ContentsNames, EntriesNames, HeldNames, CopiesNames, memory_stretch}
+use Rattle.tss_names.proofs.UnitNames.{names_outputs_zeroed, names_written, names_entry, names_held}
+use Rattle.tss_names.proofs.UnitNames.{names_sent_by_decode, latest_at, names_idle_by, names_buffers_gone}
+use Rattle.tss_names.proofs.UnitNames.{names_contents_gone, names_entries_gone, names_copies_retired, names_copied}
 
 module _ (P E : OpName → Type 0) where
   -- of the names in each worker's storages
-  abbrev pub WorkersNames : Numbered Busy → Type 0
+  abbrev WorkersNames : Numbered Busy → Type 0
   WorkersNames workers = EachEntry (λ w (b : Busy). EachOf (StorageNames P) b.storages) workers
 
   -- of all names, in this order: tasks in flight, workers, entries, held places, held buffers, contents of buffers,

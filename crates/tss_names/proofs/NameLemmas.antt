@@ -7,7 +7,8 @@ use Rattle.tss_base.specs.declared.event.Event.{Event}
 use Rattle.tss_base.specs.declared.event.Event.TheVariants as event
 use Rattle.tss_maps.proofs.Keys.{IsKeyOrder, name_order}
 use Rattle.tss_maps.proofs.Changes.{from_inserted, from_removed}
-use Rattle.tss_protocol.specs.Mail.{Message, Decode, Ack, Open, Use, Ready, Link, Release, Bye, Idle, Nack, Retire, Gone, Mail, posted, posted_all, taken, no_mail}
+use Rattle.tss_protocol.specs.Mail.{Message, Decode, Ack, Open, Use, Ready, Link, Release, Bye, Idle, Nack, Retire}
+use Rattle.tss_protocol.specs.Mail.{Gone, Mail, posted, posted_all, taken, no_mail}
 use Rattle.tss_names.specs.Names.{EachEntry, EachMessage}
 use Rattle.tss_protocol.proofs.SentLemmas.{AllSent}
 
@@ -45,7 +46,7 @@ EachSent Q m =
 
 module _ (Q : Message → Type 0) where
   -- of one more message
-  pub each_posted : (m : Mail) (x : Message) → EachSent Q m → Q x → EachSent Q (posted m x)
+  each_posted : (m : Mail) (x : Message) → EachSent Q m → Q x → EachSent Q (posted m x)
   each_posted m (Decode o operand) e new = e
   each_posted m (Ack o) e new =
       let f = each_inserted name_order (λ o x. Q (Ack o)) m.acks o tt e.0 new in
@@ -144,11 +145,6 @@ module _ (Q : Message → Type 0) where
     each_empty name_order (λ v x. Q (Retire v)),
     each_empty name_order (λ v g. Q (Gone v g)),
   )
-
--- a weaker fact of each entry
-pub each_weaker : {K X : Type 0} {R : K → K → Ordering} (P Q : K → X → Type 0) (m : FinMap R X)
-    → ((k : K) (x : X) → P k x → Q k x) → EachEntry P m → EachEntry Q m
-each_weaker P Q m weaker each k x e = weaker k x (each k x e)
 
 -- and of each message
 pub each_sent_weaker : (P Q : Message → Type 0) (m : Mail) → ((x : Message) → P x → Q x) → EachSent P m → EachSent Q m

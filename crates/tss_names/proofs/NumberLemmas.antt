@@ -1,5 +1,6 @@
 -- Tasks have the numbers of their spawns.
-use Rattle.std.proofs.Common.{◌≡◌, ℕ, suc, ◌+◌, ◌≤◌, ◌⊎◌, inl, inr, Bool, true, false, List, [], ◌∷◌, map, length, Some, refl, sym, ap, ◌∙◌, subst, arith}
+use Rattle.std.proofs.Common.{◌≡◌, ℕ, suc, ◌+◌, ◌≤◌, ◌⊎◌, inl, inr, Bool, true, false, List, [], ◌∷◌, map, length, Some}
+use Rattle.std.proofs.Common.{refl, sym, ap, ◌∙◌, subst, arith}
 use Rattle.std.specs.Prelude.{◌==◌, if◌then◌else◌}
 use Rattle.std.specs.Ordering.{nat_cmp}
 use Rattle.std.specs.FinMap.{get, get-empty}
@@ -15,7 +16,8 @@ use Rattle.tss_maps.proofs.Changes.{from_inserted}
 use Rattle.tss_model.specs.Access.{operands_of}
 use Rattle.tss_protocol.specs.State.{State, Flying, initial_state}
 use Rattle.tss_protocol.specs.Stations.{new_operand, entered}
-use Rattle.tss_names.specs.Tasks.{task_at, taken_by, IsTaken, IsSpawned, IsNewest, IsInFlight, HasTaskNumbers, TaskNumbersLaw}
+use Rattle.tss_names.specs.Tasks.{task_at, taken_by, IsTaken, IsSpawned, IsNewest, IsInFlight, HasTaskNumbers}
+use Rattle.tss_names.specs.Tasks.{TaskNumbersLaw}
 use Rattle.tss_protocol.proofs.FrontLemmas.{IsSameTask, KeepsFront}
 use Rattle.tss_names.proofs.SpawnLemmas.{SpawnsOne}
 use Rattle.tss_names.proofs.TakeLemmas.{TakesTask, DecodesOperand, AcknowledgesOperand}
@@ -58,7 +60,7 @@ still_at u ts n t e =
 -- ---- where nothing of the front changes
 
 -- tasks stay taken
-pub taken_kept : (S T : State) → KeepsFront S T → (n : ℕ) → IsTaken S n → IsTaken T n
+taken_kept : (S T : State) → KeepsFront S T → (n : ℕ) → IsTaken S n → IsTaken T n
 taken_kept S T k n h = subst (λ f. (1 ≤ n) × (n ≤ taken_by f.inbox f.spawned)) (sym k.front) h
 
 -- a task in flight that went on
@@ -142,7 +144,7 @@ module _ (m : Machine) (ts : List Task) (S T : State) (h : HasTaskNumbers m ts S
       omega (arith, a, b, c)
 
   -- each task that was taken still is
-  pub taken_by_take : (n : ℕ) → IsTaken S n → IsTaken T n
+  taken_by_take : (n : ℕ) → IsTaken S n → IsTaken T n
   taken_by_take n taken = (
     taken.0,
     let a = last_taken_now in let b = last_taken_before in let c = taken.1 in omega (arith, a, b, c),

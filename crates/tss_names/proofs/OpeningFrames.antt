@@ -16,8 +16,13 @@ use Rattle.tss_protocol.specs.Names.{operand_name}
 use Rattle.tss_protocol.specs.Gateway.{decodes_from}
 use Rattle.tss_protocol.specs.Buffers.{is_last_piece}
 use Rattle.tss_protocol.specs.MainEvent.{main_by, after_call}
-use Rattle.tss_protocol.specs.UnitMachine.{with_sent, without, after_take, ready_message_taken, link_message_taken, after_start, start_task, after_exec, after_finish, release_message_taken, bye_message_taken, idle_message_taken, nack_message_taken, retire_version, after_copy, gone_message_taken}
-use Rattle.tss_protocol.proofs.SentLemmas.{AllSent, IsLater, posted_all-later, after_release-later, after_nack-later, after_ready-later, after_link-later, flight_after_finish-later, after_idle-later, sent_by_retire-later, sent_by_copy-later}
+use Rattle.tss_protocol.specs.UnitMachine.{with_sent, without, after_take, ready_message_taken, link_message_taken}
+use Rattle.tss_protocol.specs.UnitMachine.{after_start, start_task, after_exec, after_finish, release_message_taken}
+use Rattle.tss_protocol.specs.UnitMachine.{bye_message_taken, idle_message_taken, nack_message_taken, retire_version}
+use Rattle.tss_protocol.specs.UnitMachine.{after_copy, gone_message_taken}
+use Rattle.tss_protocol.proofs.SentLemmas.{AllSent, IsLater, posted_all-later, after_release-later, after_nack-later}
+use Rattle.tss_protocol.proofs.SentLemmas.{after_ready-later, after_link-later, flight_after_finish-later}
+use Rattle.tss_protocol.proofs.SentLemmas.{after_idle-later, sent_by_retire-later, sent_by_copy-later}
 use Rattle.tss_names.proofs.VersionObjects.{objects_release, objects_nack, objects_retire}
 
 -- each version was there before, of the same object

@@ -13,23 +13,28 @@ use Rattle.tss_base.specs.declared.event.Event.{Event}
 use Rattle.tss_base.specs.declared.event.Event.TheVariants as event
 use Rattle.tss_base.specs.Names.{Named}
 use Rattle.tss_maps.proofs.Keys.{name_order, decide_key}
-use Rattle.tss_maps.proofs.Changes.{beside_inserted, from_inserted, at_removed, beside_removed, from_removed, decide_get}
+use Rattle.tss_maps.proofs.Changes.{beside_inserted, from_inserted, at_removed, beside_removed, from_removed}
+use Rattle.tss_maps.proofs.Changes.{decide_get}
 use Rattle.tss_protocol.specs.Mail.{OpenContents, Message, Mail, posted, taken}
 use Rattle.tss_protocol.specs.State.{State, Entry, Version}
 use Rattle.tss_protocol.specs.Renaming.{live_message, decode_message}
 use Rattle.tss_protocol.specs.Versions.{after_open, after_use}
 use Rattle.tss_protocol.specs.MainEvent.{call_next}
-use Rattle.tss_protocol.specs.UnitMachine.{IsEnabled, after_event, without, decode_message_taken, open_message_taken, use_message_taken}
+use Rattle.tss_protocol.specs.UnitMachine.{IsEnabled, after_event, without, decode_message_taken, open_message_taken}
+use Rattle.tss_protocol.specs.UnitMachine.{use_message_taken}
 use Rattle.tss_names.specs.Tasks.{TasksFact, spawned_after_event, spawned_by_main, IsOperandOf}
 use Rattle.tss_protocol.proofs.SentLemmas.{posted_all-later, after_open-later, after_use-later}
 use Rattle.tss_names.proofs.SpawnLemmas.{SpawnsAtMostOne, spawns_main}
 use Rattle.tss_names.proofs.GatewayLemmas.{operand_still}
 use Rattle.tss_names.proofs.DecodedNames.{AreNamesDecoded}
 use Rattle.tss_names.proofs.VersionObjects.{objects_open, objects_use}
-use Rattle.tss_names.proofs.OpeningFrames.{VersionsFrom, all_from, KeepsOpenings, Before, openings_main, openings_take, openings_ready, openings_link, openings_bye, openings_start, openings_exec, openings_finish, openings_release, openings_idle, openings_nack, openings_retire, openings_copy, openings_gone}
+use Rattle.tss_names.proofs.OpeningFrames.{VersionsFrom, all_from, KeepsOpenings, Before, openings_main, openings_take}
+use Rattle.tss_names.proofs.OpeningFrames.{openings_ready, openings_link, openings_bye, openings_start, openings_exec}
+use Rattle.tss_names.proofs.OpeningFrames.{openings_finish, openings_release, openings_idle, openings_nack}
+use Rattle.tss_names.proofs.OpeningFrames.{openings_retire, openings_copy, openings_gone}
 
 -- the facts, over the three maps
-pub record Opens (ts : List Task) (os : Named OpenContents) (us : Named OpName) (vs : Named Version) : Type 0 where
+record Opens (ts : List Task) (os : Named OpenContents) (us : Named OpName) (vs : Named Version) : Type 0 where
   pub opens : (o : OpName) (c : OpenContents) → get os o ≡ Some c
       → IsOperandOf ts o c.operand × (get us o ≡ None) × (get vs o ≡ None)
   pub uses : (o v : OpName) → get us o ≡ Some v
@@ -163,7 +168,7 @@ module _ (ts : List Task) (opens : Named OpenContents) (uses : Named OpName) (vs
 -- ---- all events
 
 -- those of a state
-abbrev pub OpensOf : List Task → State → Type 0
+abbrev OpensOf : List Task → State → Type 0
 OpensOf ts S = Opens ts S.mail.opens S.mail.uses S.versions
 
 -- with the names decoded

@@ -1,5 +1,6 @@
 -- How many entries a map has at least where it has each key of other maps, and at most where they fall into parts.
-use Rattle.std.proofs.Common.{◌≡◌, ◌≢◌, ℕ, zero, suc, ◌+◌, ◌*◌, ◌≤◌, ◌⊎◌, inl, inr, Bool, true, false, Some, None, refl, ap, ◌∙◌, arith, suc-mul}
+use Rattle.std.proofs.Common.{◌≡◌, ◌≢◌, ℕ, zero, suc, ◌+◌, ◌*◌, ◌≤◌, ◌⊎◌, inl, inr, Bool, true, false, Some, None, refl}
+use Rattle.std.proofs.Common.{ap, ◌∙◌, arith, suc-mul}
 use Rattle.std.specs.Prelude.{◌==◌, nat_lt}
 use Rattle.std.specs.declared.cmp.Ordering.{Ordering}
 use Rattle.std.specs.FinMap.{FinMap, get, insert, remove, len, len-empty}
@@ -17,7 +18,7 @@ abbrev pub IsAt : {X : Type 0} → Named X → OpName → Type 0
 IsAt {X} m k = (x : X) × (get m k ≡ Some x)
 
 -- where something stands under each of these names, so much stands there at least
-abbrev pub HasRoom : Type 0 → (OpName → Type 0) → ℕ → Type 0
+abbrev HasRoom : Type 0 → (OpName → Type 0) → ℕ → Type 0
 HasRoom Z Q c = (places : Named Z) → ((k : OpName) → Q k → IsAt places k) → c ≤ len places
 
 -- those of another map beside them

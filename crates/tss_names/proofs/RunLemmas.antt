@@ -1,5 +1,6 @@
 -- Induction over the events of a run, and over what they do to the front.
-use Rattle.std.proofs.Common.{◌≡◌, Bool, true, false, if◌then◌else◌, List, [], ◌∷◌, Some, None, inl, inr, refl, sym, subst}
+use Rattle.std.proofs.Common.{◌≡◌, Bool, true, false, if◌then◌else◌, List, [], ◌∷◌, Some, None, inl, inr, refl, sym}
+use Rattle.std.proofs.Common.{subst}
 use Rattle.std.proofs.lemmas.Option.{none-some, same_Some}
 use Rattle.tss_base.specs.declared.operand.Task.{Task}
 use Rattle.tss_base.specs.declared.machine.Machine.{Machine}
@@ -15,7 +16,8 @@ use Rattle.tss_protocol.specs.MainEvent.{call_next}
 use Rattle.tss_names.specs.Tasks.{spawned_by_main}
 use Rattle.tss_protocol.proofs.FrontLemmas.{all_come, ComeFrom, KeepsFront, KeepsFront-after_event}
 use Rattle.tss_names.proofs.SpawnLemmas.{SpawnsNothing, SpawnsOne, SpawnsAtMostOne, spawns_main}
-use Rattle.tss_names.proofs.TakeLemmas.{TakesTask, takes_take, DecodesOperand, decodes_decode, AcknowledgesOperand, acknowledges_ack}
+use Rattle.tss_names.proofs.TakeLemmas.{TakesTask, takes_take, DecodesOperand, decodes_decode, AcknowledgesOperand}
+use Rattle.tss_names.proofs.TakeLemmas.{acknowledges_ack}
 
 -- what the first fact says of a state, the second says after each enabled event
 abbrev pub IsKeptAs : TasksFact → TasksFact → Type 0

@@ -1,5 +1,6 @@
 -- No event but retire and copy says of a version that it is gone as the last of its object.
-use Rattle.std.proofs.Common.{◌≡◌, ℕ, zero, suc, Bool, true, false, if◌then◌else◌, List, [], ◌∷◌, ◌++◌, Option, Some, None, refl, ap, ◌∙◌, inl, inr}
+use Rattle.std.proofs.Common.{◌≡◌, ℕ, zero, suc, Bool, true, false, if◌then◌else◌, List, [], ◌∷◌, ◌++◌, Option, Some}
+use Rattle.std.proofs.Common.{None, refl, ap, ◌∙◌, inl, inr}
 use Rattle.std.specs.FinMap.{get}
 use Rattle.tss_base.specs.declared.operand.OpName.{OpName}
 use Rattle.tss_base.specs.declared.marks.How.{How}
@@ -8,9 +9,14 @@ use Rattle.tss_base.specs.declared.marks.Follow.{Follow}
 use Rattle.tss_base.specs.Names.{Named}
 use Rattle.tss_maps.proofs.Keys.{name_order}
 use Rattle.tss_maps.proofs.Changes.{from_inserted}
-use Rattle.tss_protocol.specs.Mail.{StorageName, ReleaseContents, OpenContents, GoneContents, Message, Decode, Ack, Open, Use, Ready, Link, Release, Bye, Idle, Nack, Retire, Gone, Mail, posted, posted_all}
+use Rattle.tss_protocol.specs.Mail.{StorageName, ReleaseContents, OpenContents, GoneContents, Message, Decode, Ack}
+use Rattle.tss_protocol.specs.Mail.{Open, Use, Ready, Link, Release, Bye, Idle, Nack, Retire, Gone, Mail, posted}
+use Rattle.tss_protocol.specs.Mail.{posted_all}
 use Rattle.tss_protocol.specs.State.{Version}
-use Rattle.tss_protocol.specs.Versions.{Settling, ready_with, settle_how, settle_by, settle_at, settle_asking, unchanged, settle, settled, may_ask, may_die, opened_how, opened_by, after_open, used_alone, used_behind, used_at, after_use, head_ready, released_by, released_at, after_release, nacked_at, after_nack}
+use Rattle.tss_protocol.specs.Versions.{Settling, ready_with, settle_how, settle_by, settle_at, settle_asking}
+use Rattle.tss_protocol.specs.Versions.{unchanged, settle, settled, may_ask, may_die, opened_how, opened_by, after_open}
+use Rattle.tss_protocol.specs.Versions.{used_alone, used_behind, used_at, after_use, head_ready, released_by}
+use Rattle.tss_protocol.specs.Versions.{released_at, after_release, nacked_at, after_nack}
 use Rattle.tss_phases.proofs.Tests.{not_both}
 use Rattle.tss_protocol.proofs.SentLemmas.{AllSent, AllSent-append}
 

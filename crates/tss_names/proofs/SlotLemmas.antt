@@ -1,5 +1,6 @@
 -- No station has more tasks in flight than slots.
-use Rattle.std.proofs.Common.{◌≡◌, ℕ, ◌<◌, ◌≤◌, Bool, true, false, List, [], ◌∷◌, Some, None, refl, sym, ap, ◌∙◌, subst, arith}
+use Rattle.std.proofs.Common.{◌≡◌, ℕ, ◌<◌, ◌≤◌, Bool, true, false, List, [], ◌∷◌, Some, None, refl, sym, ap, ◌∙◌, subst}
+use Rattle.std.proofs.Common.{arith}
 use Rattle.std.specs.Prelude.{◌==◌}
 use Rattle.std.specs.FinMap.{get, insert, remove}
 use Rattle.std.proofs.lemmas.Bool.Decides.{nat_tests}
@@ -43,7 +44,7 @@ module _ {X : Type 0} (p : ℕ → Bool) where
       omega (arith, rest, more, less)
 
   -- a map that has nothing but where another has, has no more keys that pass
-  pub fewer_keys : (n m : Numbered X) → ((q : ℕ) (y : X) → get n q ≡ Some y → (x : X) × (get m q ≡ Some x))
+  fewer_keys : (n m : Numbered X) → ((q : ℕ) (y : X) → get n q ≡ Some y → (x : X) × (get m q ≡ Some x))
       → passing n ≤ passing m
   fewer_keys =
       map_induction nat_order

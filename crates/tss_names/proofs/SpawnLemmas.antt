@@ -1,5 +1,7 @@
 -- What main's event does to the tasks: it spawns none, or one with the next number into an empty inbox.
-use Rattle.std.proofs.Common.{◌≡◌, ℕ, zero, suc, ◌+◌, ◌<◌, ◌≤◌, ◌⊎◌, inl, inr, Bool, true, false, ◌&&◌, if◌then◌else◌, List, [], ◌∷◌, ◌++◌, length, take, replicate, Option, Some, None, is_none, Result, Ok, Err, refl, sym, ap, ◌∙◌, arith}
+use Rattle.std.proofs.Common.{◌≡◌, ℕ, zero, suc, ◌+◌, ◌<◌, ◌≤◌, ◌⊎◌, inl, inr, Bool, true, false, ◌&&◌, if◌then◌else◌}
+use Rattle.std.proofs.Common.{List, [], ◌∷◌, ◌++◌, length, take, replicate, Option, Some, None, is_none, Result, Ok}
+use Rattle.std.proofs.Common.{Err, refl, sym, ap, ◌∙◌, arith}
 use Rattle.std.specs.Prelude.{nat_lt, nat_le, ◌-◌}
 use Rattle.std.specs.List.{list_any}
 use Rattle.std.proofs.lemmas.Bool.{and_parts, leb-false, ltb-false}
@@ -13,9 +15,13 @@ use Rattle.tss_base.specs.declared.machine.Machine.{Machine}
 use Rattle.tss_base.specs.declared.event.Event.TheVariants as event
 use Rattle.tss_model.specs.Memory.{Memory}
 use Rattle.tss_model.specs.Access.{operands_of, touches}
-use Rattle.tss_base.specs.declared.refusals.TheConstants.{EPOCH_FULL, LIST_PLACE, MAIN_TOUCH, TOO_MANY_OPERANDS, TOO_MANY_TASKS}
-use Rattle.tss_model.specs.Spawn.{SpawnCall, Entry, after_first, entries_at, entries_checked, entry_checked, is_misplaced, list_range, merged_on, merged_operands, name_object, name_objects, no_operand, objects_of, same_range, spawn_of, task_checked, task_of, with_rest}
-use Rattle.tss_model.specs.MainStep.{Call, ExitCall, Spawn, Barrier, Print, Await, Unknown, print_range, spawn_call, spawn_on, awaited_object, await_on}
+use Rattle.tss_base.specs.declared.refusals.TheConstants.{EPOCH_FULL, LIST_PLACE, MAIN_TOUCH, TOO_MANY_OPERANDS}
+use Rattle.tss_base.specs.declared.refusals.TheConstants.{TOO_MANY_TASKS}
+use Rattle.tss_model.specs.Spawn.{SpawnCall, Entry, after_first, entries_at, entries_checked, entry_checked}
+use Rattle.tss_model.specs.Spawn.{is_misplaced, list_range, merged_on, merged_operands, name_object, name_objects}
+use Rattle.tss_model.specs.Spawn.{no_operand, objects_of, same_range, spawn_of, task_checked, task_of, with_rest}
+use Rattle.tss_model.specs.MainStep.{Call, ExitCall, Spawn, Barrier, Print, Await, Unknown, print_range, spawn_call}
+use Rattle.tss_model.specs.MainStep.{spawn_on, awaited_object, await_on}
 use Rattle.tss_protocol.specs.State.{State}
 use Rattle.tss_protocol.specs.MainEvent.{flat_of, call_next, may_call, main_by, after_call}
 use Rattle.tss_protocol.specs.UnitMachine.{IsEnabled, is_enabled, after_event}

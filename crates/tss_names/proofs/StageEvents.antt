@@ -1,5 +1,6 @@
 -- Every event leaves each task in flight where its stage says.
-use Rattle.std.proofs.Common.{◌≡◌, false, ℕ, ◌≤◌, inl, inr, true, List, [], ◌∷◌, map, length, Option, Some, None, refl, sym, ap, ◌∙◌, subst, arith, true≢false, suc}
+use Rattle.std.proofs.Common.{◌≡◌, false, ℕ, ◌≤◌, inl, inr, true, List, [], ◌∷◌, map, length, Option, Some, None, refl}
+use Rattle.std.proofs.Common.{sym, ap, ◌∙◌, subst, arith, true≢false, suc}
 use Rattle.std.specs.FinMap.{get, get-empty}
 use Rattle.std.proofs.lemmas.Option.{none-some}
 use Rattle.tss_base.specs.declared.operand.Operand.{Operand}
@@ -11,10 +12,12 @@ use Rattle.tss_maps.proofs.Keys.{nat_order}
 use Rattle.tss_maps.proofs.Changes.{from_inserted}
 use Rattle.tss_model.specs.Access.{operands_of}
 use Rattle.tss_protocol.specs.State.{Flying, State, initial_state}
-use Rattle.tss_protocol.specs.Stations.{is_gone, is_complete, new_operand, first_stage, entered, flight_after_take, storages_of, task_after_ready}
+use Rattle.tss_protocol.specs.Stations.{is_gone, is_complete, new_operand, first_stage, entered, flight_after_take}
+use Rattle.tss_protocol.specs.Stations.{storages_of, task_after_ready}
 use Rattle.tss_protocol.specs.UnitMachine.{queue_with, is_queued}
 use Rattle.tss_names.specs.Tasks.{task_at, taken_by, HasTaskNumbers, IsInFlight}
-use Rattle.tss_names.proofs.BackLemmas.{Standing, standing_by, standing_of, still_ready-slice_set, ReadiesOperand, ChangesTask, StartsTask, ExecutesTask, FinishesTask, kept_by_standing}
+use Rattle.tss_names.proofs.BackLemmas.{Standing, standing_by, standing_of, still_ready-slice_set, ReadiesOperand}
+use Rattle.tss_names.proofs.BackLemmas.{ChangesTask, StartsTask, ExecutesTask, FinishesTask, kept_by_standing}
 use Rattle.std.specs.Ordering.{nat_cmp}
 use Rattle.std.proofs.lemmas.List.{length-map}
 use Rattle.tss_base.specs.declared.operand.OpName.{OpName}
@@ -24,9 +27,13 @@ use Rattle.tss_protocol.proofs.FrontLemmas.{KeepsFront}
 use Rattle.tss_names.proofs.SpawnLemmas.{SpawnsOne}
 use Rattle.tss_names.proofs.TakeLemmas.{TakesTask}
 use Rattle.tss_names.proofs.RunLemmas.{IsKept, law_from}
-use Rattle.tss_names.proofs.NumberLemmas.{still_at, taken_newest, last_taken_now, last_taken_before, taken_itself, numbers_same, numbers_spawned, numbers_take, numbers_kept, HasTaskNumbers-initial_state}
+use Rattle.tss_names.proofs.NumberLemmas.{still_at, taken_newest, last_taken_now, last_taken_before, taken_itself}
+use Rattle.tss_names.proofs.NumberLemmas.{numbers_same, numbers_spawned, numbers_take, numbers_kept}
+use Rattle.tss_names.proofs.NumberLemmas.{HasTaskNumbers-initial_state}
 use Rattle.tss_names.proofs.QueueLemmas.{in_queue, still_queued, now_queued, from_queue}
-use Rattle.tss_names.proofs.StageLemmas.{TakenBy, CompleteAt, WaitsForOperands, Stages, works_now, waiting≢queued, waiting≢running, queued≢running, past_waiting, stages_readied_by, stages_went_on, stages_started, stages_executed, stages_finished_in}
+use Rattle.tss_names.proofs.StageLemmas.{TakenBy, CompleteAt, WaitsForOperands, Stages, works_now, waiting≢queued}
+use Rattle.tss_names.proofs.StageLemmas.{waiting≢running, queued≢running, past_waiting, stages_readied_by}
+use Rattle.tss_names.proofs.StageLemmas.{stages_went_on, stages_started, stages_executed, stages_finished_in}
 
 -- ---- a task that is taken
 
@@ -73,7 +80,7 @@ complete_where_queued t e = by (operands_of t) refl
 
 module _ (m : Machine) (ts : List Task) (p : Standing) (h : Stages m ts p) where
   -- the counter and the inbox change, and no task that was taken is no longer
-  pub stages_moved : (us : List Task) (spawned : ℕ) (inbox : Option Task)
+  stages_moved : (us : List Task) (spawned : ℕ) (inbox : Option Task)
       → ((n : ℕ) → TakenBy p n → (1 ≤ n) × (n ≤ taken_by inbox spawned))
       → ((n : ℕ) (t : Task) → task_at ts n ≡ Some t → task_at us n ≡ Some t)
       → Stages m us (record p { spawned = spawned; inbox = inbox })
@@ -113,7 +120,7 @@ module _ (m : Machine) (ts : List Task) (p : Standing) (h : Stages m ts p) where
         ]
 
     -- it waits, or is queued
-    pub stages_taken : Stages m ts after
+    stages_taken : Stages m ts after
     stages_taken = record {
       waiting = λ n x e. elim (from_inserted nat_order p.flight t.number (entered t) n x e) [
         | inl here ↦ subst WaitsForOperands (sym here.1) (entered_waits t (operands_of t) refl)

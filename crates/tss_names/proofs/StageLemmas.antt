@@ -1,5 +1,6 @@
 -- Each task in flight stands where its stage says, and what is queued or runs has its operands.
-use Rattle.std.proofs.Common.{◌≡◌, ◌≢◌, ◌↔◌, ℕ, ◌<◌, ◌≤◌, ◌⊎◌, inl, inr, Bool, true, false, if◌then◌else◌, List, [], ◌∷◌, ◌++◌, length, Option, Some, None, refl, sym, ap, ◌∙◌, subst, arith, true≢false}
+use Rattle.std.proofs.Common.{◌≡◌, ◌≢◌, ◌↔◌, ℕ, ◌<◌, ◌≤◌, ◌⊎◌, inl, inr, Bool, true, false, if◌then◌else◌, List, []}
+use Rattle.std.proofs.Common.{◌∷◌, ◌++◌, length, Option, Some, None, refl, sym, ap, ◌∙◌, subst, arith, true≢false}
 use Rattle.std.specs.List.{list_all}
 use Rattle.std.specs.Prelude.{◌&&◌, ◌==◌}
 use Rattle.std.specs.FinMap.{get, insert, remove}
@@ -13,7 +14,8 @@ use Rattle.tss_maps.proofs.Keys.{nat_order, decide_key}
 use Rattle.tss_maps.proofs.Changes.{at_inserted, beside_inserted, from_inserted, beside_removed, from_removed}
 use Rattle.tss_model.specs.Access.{operands_of}
 use Rattle.tss_protocol.specs.State.{Flying, Busy}
-use Rattle.tss_protocol.specs.Stations.{is_complete, has_finished, has_left, is_gone, remaining_tasks, flight_after_start, finished_in, storages_of}
+use Rattle.tss_protocol.specs.Stations.{is_complete, has_finished, has_left, is_gone, remaining_tasks}
+use Rattle.tss_protocol.specs.Stations.{flight_after_start, finished_in, storages_of}
 use Rattle.tss_protocol.specs.Workers.{busy_at_start}
 use Rattle.tss_protocol.specs.UnitMachine.{queue_with}
 use Rattle.tss_names.specs.Tasks.{task_at, taken_by}
@@ -27,7 +29,7 @@ abbrev pub TakenBy : Standing → ℕ → Type 0
 TakenBy p n = (1 ≤ n) × (n ≤ taken_by p.inbox p.spawned)
 
 -- a worker has it
-abbrev pub OnWorker : Numbered Busy → ℕ → Type 0
+abbrev OnWorker : Numbered Busy → ℕ → Type 0
 OnWorker workers n = (w : ℕ) × (b : Busy) × (get workers w ≡ Some b) × (b.task.number ≡ n)
 
 -- as long as it is in flight its operands are ready
@@ -104,7 +106,7 @@ past_waiting x complete past = (λ e. absurd (past e), λ e. absurd (true≢fals
 -- ---- a change of one task in flight
 
 -- at n stands y, if anything, which stays in flight, and all others are as they were
-abbrev pub ChangesAt : Numbered Flying → Numbered Flying → ℕ → Flying → Type 0
+abbrev ChangesAt : Numbered Flying → Numbered Flying → ℕ → Flying → Type 0
 ChangesAt m k n y =
     (q : ℕ) (z : Flying)
     → get k q ≡ Some z
@@ -196,7 +198,7 @@ module _ (m : Machine) (ts : List Task) (p : Standing) (h : Stages m ts p) where
     queued_if c = if c then record y { stage = stage.Queued } else y
 
     -- one that isn't complete wasn't before, so it waits
-    pub not_before : is_complete y ≡ false → y.stage ≡ stage.Waiting
+    not_before : is_complete y ≡ false → y.stage ≡ stage.Waiting
     not_before e = by (is_complete x) refl
       where
         by : (b : Bool) → is_complete x ≡ b → y.stage ≡ stage.Waiting

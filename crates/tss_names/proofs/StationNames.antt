@@ -1,5 +1,6 @@
 -- The stations keep a fact of each name, and send messages of which it holds.
-use Rattle.std.proofs.Common.{◌≡◌, ℕ, zero, suc, ◌+◌, Bool, true, false, if◌then◌else◌, List, [], ◌∷◌, map, Option, Some, None, refl, subst, arith}
+use Rattle.std.proofs.Common.{◌≡◌, ℕ, zero, suc, ◌+◌, Bool, true, false, if◌then◌else◌, List, [], ◌∷◌, map, Option}
+use Rattle.std.proofs.Common.{Some, None, refl, subst, arith}
 use Rattle.std.specs.Prelude.{slice_get, slice_set}
 use Rattle.std.specs.FinMap.{get, insert, remove}
 use Rattle.std.proofs.lemmas.Option.{none-some, same_Some}
@@ -15,8 +16,15 @@ use Rattle.tss_model.specs.Access.{operands_of}
 use Rattle.tss_protocol.specs.Names.{operand_name}
 use Rattle.tss_protocol.specs.Mail.{StorageName, Source}
 use Rattle.tss_protocol.specs.State.{OperandState, Flying, Outcome}
-use Rattle.tss_protocol.specs.Stations.{is_complete, awaited, with_operand, is_gone, remaining_tasks, new_operand, entered, flight_after_take, link_after_ready, operand_after_ready, sent_by_ready, Woken, task_after_ready, woken_by, woken_in, after_ready, link_after_link, sent_by_link, operand_after_link, linked_by, linked_in, after_link, flight_after_start, storage_of, storages_of, release_of, releases_from, finished_in, flight_after_finish, operand_after_bye, parted_by, parted_in, after_bye}
-use Rattle.tss_names.specs.Names.{WhereThere, EachEntry, EachOf, StorageNames, SourceNames, LinkNames, OperandNames, FlyingNames, MessageNames}
+use Rattle.tss_protocol.specs.Stations.{is_complete, awaited, with_operand, is_gone, remaining_tasks, new_operand}
+use Rattle.tss_protocol.specs.Stations.{entered, flight_after_take, link_after_ready, operand_after_ready}
+use Rattle.tss_protocol.specs.Stations.{sent_by_ready, Woken, task_after_ready, woken_by, woken_in, after_ready}
+use Rattle.tss_protocol.specs.Stations.{link_after_link, sent_by_link, operand_after_link, linked_by, linked_in}
+use Rattle.tss_protocol.specs.Stations.{after_link, flight_after_start, storage_of, storages_of, release_of}
+use Rattle.tss_protocol.specs.Stations.{releases_from, finished_in, flight_after_finish, operand_after_bye, parted_by}
+use Rattle.tss_protocol.specs.Stations.{parted_in, after_bye}
+use Rattle.tss_names.specs.Names.{WhereThere, EachEntry, EachOf, StorageNames, SourceNames, LinkNames, OperandNames}
+use Rattle.tss_names.specs.Names.{FlyingNames, MessageNames}
 use Rattle.tss_protocol.proofs.SentLemmas.{AllSent, AllSent-append}
 use Rattle.tss_names.proofs.NameLemmas.{each_inserted, each_removed}
 

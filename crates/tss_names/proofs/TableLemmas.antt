@@ -1,5 +1,6 @@
 -- No bank has more entries, places and buffers in use than there are.
-use Rattle.std.proofs.Common.{◌≡◌, ℕ, zero, suc, ◌+◌, ◌<◌, ◌≤◌, inl, inr, Bool, true, false, List, [], ◌∷◌, Option, Some, None, refl, sym, ap, arith, true≢false}
+use Rattle.std.proofs.Common.{◌≡◌, ℕ, zero, suc, ◌+◌, ◌<◌, ◌≤◌, inl, inr, Bool, true, false, List, [], ◌∷◌, Option}
+use Rattle.std.proofs.Common.{Some, None, refl, sym, ap, arith, true≢false}
 use Rattle.std.specs.Prelude.{◌==◌, nat_le, if◌then◌else◌, is_none}
 use Rattle.std.specs.FinMap.{get, insert, remove}
 use Rattle.std.proofs.lemmas.Bool.{leb-false}
@@ -26,11 +27,19 @@ use Rattle.tss_protocol.specs.Names.{bank_of}
 use Rattle.tss_protocol.specs.Mail.{Source, OpenContents, ReleaseContents, IdleContents, GoneContents}
 use Rattle.tss_protocol.specs.State.{State, Flying, Busy, Entry, Version, CopyState, initial_state}
 use Rattle.tss_protocol.specs.Stations.{tasks_in}
-use Rattle.tss_protocol.specs.Renaming.{Fill, Tables, entries_in, places_in, buffers_in, fill_of, line_of, has_earlier, Wait, Turn, wait_or, EntriesFull, VersionsFull, BuffersFull, Retiring, needs_place, needs_buffer, live_wait, decode_wait, can_decode, live_entry, entry_after_decode, takes_place, takes_buffer, after_decode, may_retire, retiring_entry, idle_by, buffers_after_gone, after_gone}
+use Rattle.tss_protocol.specs.Renaming.{Fill, Tables, entries_in, places_in, buffers_in, fill_of, line_of, has_earlier}
+use Rattle.tss_protocol.specs.Renaming.{Wait, Turn, wait_or, EntriesFull, VersionsFull, BuffersFull, Retiring}
+use Rattle.tss_protocol.specs.Renaming.{needs_place, needs_buffer, live_wait, decode_wait, can_decode, live_entry}
+use Rattle.tss_protocol.specs.Renaming.{entry_after_decode, takes_place, takes_buffer, after_decode, may_retire}
+use Rattle.tss_protocol.specs.Renaming.{retiring_entry, idle_by, buffers_after_gone, after_gone}
 use Rattle.tss_protocol.proofs.TurnLemmas.{waits_for_neither}
 use Rattle.tss_protocol.specs.Counts.{greatest}
 use Rattle.tss_protocol.specs.MainEvent.{call_next, main_by, after_call}
-use Rattle.tss_protocol.specs.UnitMachine.{is_enabled, after_event, tables_of, without, after_take, can_decode_message, decode_message_taken, open_message_taken, use_message_taken, ready_message_taken, link_message_taken, after_start, start_task, after_exec, after_finish, release_message_taken, bye_message_taken, idle_message_taken, retire_version, after_copy, gone_message_taken}
+use Rattle.tss_protocol.specs.UnitMachine.{is_enabled, after_event, tables_of, without, after_take, can_decode_message}
+use Rattle.tss_protocol.specs.UnitMachine.{decode_message_taken, open_message_taken, use_message_taken}
+use Rattle.tss_protocol.specs.UnitMachine.{ready_message_taken, link_message_taken, after_start, start_task, after_exec}
+use Rattle.tss_protocol.specs.UnitMachine.{after_finish, release_message_taken, bye_message_taken, idle_message_taken}
+use Rattle.tss_protocol.specs.UnitMachine.{retire_version, after_copy, gone_message_taken}
 use Rattle.tss_names.specs.Tasks.{TasksFact}
 use Rattle.tss_names.specs.Tables.{TablesLaw}
 use Rattle.tss_names.proofs.RunLemmas.{IsKept, kept_after}
@@ -38,7 +47,7 @@ use Rattle.tss_names.proofs.SlotLemmas.{slots_of_runs}
 use Rattle.tss_names.proofs.StageEvents.{stages_of_runs}
 
 -- in each bank
-pub record AreWithinBanks (sizes : Sizes) (t : Tables) : Type 0 where
+record AreWithinBanks (sizes : Sizes) (t : Tables) : Type 0 where
   pub entries : (bank : ℕ) → entries_in sizes bank t.entries ≤ sizes.entries
   pub places : (bank : ℕ) → places_in bank t.places ≤ sizes.versions
   pub buffers : (bank : ℕ) → buffers_in bank t.buffers ≤ sizes.buffers
@@ -147,7 +156,8 @@ module _ (sizes : Sizes) (t : Tables) (h : AreWithinBanks sizes t) where
       let within = h.entries b in
       omega (arith, same, within)
 
-  within_decoded : (decodes : Named Operand) (o : OpName) (operand : Operand) → can_decode sizes t decodes o operand ≡ true
+  within_decoded : (decodes : Named Operand) (o : OpName) (operand : Operand)
+      → can_decode sizes t decodes o operand ≡ true
       → AreWithinBanks sizes (after_decode sizes t o operand).part
   within_decoded decodes o operand on =
       let bank = bank_of sizes operand.object in

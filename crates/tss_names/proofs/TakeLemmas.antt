@@ -1,5 +1,6 @@
 -- What take, decode and ack do to the front, and what stands under the names of a task's operands after its take.
-use Rattle.std.proofs.Common.{◌≡◌, ◌≢◌, ℕ, zero, suc, ◌+◌, ◌<◌, ◌⊎◌, inl, inr, true, List, [], ◌∷◌, Option, Some, None, refl, ap, ◌∙◌, arith}
+use Rattle.std.proofs.Common.{◌≡◌, ◌≢◌, ℕ, zero, suc, ◌+◌, ◌<◌, ◌⊎◌, inl, inr, true, List, [], ◌∷◌, Option, Some, None}
+use Rattle.std.proofs.Common.{refl, ap, ◌∙◌, arith}
 use Rattle.std.specs.Prelude.{slice_get}
 use Rattle.std.specs.FinMap.{get, insert, remove}
 use Rattle.std.proofs.lemmas.Bool.{and_parts}
@@ -19,8 +20,10 @@ use Rattle.tss_protocol.specs.Mail.{Mail, posted, posted_all}
 use Rattle.tss_protocol.specs.State.{State, Entry}
 use Rattle.tss_protocol.specs.Gateway.{names_from, held_with, decodes_from, has_window}
 use Rattle.tss_protocol.specs.Stations.{has_slot, entered, flight_after_take}
-use Rattle.tss_protocol.specs.Renaming.{HasTurn, Turn, fill_of, line_of, has_earlier, decode_wait, decode_message, live_message}
-use Rattle.tss_protocol.specs.UnitMachine.{IsEnabled, tables_of, queue_with, is_queued, is_enabled, after_event, can_take, after_take, without, can_decode_message, decode_message_taken}
+use Rattle.tss_protocol.specs.Renaming.{HasTurn, Turn, fill_of, line_of, has_earlier, decode_wait, decode_message}
+use Rattle.tss_protocol.specs.Renaming.{live_message}
+use Rattle.tss_protocol.specs.UnitMachine.{IsEnabled, tables_of, queue_with, is_queued, is_enabled, after_event}
+use Rattle.tss_protocol.specs.UnitMachine.{can_take, after_take, without, can_decode_message, decode_message_taken}
 use Rattle.tss_protocol.proofs.TurnLemmas.{waits_for_neither}
 use Rattle.tss_protocol.proofs.FrontLemmas.{front_of, back_of}
 use Rattle.tss_names.proofs.PlainLemmas.{some_unit}

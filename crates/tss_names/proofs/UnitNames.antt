@@ -1,5 +1,6 @@
 -- The workers, the renaming tables and the copy engines keep a fact of each name, and send messages of which it holds.
-use Rattle.std.proofs.Common.{◌≡◌, ℕ, zero, suc, ◌+◌, ◌-◌, Bool, true, false, if◌then◌else◌, List, [], ◌∷◌, Option, Some, None, refl}
+use Rattle.std.proofs.Common.{◌≡◌, ℕ, zero, suc, ◌+◌, ◌-◌, Bool, true, false, if◌then◌else◌, List, [], ◌∷◌, Option}
+use Rattle.std.proofs.Common.{Some, None, refl}
 use Rattle.std.specs.Prelude.{nat_le}
 use Rattle.std.specs.FinMap.{get, insert, remove}
 use Rattle.tss_base.specs.declared.range.Range.{Range}
@@ -17,12 +18,16 @@ use Rattle.tss_model.specs.Core.{Write, Stepped, Executed, Called, Ended, Trappe
 use Rattle.tss_model.specs.Memory.{code_word}
 use Rattle.tss_base.specs.declared.causes.TheConstants.{BUDGET_SPENT}
 use Rattle.tss_model.specs.Registers.{trap_of}
-use Rattle.tss_model.specs.TaskRun.{TaskState, is_over, repeated, task_byte, task_write, task_trapped, task_on, task_step}
+use Rattle.tss_model.specs.TaskRun.{TaskState, is_over, repeated, task_byte, task_write, task_trapped, task_on}
+use Rattle.tss_model.specs.TaskRun.{task_step}
 use Rattle.tss_protocol.specs.Mail.{StorageName, Home, Buffer}
 use Rattle.tss_protocol.specs.State.{Entry, CopyState}
-use Rattle.tss_protocol.specs.Workers.{Stores, Placed, placed_in, placed_at, storage_write, write_in, worker_write, storage_zeroed, outputs_zeroed}
-use Rattle.tss_protocol.specs.Renaming.{live_entry, entry_after_decode, live_message, decode_message, sent_by_decode, retiring_entry, idle_by, buffers_after_gone}
-use Rattle.tss_protocol.specs.Buffers.{contents_after_gone, sent_by_retire, new_copy, copies_after_retire, piece_len, copies_after_copy, sent_by_copy}
+use Rattle.tss_protocol.specs.Workers.{Stores, Placed, placed_in, placed_at, storage_write, write_in, worker_write}
+use Rattle.tss_protocol.specs.Workers.{storage_zeroed, outputs_zeroed}
+use Rattle.tss_protocol.specs.Renaming.{live_entry, entry_after_decode, live_message, decode_message, sent_by_decode}
+use Rattle.tss_protocol.specs.Renaming.{retiring_entry, idle_by, buffers_after_gone}
+use Rattle.tss_protocol.specs.Buffers.{contents_after_gone, sent_by_retire, new_copy, copies_after_retire, piece_len}
+use Rattle.tss_protocol.specs.Buffers.{copies_after_copy, sent_by_copy}
 use Rattle.tss_names.specs.Names.{WhereThere, EachEntry, EachOf, StorageNames, MessageNames}
 use Rattle.tss_protocol.proofs.SentLemmas.{AllSent}
 use Rattle.tss_names.proofs.NameLemmas.{each_inserted, each_removed}

@@ -11,7 +11,13 @@ use Rattle.tss_base.specs.Names.{Named}
 use Rattle.tss_maps.proofs.Keys.{name_order}
 use Rattle.tss_protocol.specs.Mail.{StorageName, OpenContents, ReleaseContents}
 use Rattle.tss_protocol.specs.State.{Version}
-use Rattle.tss_protocol.specs.Versions.{Settling, put_version, drop_version, version_changed, change_version, change_named, may_die, may_ask, followed_by, unlinked, settle_how, settle_asking, unchanged, settle_by, settle_at, settle, settled, new_version, first_version, followed, opened_how, opened_by, after_open, enlisted, used_alone, used_behind, used_at, after_use, produced_now, released_once, released_by, released_at, after_release, refused_once, nacked_at, after_nack, after_retire}
+use Rattle.tss_protocol.specs.Versions.{Settling, put_version, drop_version, version_changed, change_version}
+use Rattle.tss_protocol.specs.Versions.{change_named, may_die, may_ask, followed_by, unlinked, settle_how}
+use Rattle.tss_protocol.specs.Versions.{settle_asking, unchanged, settle_by, settle_at, settle, settled, new_version}
+use Rattle.tss_protocol.specs.Versions.{first_version, followed, opened_how, opened_by, after_open, enlisted}
+use Rattle.tss_protocol.specs.Versions.{used_alone, used_behind, used_at, after_use, produced_now, released_once}
+use Rattle.tss_protocol.specs.Versions.{released_by, released_at, after_release, refused_once, nacked_at, after_nack}
+use Rattle.tss_protocol.specs.Versions.{after_retire}
 use Rattle.tss_names.specs.Names.{EachEntry}
 use Rattle.tss_names.proofs.NameLemmas.{each_inserted, each_removed}
 

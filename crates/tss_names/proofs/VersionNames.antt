@@ -1,5 +1,6 @@
 -- The versioning tables keep a fact of each name, and send messages of which it holds.
-use Rattle.std.proofs.Common.{◌≡◌, ℕ, zero, suc, Bool, true, false, if◌then◌else◌, List, [], ◌∷◌, ◌++◌, Option, Some, None, refl}
+use Rattle.std.proofs.Common.{◌≡◌, ℕ, zero, suc, Bool, true, false, if◌then◌else◌, List, [], ◌∷◌, ◌++◌, Option, Some}
+use Rattle.std.proofs.Common.{None, refl}
 use Rattle.std.specs.Prelude.{not}
 use Rattle.std.specs.FinMap.{get}
 use Rattle.tss_base.specs.declared.range.Range.{Range}
@@ -13,7 +14,14 @@ use Rattle.tss_base.specs.Names.{Named}
 use Rattle.tss_maps.proofs.Keys.{name_order}
 use Rattle.tss_protocol.specs.Mail.{StorageName, Home, Buffer, OpenContents, ReleaseContents, Message, Bye}
 use Rattle.tss_protocol.specs.State.{Version}
-use Rattle.tss_protocol.specs.Versions.{Versioned, Settling, sending, put_version, drop_version, version_changed, change_version, change_named, ready_with, buffer_of, died, may_die, may_ask, followed_by, unlinked, settle_over, settle_how, settle_asking, unchanged, settle_by, settle_at, settle, settled, new_version, first_version, followed, opened_how, opened_by, after_open, enlisted, used_alone, used_behind, used_at, after_use, head_ready, produced_now, is_last, tail_without, released_once, released_by, released_at, after_release, refused_once, nacked_at, after_nack, after_retire}
+use Rattle.tss_protocol.specs.Versions.{Versioned, Settling, sending, put_version, drop_version, version_changed}
+use Rattle.tss_protocol.specs.Versions.{change_version, change_named, ready_with, buffer_of, died, may_die, may_ask}
+use Rattle.tss_protocol.specs.Versions.{followed_by, unlinked, settle_over, settle_how, settle_asking, unchanged}
+use Rattle.tss_protocol.specs.Versions.{settle_by, settle_at, settle, settled, new_version, first_version, followed}
+use Rattle.tss_protocol.specs.Versions.{opened_how, opened_by, after_open, enlisted, used_alone, used_behind, used_at}
+use Rattle.tss_protocol.specs.Versions.{after_use, head_ready, produced_now, is_last, tail_without, released_once}
+use Rattle.tss_protocol.specs.Versions.{released_by, released_at, after_release, refused_once, nacked_at, after_nack}
+use Rattle.tss_protocol.specs.Versions.{after_retire}
 use Rattle.tss_names.specs.Names.{WhereThere, EachEntry, StorageNames, VersionNames, MessageNames}
 use Rattle.tss_protocol.proofs.SentLemmas.{AllSent, AllSent-append}
 use Rattle.tss_names.proofs.NameLemmas.{each_inserted, each_removed}

@@ -12,7 +12,7 @@ use Rattle.tss_names.proofs.VersionFacts.{IsOfEach, each_open, each_use, each_re
 -- a fact of each version's name and object
 module _ (B : OpName → Range → Type 0) where
   -- of each version
-  abbrev pub EachObject : Named Version → Type 0
+  abbrev EachObject : Named Version → Type 0
   EachObject vs = EachEntry (λ v x. B v x.object) vs
 
   -- no change but open's is one of an object

@@ -17,8 +17,8 @@ gateway_messages m = len m.decodes + len m.acks
 abbrev pub version_messages : Mail → ℕ
 version_messages m = len m.opens + len m.idles + len m.nacks + len m.retires + len m.gones
 
--- no more tasks in flight than slots, no more messages of the gateway than operands that a window of tasks may have, and
--- no more of versions than places
+-- no more tasks in flight than slots, no more messages of the gateway than operands that a window of tasks may have,
+-- and no more of versions than places
 pub record BoundsMessages (m : Machine) (i : ImageState) (es : List Event) (S : State) : Type 0 where
   pub flight : len S.flight ≤ all_slots m
   pub gateway : gateway_messages S.mail ≤ m.sizes.window * m.limits.max_operands

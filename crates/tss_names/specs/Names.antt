@@ -10,7 +10,8 @@ use Rattle.tss_base.specs.declared.marks.LinkState.{LinkState}
 use Rattle.tss_base.specs.declared.marks.LinkState.TheVariants as link
 use Rattle.tss_base.specs.declared.marks.Follow.{Follow}
 use Rattle.tss_protocol.specs.Names.{operand_name}
-use Rattle.tss_protocol.specs.Mail.{StorageName, Home, Buffer, Source, Message, Decode, Ack, Open, Use, Ready, Link, Release, Bye, Idle, Nack, Retire, Gone, Mail}
+use Rattle.tss_protocol.specs.Mail.{StorageName, Home, Buffer, Source, Message, Decode, Ack, Open, Use, Ready, Link}
+use Rattle.tss_protocol.specs.Mail.{Release, Bye, Idle, Nack, Retire, Gone, Mail}
 use Rattle.tss_protocol.specs.State.{State, OperandState, Flying, Version}
 use Rattle.tss_names.specs.Tasks.{IsTaken, IsOperandOf, OverTasks}
 

@@ -1,5 +1,6 @@
 -- The tasks of a run from their spawn on: their numbers, the gateway, the slots, and the order of decodes.
-use Rattle.std.specs.Prelude.{◌≡◌, ℕ, suc, ◌-◌, ◌<◌, ◌≤◌, ◌==◌, true, ◌⊎◌, if◌then◌else◌, List, [], ◌∷◌, map, length, slice_get, All, AllPairs, Any, Option, Some, None}
+use Rattle.std.specs.Prelude.{◌≡◌, ℕ, suc, ◌-◌, ◌<◌, ◌≤◌, ◌==◌, true, ◌⊎◌, if◌then◌else◌, List, [], ◌∷◌, map, length}
+use Rattle.std.specs.Prelude.{slice_get, All, AllPairs, Any, Option, Some, None}
 use Rattle.std.specs.FinMap.{get}
 use Rattle.tss_base.specs.declared.operand.OpName.{OpName}
 use Rattle.tss_base.specs.declared.operand.Operand.{Operand}
@@ -129,8 +130,8 @@ abbrev pub IsAcknowledging : State → OpName → Type 0
 IsAcknowledging S o =
     ((operand : Operand) × (get S.mail.decodes o ≡ Some operand)) ⊎ (get S.mail.acks o ≡ Some tt)
 
--- the gateway has operands of a window of tasks at most, all of them taken. An operand is in it exactly where its decode or its ack is
--- under way, and never are both. A decode has the operand of its name
+-- the gateway has operands of a window of tasks at most, all of them taken. An operand is in it exactly where its
+-- decode or its ack is under way, and never are both. A decode has the operand of its name
 pub record HasGateway (m : Machine) (ts : List Task) (S : State) : Type 0 where
   pub tasks : (ns : List ℕ) × AreGatewayTasks m.sizes.window S ns
   pub each : (o : OpName) → get S.gateway o ≡ Some tt → IsOfTaken ts S o
