@@ -22,7 +22,7 @@ use Rattle.tss_control.proofs.GroundworkMain.{keeps_main}
 use Rattle.tss_control.proofs.rounds.Facts.{Facts}
 
 -- a retire that may happen has its message
-pub retire_sent : (m : Machine) (S : State) (v : OpName) → IsEnabled m S (event.Retire v)
+retire_sent : (m : Machine) (S : State) (v : OpName) → IsEnabled m S (event.Retire v)
     → get S.mail.retires v ≡ Some tt
 unfolding is_enabled
 retire_sent m S v on =

@@ -16,7 +16,8 @@ use Rattle.tss_control.specs.Entries.{HasEntryOf, IsUsed, IsLeaving, IsAbsent, I
 use Rattle.tss_control.specs.Readers.{Arrivals, IsArrival, HasArrivals, HasReaders}
 use Rattle.tss_control.specs.Holders.{HasHolders}
 use Rattle.tss_control.specs.Control.{IsControlled}
-use Rattle.tss_control.proofs.rounds.Spawned.{IsLonger, on_still, on_back, writer_back, no_writer_still, among_object, named_spawned, decoded_spawned}
+use Rattle.tss_control.proofs.rounds.Spawned.{IsLonger, on_still, on_back, writer_back, no_writer_still, among_object}
+use Rattle.tss_control.proofs.rounds.Spawned.{named_spawned, decoded_spawned}
 
 module _ (ts us : List Task) (S : State) (long : IsLonger S.main.spawned ts us) (round : IsRounded S ts)
     (g : Arrivals) (h : IsControlled ts g S) where
@@ -74,7 +75,7 @@ module _ (ts us : List Task) (S : State) (long : IsLonger S.main.spawned ts us) 
       }
 
   -- all of them
-  pub HasChains-longer : HasChains us S
+  HasChains-longer : HasChains us S
   HasChains-longer = record {
     one = h.chains.one;
     opener = λ v y e. let p = h.chains.opener v y e in (p.0, long.still v p.0 p.1, p.2);
@@ -137,7 +138,7 @@ module _ (ts us : List Task) (S : State) (long : IsLonger S.main.spawned ts us) 
   }
 
   -- all of them
-  pub HasEntries-longer : HasEntries us S
+  HasEntries-longer : HasEntries us S
   HasEntries-longer = record {
     absent = λ o p at none. longer_absent p.object none;
     operand = λ b e there.
@@ -178,7 +179,7 @@ module _ (ts us : List Task) (S : State) (long : IsLonger S.main.spawned ts us) 
       }
 
   -- all of them
-  pub HasReaders-longer : HasReaders us g S
+  HasReaders-longer : HasReaders us g S
   HasReaders-longer = record {
     versions = longer_arrivals;
     apart = h.readers.apart;
@@ -196,7 +197,7 @@ module _ (ts us : List Task) (S : State) (long : IsLonger S.main.spawned ts us) 
   waits_spawned o waits = decoded_spawned S h.orderly o (ap is_decoded waits)
 
   -- all of them
-  pub HasHolders-longer : HasHolders us g S
+  HasHolders-longer : HasHolders us g S
   HasHolders-longer =
       let k = h.holders in
       let named = round.within.named in

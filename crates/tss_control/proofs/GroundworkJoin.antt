@@ -20,7 +20,7 @@ use Rattle.tss_control.proofs.GroundworkEmpty.{IsControlled-bare, IsBare-initial
 use Rattle.tss_control.proofs.rounds.Facts.{Facts, facts_of}
 
 -- what a group says of a round, of those that have come, and of a state
-abbrev pub GroupFact : Type 1
+abbrev GroupFact : Type 1
 GroupFact = List Task → Arrivals → State → Type 0
 
 -- the event keeps the group in this state, where it keeps operands in order
@@ -31,7 +31,7 @@ IsKept m S facts e X =
     → X (round_after_event m S facts.ts e) (arrivals_after_event S facts.g e) (after_event m S e)
 
 -- and in each controlled state
-abbrev pub IsGroupKept : Event → GroupFact → Type 0
+abbrev IsGroupKept : Event → GroupFact → Type 0
 IsGroupKept e X = (m : Machine) (S : State) (facts : Facts m S) → IsKept m S facts e X
 
 -- the event keeps each group, and operands in order

@@ -1,12 +1,14 @@
 -- Main's event: it changes nothing of which the control speaks but the round.
-use Rattle.std.proofs.Common.{◌≡◌, ℕ, true, ◌&&◌, List, [], ◌∷◌, ◌++◌, append-nil, Option, Some, None, is_none, Result, Ok, Err, refl, sym, subst, ap, ◌∙◌}
+use Rattle.std.proofs.Common.{◌≡◌, ℕ, true, ◌&&◌, List, [], ◌∷◌, ◌++◌, append-nil, Option, Some, None, is_none, Result}
+use Rattle.std.proofs.Common.{Ok, Err, refl, sym, subst, ap, ◌∙◌}
 use Rattle.std.specs.Prelude.{option_to_list}
 use Rattle.std.proofs.lemmas.Bool.{and_parts}
 use Rattle.tss_base.specs.declared.operand.Task.{Task}
 use Rattle.tss_base.specs.declared.machine.Machine.{Machine}
 use Rattle.tss_base.specs.declared.event.Event.TheVariants as event
 use Rattle.tss_model.specs.Spawn.{spawn_of}
-use Rattle.tss_model.specs.MainStep.{MainState, Call, ExitCall, Spawn, Barrier, Print, Await, Unknown, main_call, spawn_call, spawn_on}
+use Rattle.tss_model.specs.MainStep.{MainState, Call, ExitCall, Spawn, Barrier, Print, Await, Unknown, main_call}
+use Rattle.tss_model.specs.MainStep.{spawn_call, spawn_on}
 use Rattle.tss_protocol.specs.State.{State}
 use Rattle.tss_protocol.specs.Stations.{operand_at}
 use Rattle.tss_protocol.specs.MainEvent.{call_next, may_call, after_call, main_by}
@@ -106,19 +108,19 @@ kept_main m S (Some call) = kept_call S (main_call m.limits S.home S.main call)
 module _ (m : Machine) (ts : List Task) (g : Arrivals) (S : State) (round : IsRounded S ts) (h : IsControlled ts g S)
     (on : IsEnabled m S event.Main) where
   -- before the event, by the round after it
-  pub controlled_before_main : IsControlled (round_after_event m S ts event.Main) g S
+  controlled_before_main : IsControlled (round_after_event m S ts event.Main) g S
   unfolding is_enabled
   controlled_before_main =
       controlled_call m ts g S round h (call_next m S)
       (and_parts (is_none S.main.ending && is_none S.trap) (may_call S (call_next m S)) on).1
 
   -- main leaves the rest
-  pub kept_after_main : KeepsControl S (after_event m S event.Main)
+  kept_after_main : KeepsControl S (after_event m S event.Main)
   unfolding after_event
   kept_after_main = kept_main m S (call_next m S)
 
   -- versions and their messages
-  pub HasChains-main : HasChains (round_after_event m S ts event.Main) (after_event m S event.Main)
+  HasChains-main : HasChains (round_after_event m S ts event.Main) (after_event m S event.Main)
   HasChains-main =
       let k = kept_after_main in
       HasChains-same (round_after_event m S ts event.Main) S (after_event m S event.Main)
@@ -130,7 +132,7 @@ module _ (m : Machine) (ts : List Task) (g : Arrivals) (S : State) (round : IsRo
       controlled_before_main.chains
 
   -- entries
-  pub HasEntries-main : HasEntries (round_after_event m S ts event.Main) (after_event m S event.Main)
+  HasEntries-main : HasEntries (round_after_event m S ts event.Main) (after_event m S event.Main)
   HasEntries-main =
       let k = kept_after_main in
       HasEntries-same (round_after_event m S ts event.Main) S (after_event m S event.Main)
@@ -146,7 +148,7 @@ module _ (m : Machine) (ts : List Task) (g : Arrivals) (S : State) (round : IsRo
       controlled_before_main.entries
 
   -- asking
-  pub HasRetirement-main : HasRetirement (after_event m S event.Main)
+  HasRetirement-main : HasRetirement (after_event m S event.Main)
   HasRetirement-main =
       let k = kept_after_main in
       HasRetirement-same S (after_event m S event.Main) k.versions k.entries (λ i. (k.mail i).nacks) h.retirement
@@ -165,7 +167,7 @@ module _ (m : Machine) (ts : List Task) (g : Arrivals) (S : State) (round : IsRo
       controlled_before_main.readers
 
   -- what operands hold
-  pub HasHolders-main : HasRunners (after_event m S event.Main)
+  HasHolders-main : HasRunners (after_event m S event.Main)
       → HasHolders (round_after_event m S ts event.Main) g (after_event m S event.Main)
   HasHolders-main runners =
       let k = kept_after_main in

@@ -34,7 +34,7 @@ pub record IsGrounded (m : Machine) (all ts : List Task) (S : State) : Type 0 wh
   pub spawned : AreOfSpawned all ts
 
 -- tasks are numbered by it
-pub grounded_numbers : (m : Machine) (all ts : List Task) (S : State) → IsGrounded m all ts S → HasTaskNumbers m all S
+grounded_numbers : (m : Machine) (all ts : List Task) (S : State) → IsGrounded m all ts S → HasTaskNumbers m all S
 grounded_numbers m all ts S h = h.staged.0
 
 -- every enabled event keeps it
@@ -90,11 +90,11 @@ IsKeptOnGround P =
     → P m (spawned_after_event m S all e) (round_after_event m S ts e) (arrivals_after_event S g e) (after_event m S e)
 
 -- it holds with the groundwork
-abbrev pub OnGround : RoundFact → RoundFact
+abbrev OnGround : RoundFact → RoundFact
 OnGround P m all ts g S = IsGrounded m all ts S × P m all ts g S
 
 -- so a list of events keeps both
-pub kept_on_ground : (P : RoundFact) → IsKeptOnGround P → (m : Machine) (es : List Event) (all ts : List Task)
+kept_on_ground : (P : RoundFact) → IsKeptOnGround P → (m : Machine) (es : List Event) (all ts : List Task)
     (g : Arrivals) (S T : State) → OnGround P m all ts g S → after_events m S es ≡ Some T
     → OnGround P m (spawned_after m S all es) (round_from m S ts es) (arrivals_from m S g es) T
 unfolding after_events spawned_after round_from arrivals_from

@@ -4,7 +4,8 @@ use Rattle.tss_base.specs.declared.event.Event.{Event}
 use Rattle.tss_base.specs.declared.event.Event.TheVariants as event
 use Rattle.tss_protocol.specs.State.{State}
 use Rattle.tss_control.specs.Holders.{HasHolders}
-use Rattle.tss_control.proofs.holders.Quiet.{HasHolders-ack, HasHolders-start, HasHolders-exec, HasHolders-idle, HasHolders-copy, HasHolders-gone}
+use Rattle.tss_control.proofs.holders.Quiet.{HasHolders-ack, HasHolders-start, HasHolders-exec, HasHolders-idle}
+use Rattle.tss_control.proofs.holders.Quiet.{HasHolders-copy, HasHolders-gone}
 use Rattle.tss_control.proofs.holders.Taken.{HasHolders-take, HasHolders-decode}
 use Rattle.tss_control.proofs.holders.Parted.{HasHolders-bye}
 use Rattle.tss_control.proofs.holders.Finished.{HasHolders-finish}

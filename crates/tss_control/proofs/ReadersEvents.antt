@@ -6,7 +6,8 @@ use Rattle.tss_protocol.specs.State.{State}
 use Rattle.tss_control.specs.Readers.{HasReaders}
 use Rattle.tss_control.proofs.GroundworkJoin.{IsKept}
 use Rattle.tss_control.proofs.GroundworkMain.{HasReaders-main}
-use Rattle.tss_control.proofs.readers.Quiet.{HasReaders-ack, HasReaders-start, HasReaders-exec, HasReaders-idle, HasReaders-copy, HasReaders-gone}
+use Rattle.tss_control.proofs.readers.Quiet.{HasReaders-ack, HasReaders-start, HasReaders-exec, HasReaders-idle}
+use Rattle.tss_control.proofs.readers.Quiet.{HasReaders-copy, HasReaders-gone}
 use Rattle.tss_control.proofs.readers.Tasks.{HasReaders-decode, HasReaders-take}
 use Rattle.tss_control.proofs.readers.Leaving.{HasReaders-finish, HasReaders-bye}
 use Rattle.tss_control.proofs.readers.Settled.{HasReaders-nack}

@@ -11,7 +11,8 @@ use Rattle.tss_model.specs.Access.{writes}
 use Rattle.tss_protocol.specs.Mail.{Source, ReleaseContents}
 use Rattle.tss_protocol.specs.State.{State, OperandState, Version}
 use Rattle.tss_protocol.specs.Stations.{operand_at}
-use Rattle.tss_phases.specs.Phase.{Phase, Decoding, Sent, Waiting, Told, Ready, Releasing, Leaving, Promised, Left, phase_of}
+use Rattle.tss_phases.specs.Phase.{Phase, Decoding, Sent, Waiting, Told, Ready, Releasing, Leaving, Promised, Left}
+use Rattle.tss_phases.specs.Phase.{phase_of}
 use Rattle.tss_phases.specs.Openers.{version_opener}
 use Rattle.tss_control.specs.Members.{operand_among}
 use Rattle.tss_control.specs.Readers.{Arrivals, Has}

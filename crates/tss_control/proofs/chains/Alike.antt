@@ -11,8 +11,10 @@ use Rattle.tss_base.specs.declared.operand.Task.{Task}
 use Rattle.tss_base.specs.declared.marks.Follow.{Follow}
 use Rattle.tss_protocol.specs.Mail.{OpenContents}
 use Rattle.tss_protocol.specs.State.{State, Version}
-use Rattle.tss_control.specs.Members.{IsOn, NoWriterBetween, IsVersionOf, IsOpenOf, IsMember, registered_of, opening_reader, uses_of, total}
-use Rattle.tss_control.specs.Chains.{IsAfter, IsFollowed, IsLinked, IsOver, HasStorage, OpensFirst, OpensAfter, IsOpenInOrder, IsUseInOrder, HasChains}
+use Rattle.tss_control.specs.Members.{IsOn, NoWriterBetween, IsVersionOf, IsOpenOf, IsMember, registered_of}
+use Rattle.tss_control.specs.Members.{opening_reader, uses_of, total}
+use Rattle.tss_control.specs.Chains.{IsAfter, IsFollowed, IsLinked, IsOver, HasStorage, OpensFirst, OpensAfter}
+use Rattle.tss_control.specs.Chains.{IsOpenInOrder, IsUseInOrder, HasChains}
 
 -- ---- what is alike
 
@@ -72,12 +74,12 @@ module _ (ts : List Task) (S T : State) (a : AreChainsAlike S T) where
   open_on x v m = (m.0, ap (λ os. get os v) a.opens ∙ m.1, m.2)
 
   -- members of one are members of the other
-  pub member_back : (x : Range) (v : OpName) → IsMember T x v → IsMember S x v
+  member_back : (x : Range) (v : OpName) → IsMember T x v → IsMember S x v
   member_back x v (inl m) = inl (version_back x v m)
   member_back x v (inr m) = inr (open_back x v m)
 
   -- and the other way round
-  pub member_on : (x : Range) (v : OpName) → IsMember S x v → IsMember T x v
+  member_on : (x : Range) (v : OpName) → IsMember S x v → IsMember T x v
   member_on x v (inl m) = inl (version_on x v m)
   member_on x v (inr m) = inr (open_on x v m)
 

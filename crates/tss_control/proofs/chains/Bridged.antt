@@ -1,5 +1,6 @@
 -- The neighbours of the versions that are left where a version has given way.
-use Rattle.std.proofs.Common.{◌≡◌, ◌≢◌, ◌<◌, ◌≤◌, ◌⊎◌, List, Option, Some, None, refl, sym, ap, ◌∙◌, subst, inl, inr, arith}
+use Rattle.std.proofs.Common.{◌≡◌, ◌≢◌, ◌<◌, ◌≤◌, ◌⊎◌, List, Option, Some, None, refl, sym, ap, ◌∙◌, subst, inl, inr}
+use Rattle.std.proofs.Common.{arith}
 use Rattle.std.specs.FinMap.{get}
 use Rattle.std.proofs.lemmas.Option.{none-some, same_Some}
 use Rattle.tss_base.specs.declared.range.Range.{Range}
@@ -13,7 +14,14 @@ use Rattle.tss_control.specs.Members.{IsVersionOf, total}
 use Rattle.tss_control.specs.Chains.{IsAfter, IsFollowed, IsLinked, HasChains}
 use Rattle.tss_control.proofs.chains.Numbers.{below_self, crossed, meets_at}
 use Rattle.tss_protocol.proofs.UnlinkedVersions.{bridged}
-use Rattle.tss_control.proofs.chains.GivingWay.{Departs, follows as left_follows, next_object as left_next_object, next_back as left_next_back, before_is as left_before_is, before_to as left_before_to, IsNextOne as left_IsNextOne, IsOneBefore as left_IsOneBefore, IsOther as left_IsOther, decide_named as left_decide_named, same_object_by as left_same_object_by, version_before as left_version_before, version_stays as left_version_stays, total_same as left_total_same}
+use Rattle.tss_control.proofs.chains.GivingWay.{Departs, follows as left_follows, next_object as left_next_object}
+use Rattle.tss_control.proofs.chains.GivingWay.{next_back as left_next_back, before_is as left_before_is}
+use Rattle.tss_control.proofs.chains.GivingWay.{before_to as left_before_to, IsNextOne as left_IsNextOne}
+use Rattle.tss_control.proofs.chains.GivingWay.{IsOneBefore as left_IsOneBefore, IsOther as left_IsOther}
+use Rattle.tss_control.proofs.chains.GivingWay.{decide_named as left_decide_named}
+use Rattle.tss_control.proofs.chains.GivingWay.{same_object_by as left_same_object_by}
+use Rattle.tss_control.proofs.chains.GivingWay.{version_before as left_version_before}
+use Rattle.tss_control.proofs.chains.GivingWay.{version_stays as left_version_stays, total_same as left_total_same}
 
 module _ (ts : List Task) (S T : State) (h : HasChains ts S) (v : OpName) (x : Version) (f : Follow) (y z : Version)
     (d : Departs S T v x f y z) where

@@ -10,8 +10,10 @@ use Rattle.tss_maps.proofs.Keys.{name_order}
 use Rattle.tss_maps.proofs.Changes.{beside_inserted, from_inserted}
 use Rattle.tss_protocol.specs.Mail.{OpenContents}
 use Rattle.tss_protocol.specs.State.{State, Entry, Version}
-use Rattle.tss_control.specs.Members.{IsVersionOf, IsMember, registered_of, opening_reader, uses_of, total, NoWriterBetween}
-use Rattle.tss_control.specs.Chains.{IsFollowed, IsLinked, IsOver, HasStorage, OpensAfter, IsOpenInOrder, IsUseInOrder, HasChains, FollowsAs}
+use Rattle.tss_control.specs.Members.{IsVersionOf, IsMember, registered_of, opening_reader, uses_of, total}
+use Rattle.tss_control.specs.Members.{NoWriterBetween}
+use Rattle.tss_control.specs.Chains.{IsFollowed, IsLinked, IsOver, HasStorage, OpensAfter, IsOpenInOrder, IsUseInOrder}
+use Rattle.tss_control.specs.Chains.{HasChains, FollowsAs}
 use Rattle.tss_control.specs.Entries.{IsLive}
 use Rattle.tss_control.proofs.chains.Numbers.{itself, apart_below, at_most}
 
@@ -29,7 +31,7 @@ module _ (ts : List Task) (S T : State) (h : HasChains ts S) (k : KeepsVersions 
   version_was w y e = sym (ap (λ m. get m w) k.versions) ∙ e
 
   -- and the other way round
-  pub version_is : (w : OpName) (y : Version) → get S.versions w ≡ Some y → get T.versions w ≡ Some y
+  version_is : (w : OpName) (y : Version) → get S.versions w ≡ Some y → get T.versions w ≡ Some y
   version_is w y e = ap (λ m. get m w) k.versions ∙ e
 
   -- with its object
@@ -108,7 +110,7 @@ module _ (ts : List Task) (S T : State) (h : HasChains ts S) (o : OpName) (c : O
   kept = record { versions = versions; all = λ v y f e b. total_beside v (old_apart v y e) }
 
   -- a member is the new one, or was one
-  pub member_back : (r : Range) (w : OpName) → IsMember T r w → ((w ≡ o) × (c.operand.object ≡ r)) ⊎ IsMember S r w
+  member_back : (r : Range) (w : OpName) → IsMember T r w → ((w ≡ o) × (c.operand.object ≡ r)) ⊎ IsMember S r w
   member_back r w (inl m) = inr (inl (versions_were ts S T h kept r w m))
   member_back r w (inr m) =
       elim (from_inserted name_order S.mail.opens o c w m.0 (sym (ap (λ os. get os w) opens) ∙ m.1)) [
@@ -117,7 +119,7 @@ module _ (ts : List Task) (S T : State) (h : HasChains ts S) (o : OpName) (c : O
       ]
 
   -- and each that was one still is
-  pub member_on : (r : Range) (w : OpName) → IsMember S r w → IsMember T r w
+  member_on : (r : Range) (w : OpName) → IsMember S r w → IsMember T r w
   member_on r w (inl m) = inl (m.0, version_is ts S T h kept w m.0 m.1, m.2)
   member_on r w (inr m) =
       inr (

@@ -1,5 +1,6 @@
 -- The chains after a decode, which sends an open or a use.
-use Rattle.std.proofs.Common.{◌≡◌, ◌≢◌, ℕ, ◌+◌, ◌≤◌, ◌<◌, false, List, Option, Some, None, refl, sym, ap, ◌∙◌, subst, inl, inr, arith}
+use Rattle.std.proofs.Common.{◌≡◌, ◌≢◌, ℕ, ◌+◌, ◌≤◌, ◌<◌, false, List, Option, Some, None, refl, sym, ap, ◌∙◌, subst}
+use Rattle.std.proofs.Common.{inl, inr, arith}
 use Rattle.std.specs.FinMap.{get, insert}
 use Rattle.std.proofs.lemmas.Option.{none-some, same_Some}
 use Rattle.tss_base.specs.declared.range.Range.{Range}
@@ -24,7 +25,8 @@ use Rattle.tss_protocol.specs.UnitMachine.{IsEnabled, is_enabled, can_decode_mes
 use Rattle.tss_phases.proofs.Received.{other_name}
 use Rattle.tss_phases.proofs.Tests.{something}
 use Rattle.tss_control.proofs.rounds.EntryOf.{no_entry_at}
-use Rattle.tss_control.specs.Members.{operand_among, IsMember, registered_of, opening_reader, uses_of, total, NoWriterBetween}
+use Rattle.tss_control.specs.Members.{operand_among, IsMember, registered_of, opening_reader, uses_of, total}
+use Rattle.tss_control.specs.Members.{NoWriterBetween}
 use Rattle.tss_control.specs.Chains.{IsFollowed, OpensAfter, IsOpenInOrder, IsUseInOrder, HasChains, FollowsAs}
 use Rattle.tss_control.specs.Entries.{IsLive}
 use Rattle.tss_control.proofs.chains.Numbers.{crossed}
@@ -33,7 +35,8 @@ use Rattle.tss_control.proofs.rounds.EntriesDecodeOpen.{DecodesOpen}
 use Rattle.tss_control.proofs.rounds.EntriesDecode.{sends_first, sends_beside, sends_over, sends_use, entry_awake}
 use Rattle.tss_protocol.proofs.TurnLemmas.{decode_in_turn}
 use Rattle.tss_control.proofs.rounds.DecodeFacts.{members_earlier, no_writer_since}
-use Rattle.tss_control.proofs.chains.Decode.{KeepsVersions, version_was, versions_were, linked_left, stored_left, chains_opened, opens_behind, opens_nothing, opens_behind_latest}
+use Rattle.tss_control.proofs.chains.Decode.{KeepsVersions, version_was, versions_were, linked_left, stored_left}
+use Rattle.tss_control.proofs.chains.Decode.{chains_opened, opens_behind, opens_nothing, opens_behind_latest}
 use Rattle.tss_control.proofs.rounds.Facts.{Facts}
 
 plus_none : (a b : ℕ) → a ≡ b + 0 → a ≡ b
@@ -117,7 +120,7 @@ module _ (ts : List Task) (S T : State) (h : HasChains ts S) (o : OpName) (x : R
   }
 
   -- the chains with the new use, where that was in order before
-  pub chains_directed : IsUseInOrder ts S o e.latest → HasChains ts T
+  chains_directed : IsUseInOrder ts S o e.latest → HasChains ts T
   chains_directed new = record {
     one = λ r v w a b same. h.one r v w (member_back r v a) (member_back r w b) same;
     opener = λ v y at. h.opener v y (version_was ts S T h kept v y at);

@@ -1,5 +1,6 @@
 -- The storages of the versions that are left where a version has given way, and all of their chains.
-use Rattle.std.proofs.Common.{◌≡◌, ◌≢◌, ◌<◌, ◌≤◌, ◌⊎◌, List, Some, None, refl, sym, ap, ◌∙◌, subst, inl, inr, arith, true≢false}
+use Rattle.std.proofs.Common.{◌≡◌, ◌≢◌, ◌<◌, ◌≤◌, ◌⊎◌, List, Some, None, refl, sym, ap, ◌∙◌, subst, inl, inr, arith}
+use Rattle.std.proofs.Common.{true≢false}
 use Rattle.std.specs.FinMap.{get}
 use Rattle.std.proofs.lemmas.Option.{none-some, same_Some}
 use Rattle.tss_base.specs.declared.range.Range.{Range}
@@ -13,12 +14,27 @@ use Rattle.tss_protocol.specs.Mail.{Home, OpenContents}
 use Rattle.tss_protocol.specs.State.{State, Version}
 use Rattle.tss_protocol.specs.Versions.{followed_by}
 use Rattle.tss_control.specs.Members.{IsOn, NoWriterBetween, IsVersionOf, IsMember, total}
-use Rattle.tss_control.specs.Chains.{IsAfter, IsFollowed, IsLinked, IsOver, HasStorage, IsOpenInOrder, IsUseInOrder, HasChains}
+use Rattle.tss_control.specs.Chains.{IsAfter, IsFollowed, IsLinked, IsOver, HasStorage, IsOpenInOrder, IsUseInOrder}
+use Rattle.tss_control.specs.Chains.{HasChains}
 use Rattle.tss_control.proofs.chains.Numbers.{below_self, crossed}
 use Rattle.tss_control.proofs.chains.Alike.{object_of_member}
 use Rattle.tss_protocol.proofs.UnlinkedVersions.{bridged}
-use Rattle.tss_control.proofs.chains.GivingWay.{Departs, TakesStorage, follows as left_follows, next_object as left_next_object, next_back as left_next_back, before_is as left_before_is, before_to as left_before_to, IsNextOne as left_IsNextOne, IsOneBefore as left_IsOneBefore, IsOther as left_IsOther, Came as left_Came, came as left_came, same_object as left_same_object, version_before as left_version_before, member_before as left_member_before, member_later as left_member_later, total_same as left_total_same}
-use Rattle.tss_control.proofs.chains.Bridged.{successor_stays as left_successor_stays, next_same_object as left_next_same_object, next_predecessor as left_next_predecessor, next_successor as left_next_successor, next_linked as left_next_linked, before_successor as left_before_successor, before_linked as left_before_linked, other_not_v as left_other_not_v, other_not_before as left_other_not_before, other_linked as left_other_linked}
+use Rattle.tss_control.proofs.chains.GivingWay.{Departs, TakesStorage, follows as left_follows}
+use Rattle.tss_control.proofs.chains.GivingWay.{next_object as left_next_object, next_back as left_next_back}
+use Rattle.tss_control.proofs.chains.GivingWay.{before_is as left_before_is, before_to as left_before_to}
+use Rattle.tss_control.proofs.chains.GivingWay.{IsNextOne as left_IsNextOne, IsOneBefore as left_IsOneBefore}
+use Rattle.tss_control.proofs.chains.GivingWay.{IsOther as left_IsOther, Came as left_Came, came as left_came}
+use Rattle.tss_control.proofs.chains.GivingWay.{same_object as left_same_object, version_before as left_version_before}
+use Rattle.tss_control.proofs.chains.GivingWay.{member_before as left_member_before, member_later as left_member_later}
+use Rattle.tss_control.proofs.chains.GivingWay.{total_same as left_total_same}
+use Rattle.tss_control.proofs.chains.Bridged.{successor_stays as left_successor_stays}
+use Rattle.tss_control.proofs.chains.Bridged.{next_same_object as left_next_same_object}
+use Rattle.tss_control.proofs.chains.Bridged.{next_predecessor as left_next_predecessor}
+use Rattle.tss_control.proofs.chains.Bridged.{next_successor as left_next_successor, next_linked as left_next_linked}
+use Rattle.tss_control.proofs.chains.Bridged.{before_successor as left_before_successor}
+use Rattle.tss_control.proofs.chains.Bridged.{before_linked as left_before_linked, other_not_v as left_other_not_v}
+use Rattle.tss_control.proofs.chains.Bridged.{other_not_before as left_other_not_before}
+use Rattle.tss_control.proofs.chains.Bridged.{other_linked as left_other_linked}
 
 module _ (ts : List Task) (S T : State) (h : HasChains ts S) (v : OpName) (x : Version) (f : Follow) (y z : Version)
     (d : Departs S T v x f y z) where

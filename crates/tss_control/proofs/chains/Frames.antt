@@ -9,14 +9,15 @@ use Rattle.tss_base.specs.declared.event.Event.TheVariants as event
 use Rattle.tss_protocol.specs.Mail.{IdleContents, GoneContents, Message}
 use Rattle.tss_protocol.specs.State.{State, CopyState}
 use Rattle.tss_protocol.specs.Buffers.{is_last_piece}
-use Rattle.tss_protocol.specs.UnitMachine.{after_event, with_sent, without, idle_message_taken, after_copy, gone_message_taken}
+use Rattle.tss_protocol.specs.UnitMachine.{after_event, with_sent, without, idle_message_taken, after_copy}
+use Rattle.tss_protocol.specs.UnitMachine.{gone_message_taken}
 use Rattle.tss_control.specs.Chains.{HasChains}
 use Rattle.tss_protocol.proofs.SentLemmas.{AllSent, IsLater, posted_all-later, after_idle-later, sent_by_copy-later}
 use Rattle.tss_control.proofs.rounds.EntriesQuiet.{IsQuietEvent, quiet_objects}
 use Rattle.tss_control.proofs.chains.Alike.{KeepsChainMaps, alike_from_maps, HasChains-alike}
 
 -- messages other than decode, ack, open and use leave the chains' maps
-pub chain_maps_sent : (S T : State) (ms : List Message) → KeepsChainMaps S T → AllSent IsLater ms
+chain_maps_sent : (S T : State) (ms : List Message) → KeepsChainMaps S T → AllSent IsLater ms
     → KeepsChainMaps S (with_sent T ms)
 chain_maps_sent S T ms k later =
     let same = posted_all-later T.mail ms later in

@@ -186,7 +186,7 @@ module _ (ts : List Task) (S T : State) (h : HasChains ts S) (v : OpName) (x : V
   version_later_by w old e far apart (inr n) = (old, d.gave.others w far apart n ∙ e)
 
   -- a version other than v is still there
-  pub version_later : (w : OpName) (old : Version) → get S.versions w ≡ Some old → w ≢ v
+  version_later : (w : OpName) (old : Version) → get S.versions w ≡ Some old → w ≢ v
       → (new : Version) × (get T.versions w ≡ Some new)
   version_later w old e far = elim (decide_key name_order w f.version) [
     | inl is ↦ (z, ap (λ q. get T.versions q) is ∙ d.gave.next)

@@ -1,5 +1,6 @@
 -- A new version in its chain, and the version that it follows.
-use Rattle.std.proofs.Common.{◌≡◌, ◌≢◌, ◌≤◌, ◌<◌, ◌⊎◌, List, Option, Some, None, refl, sym, ap, ◌∙◌, subst, inl, inr, arith}
+use Rattle.std.proofs.Common.{◌≡◌, ◌≢◌, ◌≤◌, ◌<◌, ◌⊎◌, List, Option, Some, None, refl, sym, ap, ◌∙◌, subst, inl, inr}
+use Rattle.std.proofs.Common.{arith}
 use Rattle.std.specs.FinMap.{get}
 use Rattle.std.proofs.lemmas.Option.{none-some, same_Some}
 use Rattle.tss_base.specs.declared.range.Range.{Range}
@@ -15,7 +16,10 @@ use Rattle.tss_protocol.specs.State.{State, Version}
 use Rattle.tss_control.specs.Members.{IsOn, NoWriterBetween, IsVersionOf, IsMember, total}
 use Rattle.tss_control.specs.Chains.{IsAfter, IsFollowed, IsLinked, IsOver, HasStorage, IsOpenInOrder, HasChains}
 use Rattle.tss_control.proofs.chains.Numbers.{below_self, at_most}
-use Rattle.tss_control.proofs.chains.Registered.{Registers, followed_version, link_to, linked_to, order as opened_order, old_apart as opened_old_apart, front_object as opened_front_object, version_back as opened_version_back, member_back as opened_member_back, total_same as opened_total_same}
+use Rattle.tss_control.proofs.chains.Registered.{Registers, followed_version, link_to, linked_to, order as opened_order}
+use Rattle.tss_control.proofs.chains.Registered.{old_apart as opened_old_apart, front_object as opened_front_object}
+use Rattle.tss_control.proofs.chains.Registered.{version_back as opened_version_back, member_back as opened_member_back}
+use Rattle.tss_control.proofs.chains.Registered.{total_same as opened_total_same}
 
 module _ (ts : List Task) (S T : State) (h : HasChains ts S) (o : OpName) (c : OpenContents) (n : Version)
     (d : Registers S T o c n) where

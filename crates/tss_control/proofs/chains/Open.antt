@@ -16,8 +16,10 @@ use Rattle.tss_maps.proofs.Keys.{name_order, decide_key}
 use Rattle.tss_maps.proofs.Changes.{at_inserted, beside_inserted}
 use Rattle.tss_protocol.specs.Mail.{Home, OpenContents, taken}
 use Rattle.tss_protocol.specs.State.{State, Version}
-use Rattle.tss_protocol.specs.Versions.{put_version, new_version, first_version, followed, settled, opened_how, opened_by, after_open, is_followable}
-use Rattle.tss_protocol.specs.UnitMachine.{IsEnabled, is_enabled, can_open_message, after_event, with_versioned, without, open_message_taken}
+use Rattle.tss_protocol.specs.Versions.{put_version, new_version, first_version, followed, settled, opened_how}
+use Rattle.tss_protocol.specs.Versions.{opened_by, after_open, is_followable}
+use Rattle.tss_protocol.specs.UnitMachine.{IsEnabled, is_enabled, can_open_message, after_event, with_versioned}
+use Rattle.tss_protocol.specs.UnitMachine.{without, open_message_taken}
 use Rattle.tss_control.specs.Members.{first_reader}
 use Rattle.tss_control.specs.Chains.{HasChains}
 use Rattle.tss_protocol.specs.Settled.{IsSettled}
@@ -32,7 +34,7 @@ use Rattle.tss_control.proofs.rounds.Facts.{Facts}
 -- ---- the first version of an object
 
 -- what a version says that follows nothing
-pub record IsFirstVersion (o : OpName) (c : OpenContents) (n : Version) : Type 0 where
+record IsFirstVersion (o : OpName) (c : OpenContents) (n : Version) : Type 0 where
   pub object : n.object ≡ c.operand.object
   pub storage : n.storage ≡ c.storage
   pub predecessor : n.predecessor ≡ None

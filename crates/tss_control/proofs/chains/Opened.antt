@@ -12,10 +12,20 @@ use Rattle.tss_maps.proofs.Changes.{from_removed}
 use Rattle.tss_protocol.specs.Mail.{OpenContents}
 use Rattle.tss_protocol.specs.State.{State, Version}
 use Rattle.tss_control.specs.Members.{operand_among, IsVersionOf, IsMember, total}
-use Rattle.tss_control.specs.Chains.{IsAfter, IsFollowed, IsLinked, IsOver, HasStorage, IsOpenInOrder, IsUseInOrder, HasChains}
+use Rattle.tss_control.specs.Chains.{IsAfter, IsFollowed, IsLinked, IsOver, HasStorage, IsOpenInOrder, IsUseInOrder}
+use Rattle.tss_control.specs.Chains.{HasChains}
 use Rattle.tss_control.proofs.chains.Numbers.{crossed, meets_at, below, at_most}
-use Rattle.tss_control.proofs.chains.Registered.{Registers, linked_to, order as opened_order, old_apart as opened_old_apart, front_object as opened_front_object, front_none as opened_front_none, IsNew as opened_IsNew, IsFront as opened_IsFront, IsOld as opened_IsOld, StillVersion as opened_StillVersion, came as opened_came, version_back as opened_version_back, member_back as opened_member_back, still as opened_still, member_on as opened_member_on, total_same as opened_total_same}
-use Rattle.tss_control.proofs.chains.NewVersion.{new_linked as opened_new_linked, new_stored as opened_new_stored, front_linked as opened_front_linked, front_stored as opened_front_stored}
+use Rattle.tss_control.proofs.chains.Registered.{Registers, linked_to, order as opened_order}
+use Rattle.tss_control.proofs.chains.Registered.{old_apart as opened_old_apart, front_object as opened_front_object}
+use Rattle.tss_control.proofs.chains.Registered.{front_none as opened_front_none, IsNew as opened_IsNew}
+use Rattle.tss_control.proofs.chains.Registered.{IsFront as opened_IsFront, IsOld as opened_IsOld}
+use Rattle.tss_control.proofs.chains.Registered.{StillVersion as opened_StillVersion, came as opened_came}
+use Rattle.tss_control.proofs.chains.Registered.{version_back as opened_version_back, member_back as opened_member_back}
+use Rattle.tss_control.proofs.chains.Registered.{still as opened_still, member_on as opened_member_on}
+use Rattle.tss_control.proofs.chains.Registered.{total_same as opened_total_same}
+use Rattle.tss_control.proofs.chains.NewVersion.{new_linked as opened_new_linked, new_stored as opened_new_stored}
+use Rattle.tss_control.proofs.chains.NewVersion.{front_linked as opened_front_linked}
+use Rattle.tss_control.proofs.chains.NewVersion.{front_stored as opened_front_stored}
 
 module _ (ts : List Task) (S T : State) (h : HasChains ts S) (o : OpName) (c : OpenContents) (n : Version)
     (d : Registers S T o c n) where

@@ -1,5 +1,6 @@
 -- The chains where an open has been taken and its version is registered, before the version that it follows is settled.
-use Rattle.std.proofs.Common.{◌≡◌, ◌≢◌, ℕ, ◌+◌, ◌⊎◌, false, List, Option, Some, None, refl, sym, ap, ◌∙◌, subst, inl, inr, arith}
+use Rattle.std.proofs.Common.{◌≡◌, ◌≢◌, ℕ, ◌+◌, ◌⊎◌, false, List, Option, Some, None, refl, sym, ap, ◌∙◌, subst, inl}
+use Rattle.std.proofs.Common.{inr, arith}
 use Rattle.std.specs.FinMap.{get, remove}
 use Rattle.std.proofs.lemmas.Option.{none-some, same_Some}
 use Rattle.tss_base.specs.declared.range.Range.{Range}
@@ -10,7 +11,8 @@ use Rattle.tss_maps.proofs.Keys.{name_order, decide_key}
 use Rattle.tss_maps.proofs.Changes.{at_removed, beside_removed, from_removed, decide_get}
 use Rattle.tss_protocol.specs.Mail.{OpenContents}
 use Rattle.tss_protocol.specs.State.{State, Version}
-use Rattle.tss_control.specs.Members.{IsVersionOf, IsOpenOf, IsMember, registered_of, first_reader, opening_reader, uses_of, total}
+use Rattle.tss_control.specs.Members.{IsVersionOf, IsOpenOf, IsMember, registered_of, first_reader, opening_reader}
+use Rattle.tss_control.specs.Members.{uses_of, total}
 use Rattle.tss_control.specs.Chains.{IsOpenInOrder, HasChains}
 use Rattle.tss_control.proofs.chains.Numbers.{crossed}
 use Rattle.tss_control.proofs.chains.Alike.{object_of_member}
@@ -49,7 +51,7 @@ pub record Registers (S T : State) (o : OpName) (c : OpenContents) (n : Version)
   pub unproduced : c.storage ≡ None → n.produced ≡ false
 
 -- a first reader counts as much as its open did
-pub swap_sum : (r k u : ℕ) → r ≡ k → r + 0 + u ≡ 0 + k + u
+swap_sum : (r k u : ℕ) → r ≡ k → r + 0 + u ≡ 0 + k + u
 swap_sum r k u e = omega (arith, e)
 
 module _ (ts : List Task) (S T : State) (h : HasChains ts S) (o : OpName) (c : OpenContents) (n : Version)

@@ -1,5 +1,6 @@
 -- The chains after a release, and after a nack.
-use Rattle.std.proofs.Common.{◌≡◌, ◌≤◌, Bool, true, false, List, Option, Some, None, refl, sym, ap, ◌∙◌, subst, inl, inr}
+use Rattle.std.proofs.Common.{◌≡◌, ◌≤◌, Bool, true, false, List, Option, Some, None, refl, sym, ap, ◌∙◌, subst, inl}
+use Rattle.std.proofs.Common.{inr}
 use Rattle.std.specs.FinMap.{get}
 use Rattle.std.proofs.lemmas.Option.{none-some, same_Some}
 use Rattle.tss_base.specs.declared.operand.OpName.{OpName}
@@ -11,8 +12,10 @@ use Rattle.tss_maps.proofs.Changes.{at_inserted, from_inserted}
 use Rattle.tss_model.specs.Access.{writes}
 use Rattle.tss_protocol.specs.Mail.{ReleaseContents, taken}
 use Rattle.tss_protocol.specs.State.{State, Version}
-use Rattle.tss_protocol.specs.Versions.{put_version, produced_now, released_once, settled, released_by, released_at, after_release, refused_once, nacked_at, after_nack}
-use Rattle.tss_protocol.specs.UnitMachine.{after_event, with_versioned, without, release_message_taken, nack_message_taken}
+use Rattle.tss_protocol.specs.Versions.{put_version, produced_now, released_once, settled, released_by, released_at}
+use Rattle.tss_protocol.specs.Versions.{after_release, refused_once, nacked_at, after_nack}
+use Rattle.tss_protocol.specs.UnitMachine.{after_event, with_versioned, without, release_message_taken}
+use Rattle.tss_protocol.specs.UnitMachine.{nack_message_taken}
 use Rattle.tss_phases.specs.Phase.{has_released}
 use Rattle.tss_control.specs.Chains.{HasChains}
 use Rattle.tss_control.specs.Entries.{HasRetirement}
@@ -41,7 +44,7 @@ module _ (ts : List Task) (S T : State) (c : HasChains ts S) (h : HasRetirement 
     (there : get S.versions v ≡ Some x) (like : AreAlike x y) (registered : y.registered ≡ x.registered)
     (few : y.released ≤ y.registered) where
   -- the chains after it
-  pub HasChains-written_settled : T.versions ≡ (settled (put_version S.versions v y) v).part
+  HasChains-written_settled : T.versions ≡ (settled (put_version S.versions v y) v).part
       → T.mail.opens ≡ S.mail.opens → T.mail.uses ≡ S.mail.uses → HasChains ts T
   HasChains-written_settled part opens uses =
       let vs = put_version S.versions v y in

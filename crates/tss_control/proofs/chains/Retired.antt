@@ -1,5 +1,6 @@
 -- The chains after a retire: its version was the only one of its object, and nothing was directed to it.
-use Rattle.std.proofs.Common.{◌≡◌, ◌≢◌, ◌+◌, Bool, true, false, List, Option, Some, None, refl, sym, ap, ◌∙◌, subst, inl, inr}
+use Rattle.std.proofs.Common.{◌≡◌, ◌≢◌, ◌+◌, Bool, true, false, List, Option, Some, None, refl, sym, ap, ◌∙◌, subst}
+use Rattle.std.proofs.Common.{inl, inr}
 use Rattle.std.specs.FinMap.{get, remove}
 use Rattle.std.proofs.lemmas.Option.{same_Some}
 use Rattle.tss_base.specs.declared.range.Range.{Range}
@@ -16,7 +17,8 @@ use Rattle.tss_protocol.specs.Buffers.{sent_by_retire}
 use Rattle.tss_protocol.specs.UnitMachine.{after_event, without, retire_version}
 use Rattle.tss_control.proofs.rounds.EntryOf.{decide_entry_of}
 use Rattle.tss_control.specs.Members.{IsVersionOf, IsOpenOf, IsMember, registered_of, opening_reader, uses_of, total}
-use Rattle.tss_control.specs.Chains.{IsAfter, IsFollowed, IsLinked, IsOver, HasStorage, IsOpenInOrder, IsUseInOrder, HasChains}
+use Rattle.tss_control.specs.Chains.{IsAfter, IsFollowed, IsLinked, IsOver, HasStorage, IsOpenInOrder, IsUseInOrder}
+use Rattle.tss_control.specs.Chains.{HasChains}
 use Rattle.tss_control.specs.Entries.{HasEntryOf, IsUsed, IsRetiring, IsLastVersion}
 use Rattle.tss_protocol.proofs.SentLemmas.{posted_all-later, sent_by_retire-later}
 use Rattle.tss_control.proofs.chains.Alike.{object_of_member}
@@ -26,13 +28,13 @@ use Rattle.tss_control.proofs.rounds.Facts.{Facts}
 -- ---- a version that may retire
 
 -- it is the only version of its object, and none is being opened or used
-pub record IsAlone (ts : List Task) (S : State) (v : OpName) (x : Version) : Type 0 where
+record IsAlone (ts : List Task) (S : State) (v : OpName) (x : Version) : Type 0 where
   pub only : (q : OpName) → IsVersionOf S x.object q → q ≡ v
   pub no_open : (q : OpName) → IsOpenOf S x.object q → ⊥
   pub unused : IsUsed ts S x.object → ⊥
 
 -- its entry, which retires
-pub record HasRetiringEntry (ts : List Task) (S : State) (v : OpName) (x : Version) : Type 0 where
+record HasRetiringEntry (ts : List Task) (S : State) (v : OpName) (x : Version) : Type 0 where
   pub entry : Entry
   pub there : get S.entries x.object.base ≡ Some entry
   pub object : entry.object ≡ x.object
@@ -64,7 +66,7 @@ module _ (m : Machine) (S : State) (facts : Facts m S) (v : OpName) (x : Version
       }
 
   -- a version that may retire has an entry that retires
-  pub retiring_entry_of : HasRetiringEntry ts S v x
+  retiring_entry_of : HasRetiringEntry ts S v x
   retiring_entry_of =
       let p = k.chains.opener v x there in
       elim (decide_entry_of S x.object) [
@@ -75,7 +77,7 @@ module _ (m : Machine) (S : State) (facts : Facts m S) (v : OpName) (x : Version
       ]
 
   -- and is alone
-  pub retires_alone : IsAlone ts S v x
+  retires_alone : IsAlone ts S v x
   retires_alone =
       let r = retiring_entry_of in
       record {
@@ -241,7 +243,7 @@ module _ (ts : List Task) (S T : State) (h : HasChains ts S) (v : OpName) (x : V
       }
 
   -- the chains are as good
-  pub HasChains-alone : HasChains ts T
+  HasChains-alone : HasChains ts T
   HasChains-alone = record {
     one = λ r p q a b e. h.one r p q (member_was r p a) (member_was r q b) e;
     opener = λ w y e. h.opener w y (was_there w y e).1;

@@ -19,7 +19,8 @@ use Rattle.tss_phases.proofs.Received.{own_name}
 use Rattle.tss_control.specs.Members.{registered_of, opening_reader, uses_of, total}
 use Rattle.tss_control.specs.Chains.{HasChains}
 use Rattle.tss_control.proofs.chains.Numbers.{below_self}
-use Rattle.tss_protocol.proofs.SettleCases.{OthersSettled, HasNext, IsQuiet, Asks, IsTakenOver, IsPassedBy, SettleCase, moved_up, settle_cases}
+use Rattle.tss_protocol.proofs.SettleCases.{OthersSettled, HasNext, IsQuiet, Asks, IsTakenOver, IsPassedBy, SettleCase}
+use Rattle.tss_protocol.proofs.SettleCases.{moved_up, settle_cases}
 use Rattle.tss_protocol.proofs.UnlinkedVersions.{GaveWay, gave_way_beside, gave_way_over, took_over}
 use Rattle.tss_control.proofs.chains.Alike.{AreAlike, alike_same, AreChainsAlike, HasChains-alike}
 use Rattle.tss_control.proofs.chains.Frames.{HasChains-same}
@@ -120,7 +121,7 @@ above_none u a b = omega (arith, a, b)
 module _ (ts : List Task) (S : State) (h : HasChains ts S) (v : OpName) (x : Version)
     (there : get S.versions v ≡ Some x) where
   -- no use is on its way to a version that all readers directed to it have released
-  pub no_use_when_done : (f : Follow) → x.successor ≡ Some f → may_die x f.last ≡ true → x.released ≤ x.registered
+  no_use_when_done : (f : Follow) → x.successor ≡ Some f → may_die x f.last ≡ true → x.released ≤ x.registered
       → (o : OpName) → get S.mail.uses o ≡ Some v → ⊥
   no_use_when_done f to done few o e =
       let last = ((h.linked v x there).followed f to).last in
@@ -179,11 +180,11 @@ module _ (ts : List Task) (S T : State) (h : HasChains ts S) (v : OpName) (d : V
 
   module _ (few : (x : Version) → get S.versions v ≡ Some x → x.released ≤ x.registered) where
     -- the version that follows one that gives way
-    pub next_over : IsTakenOver S.versions v d → Version
+    next_over : IsTakenOver S.versions v d → Version
     next_over o = (chains_next ts S h v o.version o.gives.there o.follow o.gives.next).0.0
 
     -- one that is taken over departs
-    pub departs_over : (o : IsTakenOver S.versions v d)
+    departs_over : (o : IsTakenOver S.versions v d)
         → Departs S T v o.version o.follow (next_over o) (took_over o.version (next_over o))
     unfolding next_over
     departs_over o =
@@ -217,11 +218,11 @@ module _ (ts : List Task) (S T : State) (h : HasChains ts S) (v : OpName) (d : V
         (departs_over o)
 
     -- the state where a version has given way to one beside it
-    abbrev pub passed_state : IsPassedBy S.versions v d → State
+    abbrev passed_state : IsPassedBy S.versions v d → State
     passed_state p = with_versions S (unlinked S.versions v p.version p.follow.version)
 
     -- that version departs
-    pub departs_beside : (p : IsPassedBy S.versions v d)
+    departs_beside : (p : IsPassedBy S.versions v d)
         → Departs S (passed_state p) v p.version p.follow p.next (moved_up p.version p.next)
     departs_beside p =
         let x = p.version in
@@ -246,7 +247,7 @@ module _ (ts : List Task) (S T : State) (h : HasChains ts S) (v : OpName) (d : V
         }
 
     -- the chains there
-    pub chains_unlinked : (p : IsPassedBy S.versions v d) → HasChains ts (passed_state p)
+    chains_unlinked : (p : IsPassedBy S.versions v d) → HasChains ts (passed_state p)
     chains_unlinked p =
         HasChains-departed ts S (passed_state p) h v p.version p.follow p.next (moved_up p.version p.next)
         (departs_beside p)

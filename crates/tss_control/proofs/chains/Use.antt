@@ -1,5 +1,6 @@
 -- The chains after a use: its version has one more registered reader, and one less on its way.
-use Rattle.std.proofs.Common.{◌≡◌, ◌≢◌, ℕ, suc, ◌+◌, Bool, true, false, List, Option, Some, None, refl, sym, ap, ◌∙◌, subst, inl, inr, arith, true≢false}
+use Rattle.std.proofs.Common.{◌≡◌, ◌≢◌, ℕ, suc, ◌+◌, Bool, true, false, List, Option, Some, None, refl, sym, ap, ◌∙◌}
+use Rattle.std.proofs.Common.{subst, inl, inr, arith, true≢false}
 use Rattle.std.specs.Prelude.{is_some}
 use Rattle.std.specs.FinMap.{get, remove}
 use Rattle.tss_base.specs.declared.operand.OpName.{OpName}
@@ -15,7 +16,8 @@ use Rattle.tss_protocol.specs.Names.{same_name}
 use Rattle.tss_protocol.specs.Mail.{taken}
 use Rattle.tss_protocol.specs.State.{State, Version}
 use Rattle.tss_protocol.specs.Versions.{Versioned, put_version, enlisted, used_alone, used_behind, used_at, after_use}
-use Rattle.tss_protocol.specs.UnitMachine.{IsEnabled, is_enabled, can_use_message, after_event, with_versioned, without, use_message_taken}
+use Rattle.tss_protocol.specs.UnitMachine.{IsEnabled, is_enabled, can_use_message, after_event, with_versioned, without}
+use Rattle.tss_protocol.specs.UnitMachine.{use_message_taken}
 use Rattle.tss_phases.proofs.Received.{own_name, other_name}
 use Rattle.tss_control.specs.Members.{registered_of, opening_reader, uses_of, total}
 use Rattle.tss_control.specs.Chains.{HasChains}
@@ -26,7 +28,7 @@ use Rattle.tss_control.proofs.chains.Settled.{alike_written}
 -- ---- how many are on their way
 
 -- one less to the version of a use that is taken
-pub uses_taken : (us : Named OpName) (o v : OpName) → get us o ≡ Some v → uses_of (remove us o) v + 1 ≡ uses_of us v
+uses_taken : (us : Named OpName) (o v : OpName) → get us o ≡ Some v → uses_of (remove us o) v + 1 ≡ uses_of us v
 uses_taken us o v e =
     ap (λ b. uses_of (remove us o) v + one_if b) (sym (own_name v))
     ∙ sum_removed name_order (λ q w. one_if (same_name w v)) us o v e
@@ -35,7 +37,7 @@ plus_none : (a b : ℕ) → a + 0 ≡ b → a ≡ b
 plus_none a b e = omega (arith, e)
 
 -- and as many to others
-pub uses_beside : (us : Named OpName) (o v w : OpName) → get us o ≡ Some v → v ≢ w
+uses_beside : (us : Named OpName) (o v w : OpName) → get us o ≡ Some v → v ≢ w
     → uses_of (remove us o) w ≡ uses_of us w
 uses_beside us o v w e apart =
     plus_none (uses_of (remove us o) w) (uses_of us w)

@@ -37,7 +37,7 @@ pub record SameGoing (S T : State) : Type 0 where
   pub still : (x : Range) (v : OpName) → IsGoingHome S x v → IsGoingHome T x v
 
 -- the other way round
-pub going_turned : (S T : State) → SameGoing S T → SameGoing T S
+going_turned : (S T : State) → SameGoing S T → SameGoing T S
 going_turned S T s = record {
   versions = sym s.versions;
   opens = sym s.opens;

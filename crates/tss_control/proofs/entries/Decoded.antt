@@ -23,7 +23,7 @@ use Rattle.tss_protocol.proofs.FrontLemmas.{is_of_front, KeepsFront-after_event}
 use Rattle.tss_control.proofs.rounds.EntriesQuiet.{decoded_before}
 
 -- what is decoded of a spawned task after an event was decoded before
-abbrev pub DecodesNone : List Task → State → State → Type 0
+abbrev DecodesNone : List Task → State → State → Type 0
 DecodesNone all S T =
     (o : OpName) (p : Operand) → IsOperandOf all o p
     → is_decoded (phase_of T o) ≡ true → is_decoded (phase_of S o) ≡ true

@@ -1,5 +1,6 @@
 -- A gone keeps the entries: that of the last version of an object takes the object's entry with it.
-use Rattle.std.proofs.Common.{◌≡◌, ◌≢◌, ℕ, inl, inr, Bool, true, false, if◌then◌else◌, List, Some, refl, sym, ap, ◌∙◌, subst}
+use Rattle.std.proofs.Common.{◌≡◌, ◌≢◌, ℕ, inl, inr, Bool, true, false, if◌then◌else◌, List, Some, refl, sym, ap, ◌∙◌}
+use Rattle.std.proofs.Common.{subst}
 use Rattle.std.specs.Prelude.{is_some}
 use Rattle.std.specs.FinMap.{get, remove}
 use Rattle.std.proofs.lemmas.Option.{none-some, same_Some}
@@ -20,7 +21,8 @@ use Rattle.tss_locality.proofs.LeftFields.{Leaves-after_event}
 use Rattle.tss_locality.proofs.SeparateObjects.{decide_range}
 use Rattle.tss_control.proofs.rounds.EntryOf.{decide_entry_of, entry_of_beside}
 use Rattle.tss_control.specs.Members.{operand_among, IsVersionOf, IsOpenOf, IsMember, total}
-use Rattle.tss_control.specs.Entries.{HasEntryOf, IsGoingHome, IsLeaving, IsUsed, IsAbsent, IsLive, IsRetiring, HasCause, HasEntries, HasRetirement}
+use Rattle.tss_control.specs.Entries.{HasEntryOf, IsGoingHome, IsLeaving, IsUsed, IsAbsent, IsLive, IsRetiring}
+use Rattle.tss_control.specs.Entries.{HasCause, HasEntries, HasRetirement}
 use Rattle.tss_control.specs.Chains.{HasChains}
 use Rattle.tss_control.proofs.rounds.EntriesFrames.{DecodesNoMore, entries_kept}
 use Rattle.tss_control.proofs.entries.Decoded.{later_decodes_none}

@@ -1,5 +1,6 @@
 -- Entries after a version was told that it may retire: its object's entry retires.
-use Rattle.std.proofs.Common.{◌≡◌, ◌≢◌, ℕ, ◌+◌, ◌≤◌, ◌⊎◌, inl, inr, true, List, Some, None, refl, sym, ap, ◌∙◌, subst, arith}
+use Rattle.std.proofs.Common.{◌≡◌, ◌≢◌, ℕ, ◌+◌, ◌≤◌, ◌⊎◌, inl, inr, true, List, Some, None, refl, sym, ap, ◌∙◌, subst}
+use Rattle.std.proofs.Common.{arith}
 use Rattle.std.specs.FinMap.{get, insert}
 use Rattle.std.proofs.lemmas.Option.{none-some, same_Some}
 use Rattle.tss_base.specs.declared.range.Range.{Range}
@@ -15,8 +16,10 @@ use Rattle.tss_protocol.specs.State.{State, Entry, Version}
 use Rattle.tss_phases.proofs.Received.{own_name}
 use Rattle.tss_phases.proofs.Tests.{not_both}
 use Rattle.tss_control.proofs.rounds.EntryOf.{entry_of_new, entry_of_still}
-use Rattle.tss_control.specs.Members.{operand_among, IsWriterOn, IsVersionOf, IsOpenOf, IsMember, registered_of, opening_reader, uses_of, total}
-use Rattle.tss_control.specs.Entries.{HasEntryOf, IsGoingHome, IsLeaving, IsUsed, IsAbsent, IsLive, IsLastVersion, IsRetiring, HasEntries}
+use Rattle.tss_control.specs.Members.{operand_among, IsWriterOn, IsVersionOf, IsOpenOf, IsMember, registered_of}
+use Rattle.tss_control.specs.Members.{opening_reader, uses_of, total}
+use Rattle.tss_control.specs.Entries.{HasEntryOf, IsGoingHome, IsLeaving, IsUsed, IsAbsent, IsLive, IsLastVersion}
+use Rattle.tss_control.specs.Entries.{IsRetiring, HasEntries}
 use Rattle.tss_control.proofs.rounds.EntriesFrames.{DecodesNoMore}
 use Rattle.tss_control.proofs.entries.OfVersions.{entry_awake_of, released_within, registered_within}
 use Rattle.tss_control.proofs.rounds.Facts.{Facts}

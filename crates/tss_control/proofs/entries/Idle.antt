@@ -1,5 +1,6 @@
 -- Every answer to a version that asks keeps the entries, and a refusal has a cause.
-use Rattle.std.proofs.Common.{◌≡◌, ◌≢◌, ℕ, ◌<◌, ◌≤◌, ◌⊎◌, inl, inr, Bool, true, false, Some, None, refl, sym, ap, ◌∙◌, subst, arith}
+use Rattle.std.proofs.Common.{◌≡◌, ◌≢◌, ℕ, ◌<◌, ◌≤◌, ◌⊎◌, inl, inr, Bool, true, false, Some, None, refl, sym, ap, ◌∙◌}
+use Rattle.std.proofs.Common.{subst, arith}
 use Rattle.std.proofs.lemmas.Bool.Decides.{nat_tests}
 use Rattle.std.specs.Prelude.{is_some, ◌==◌, ◌&&◌}
 use Rattle.std.specs.FinMap.{get, insert}
@@ -16,7 +17,8 @@ use Rattle.tss_protocol.specs.Names.{same_name}
 use Rattle.tss_protocol.specs.Mail.{IdleContents}
 use Rattle.tss_protocol.specs.State.{State, Entry, Version, Outcome}
 use Rattle.tss_protocol.specs.Renaming.{may_retire, idle_by}
-use Rattle.tss_protocol.specs.UnitMachine.{IsEnabled, is_enabled, after_event, without, with_entries, idle_message_taken}
+use Rattle.tss_protocol.specs.UnitMachine.{IsEnabled, is_enabled, after_event, without, with_entries}
+use Rattle.tss_protocol.specs.UnitMachine.{idle_message_taken}
 use Rattle.tss_phases.specs.Orderly.{AreOrderly}
 use Rattle.tss_phases.proofs.Received.{own_name}
 use Rattle.tss_phases.proofs.SettlingLemmas.{name_from_test}

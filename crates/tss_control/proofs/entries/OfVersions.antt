@@ -1,12 +1,14 @@
 -- The entry of a registered version's object, and how many readers it knows.
-use Rattle.std.proofs.Common.{◌≡◌, ℕ, ◌+◌, ◌≤◌, inl, inr, Bool, true, false, Some, None, refl, sym, ap, ◌∙◌, subst, arith}
+use Rattle.std.proofs.Common.{◌≡◌, ℕ, ◌+◌, ◌≤◌, inl, inr, Bool, true, false, Some, None, refl, sym, ap, ◌∙◌, subst}
+use Rattle.std.proofs.Common.{arith}
 use Rattle.std.specs.FinMap.{get}
 use Rattle.std.proofs.lemmas.Option.{none-some}
 use Rattle.tss_base.specs.declared.operand.OpName.{OpName}
 use Rattle.tss_base.specs.declared.operand.Operand.{Operand}
 use Rattle.tss_base.specs.declared.machine.Machine.{Machine}
 use Rattle.tss_protocol.specs.State.{State, Version}
-use Rattle.tss_control.specs.Members.{operand_among, IsVersionOf, IsMember, registered_of, opening_reader, uses_of, total}
+use Rattle.tss_control.specs.Members.{operand_among, IsVersionOf, IsMember, registered_of, opening_reader, uses_of}
+use Rattle.tss_control.specs.Members.{total}
 use Rattle.tss_control.specs.Entries.{HasEntryOf, IsLeaving, IsRetiring}
 use Rattle.tss_control.proofs.rounds.ReadersCounts.{few_released}
 use Rattle.tss_control.proofs.rounds.EntryOf.{decide_entry_of}

@@ -12,8 +12,10 @@ use Rattle.tss_base.specs.declared.marks.Follow.{Follow}
 use Rattle.tss_maps.proofs.Changes.{decide_get}
 use Rattle.tss_protocol.specs.Mail.{OpenContents, Message, Mail, posted_all, taken}
 use Rattle.tss_protocol.specs.State.{State, Version}
-use Rattle.tss_protocol.specs.Versions.{ready_with, first_version, settled, sending, opened_first, opened_how, opened_by, is_followable}
-use Rattle.tss_protocol.specs.UnitMachine.{IsEnabled, is_enabled, after_event, without, with_versioned, can_open_message, open_message_taken}
+use Rattle.tss_protocol.specs.Versions.{ready_with, first_version, settled, sending, opened_first, opened_how}
+use Rattle.tss_protocol.specs.Versions.{opened_by, is_followable}
+use Rattle.tss_protocol.specs.UnitMachine.{IsEnabled, is_enabled, after_event, without, with_versioned}
+use Rattle.tss_protocol.specs.UnitMachine.{can_open_message, open_message_taken}
 use Rattle.tss_phases.specs.Phase.{phase_of, is_decoded}
 use Rattle.tss_phases.specs.Orderly.{AreOrderly}
 use Rattle.tss_phases.proofs.Tests.{something}
@@ -23,13 +25,15 @@ use Rattle.tss_protocol.proofs.SentLemmas.{AllSent, AllSent-append}
 use Rattle.tss_protocol.proofs.SettleCases.{OthersSettled}
 use Rattle.tss_control.proofs.chains.Registered.{Registers}
 use Rattle.tss_control.proofs.chains.Opened.{HasChains-registered}
-use Rattle.tss_control.proofs.chains.Open.{following, others_followed, registers_first, registered_state, registers_behind, front_apart}
+use Rattle.tss_control.proofs.chains.Open.{following, others_followed, registers_first, registered_state}
+use Rattle.tss_control.proofs.chains.Open.{registers_behind, front_apart}
 use Rattle.tss_control.proofs.rounds.EntriesFrames.{DecodesNoMore}
 use Rattle.tss_control.proofs.entries.Decoded.{later_decodes_none}
 use Rattle.tss_control.proofs.entries.Registered.{entries_registered, opened_decoded}
 use Rattle.tss_control.proofs.rounds.EntriesQuiet.{mail_posted_all}
 use Rattle.tss_control.proofs.entries.Use.{ready_quiet}
-use Rattle.tss_control.proofs.entries.SettleCases.{IsOfSettle, KeepsSettled, posted_all_settled, ready_of_settle, settles_with}
+use Rattle.tss_control.proofs.entries.SettleCases.{IsOfSettle, KeepsSettled, posted_all_settled, ready_of_settle}
+use Rattle.tss_control.proofs.entries.SettleCases.{settles_with}
 use Rattle.tss_control.proofs.entries.RetirementWritten.{AfterSettle, entries_then, retirement_then}
 use Rattle.tss_control.proofs.entries.RetirementOpen.{nacks_ready, quiet_first, retires_added, sound_opened}
 use Rattle.tss_control.proofs.rounds.Facts.{Facts}

@@ -7,9 +7,12 @@ use Rattle.tss_base.specs.declared.machine.Machine.{Machine}
 use Rattle.tss_base.specs.declared.event.Event.{Event}
 use Rattle.tss_base.specs.declared.event.Event.TheVariants as event
 use Rattle.tss_model.specs.Access.{operands_of}
-use Rattle.tss_protocol.specs.Mail.{Source, Message, Decode, Ack, Open, Use, Ready, Link, Release, Bye, Idle, Nack, Retire, Gone, Mail, posted, posted_all}
+use Rattle.tss_protocol.specs.Mail.{Source, Message, Decode, Ack, Open, Use, Ready, Link, Release, Bye, Idle, Nack}
+use Rattle.tss_protocol.specs.Mail.{Retire, Gone, Mail, posted, posted_all}
 use Rattle.tss_protocol.specs.State.{State, Flying, Busy}
-use Rattle.tss_protocol.specs.UnitMachine.{IsEnabled, after_event, without, after_take, ready_message_taken, link_message_taken, after_start, start_task, after_exec, after_finish, bye_message_taken}
+use Rattle.tss_protocol.specs.UnitMachine.{IsEnabled, after_event, without, after_take, ready_message_taken}
+use Rattle.tss_protocol.specs.UnitMachine.{link_message_taken, after_start, start_task, after_exec, after_finish}
+use Rattle.tss_protocol.specs.UnitMachine.{bye_message_taken}
 use Rattle.tss_phases.specs.Orderly.{AreOrderly}
 use Rattle.tss_control.specs.Entries.{HasEntries, HasRetirement}
 use Rattle.tss_protocol.proofs.SentLemmas.{AllSent, after_ready-all, after_link-all, flight_after_finish-all}

@@ -21,7 +21,8 @@ use Rattle.tss_control.specs.Members.{IsVersionOf}
 use Rattle.tss_control.specs.Chains.{HasChains}
 use Rattle.tss_control.specs.Entries.{IsLeaving, IsGoingHome, IsUsed, IsRetiring, IsLastVersion, HasEntries}
 use Rattle.tss_control.proofs.rounds.EntriesFrames.{DecodesNoMore, KeepsLeaving, entries_kept}
-use Rattle.tss_control.proofs.chains.Registered.{Registers, version_back, open_back, member_back, member_on, total_same, still, old_apart, front_object}
+use Rattle.tss_control.proofs.chains.Registered.{Registers, version_back, open_back, member_back, member_on, total_same}
+use Rattle.tss_control.proofs.chains.Registered.{still, old_apart, front_object}
 
 -- ---- a version is registered
 
@@ -138,7 +139,7 @@ module _ (ts : List Task) (S T : State) (chains : HasChains ts S) (h : HasEntrie
 -- ---- an operand whose open is taken still has been decoded
 
 -- the state with the open taken, whatever its versions are
-abbrev pub open_taken : State → OpName → Named Version → State
+abbrev open_taken : State → OpName → Named Version → State
 open_taken S o vs = record S { versions = vs; mail = record (S.mail) { opens = remove S.mail.opens o } }
 
 module _ (S : State) (orderly : AreOrderly S) (o : OpName) (c : OpenContents) (opening : get S.mail.opens o ≡ Some c)
@@ -151,7 +152,7 @@ module _ (S : State) (orderly : AreOrderly S) (o : OpName) (c : OpenContents) (o
       phase_opening l c s.decoding opening
 
   -- and waits now
-  pub opened_waits : phase_of (open_taken S o vs) o ≡ Waiting
+  opened_waits : phase_of (open_taken S o vs) o ≡ Waiting
   opened_waits =
       let l = look_ups S o in
       let s = silent_but_opening l c (orderly o).alone opening in
@@ -161,7 +162,7 @@ module _ (S : State) (orderly : AreOrderly S) (o : OpName) (c : OpenContents) (o
       ∙ station_told l None fresh
 
   -- the others are as they were
-  pub opened_others : (q : OpName) → q ≢ o → phase_of (open_taken S o vs) q ≡ phase_of S q
+  opened_others : (q : OpName) → q ≢ o → phase_of (open_taken S o vs) q ≡ phase_of S q
   opened_others q far =
       λ i. phase_at (record (look_ups S q) { opening = beside_removed name_order S.mail.opens o q far i })
 

@@ -1,5 +1,6 @@
 -- A release keeps the entries, and asking and refusing.
-use Rattle.std.proofs.Common.{◌≡◌, ℕ, suc, ◌≤◌, inl, inr, Bool, true, false, List, [], ◌∷◌, ◌++◌, Option, Some, None, refl, sym, ap, ◌∙◌, subst, arith, true≢false}
+use Rattle.std.proofs.Common.{◌≡◌, ℕ, suc, ◌≤◌, inl, inr, Bool, true, false, List, [], ◌∷◌, ◌++◌, Option, Some, None}
+use Rattle.std.proofs.Common.{refl, sym, ap, ◌∙◌, subst, arith, true≢false}
 use Rattle.std.specs.Prelude.{is_some, not}
 use Rattle.std.specs.FinMap.{get}
 use Rattle.std.proofs.lemmas.Option.{none-some, same_Some}
@@ -12,8 +13,10 @@ use Rattle.tss_base.specs.declared.event.Event.TheVariants as event
 use Rattle.tss_model.specs.Access.{writes}
 use Rattle.tss_protocol.specs.Mail.{ReleaseContents, Message, Bye, taken}
 use Rattle.tss_protocol.specs.State.{State, Entry, Version}
-use Rattle.tss_protocol.specs.Versions.{put_version, head_ready, is_last, produced_now, released_once, settled, sending, released_by, released_at}
-use Rattle.tss_protocol.specs.UnitMachine.{IsEnabled, is_enabled, after_event, without, with_versioned, release_message_taken}
+use Rattle.tss_protocol.specs.Versions.{put_version, head_ready, is_last, produced_now, released_once, settled, sending}
+use Rattle.tss_protocol.specs.Versions.{released_by, released_at}
+use Rattle.tss_protocol.specs.UnitMachine.{IsEnabled, is_enabled, after_event, without, with_versioned}
+use Rattle.tss_protocol.specs.UnitMachine.{release_message_taken}
 use Rattle.tss_phases.specs.Phase.{Releasing, phase_of, has_released}
 use Rattle.tss_phases.specs.Openers.{produced_opener, opener_by, version_opener}
 use Rattle.tss_phases.specs.Orderly.{AreOrderly}
@@ -30,13 +33,15 @@ use Rattle.tss_control.proofs.rounds.ReleaseFacts.{Releases, releases_facts, rel
 use Rattle.tss_control.proofs.rounds.EntriesFrames.{DecodesNoMore}
 use Rattle.tss_control.proofs.entries.Decoded.{later_decodes_none}
 use Rattle.tss_control.proofs.entries.Written.{total_written, entries_written}
-use Rattle.tss_control.proofs.entries.SettleCases.{IsOfSettle, KeepsSettled, posted_all_settled, ready_of_settle, settles_with}
+use Rattle.tss_control.proofs.entries.SettleCases.{IsOfSettle, KeepsSettled, posted_all_settled, ready_of_settle}
+use Rattle.tss_control.proofs.entries.SettleCases.{settles_with}
 use Rattle.tss_control.proofs.entries.Settled.{AsksSoundly}
-use Rattle.tss_control.proofs.entries.RetirementWritten.{AsksAlike, sound_written, AfterSettle, entries_then, retirement_then}
+use Rattle.tss_control.proofs.entries.RetirementWritten.{AsksAlike, sound_written, AfterSettle, entries_then}
+use Rattle.tss_control.proofs.entries.RetirementWritten.{retirement_then}
 use Rattle.tss_control.proofs.rounds.Facts.{Facts}
 
 -- what an event leaves that writes a version over and then settles it
-pub record WritesAndSettles (ts : List Task) (S T : State) (v : OpName) (y : Version) : Type 0 where
+record WritesAndSettles (ts : List Task) (S T : State) (v : OpName) (y : Version) : Type 0 where
   pub versions : T.versions ≡ (settled (put_version S.versions v y) v).part
   pub copies : T.copies ≡ S.copies
   pub entries : T.entries ≡ S.entries
@@ -98,7 +103,7 @@ module _ (m : Machine) (S : State) (facts : Facts m S) (v : OpName) (x y : Versi
   }
 
   -- entries after it, and asking and refusing
-  pub written_settled : HasEntries ts T × HasRetirement T
+  written_settled : HasEntries ts T × HasRetirement T
   written_settled =
       let others = others_written S h.retirement v y in (
         entries_then ts U T v settles chains others entries,

@@ -10,8 +10,10 @@ use Rattle.tss_base.specs.declared.machine.Machine.{Machine}
 use Rattle.tss_maps.proofs.Keys.{name_order, decide_key}
 use Rattle.tss_maps.proofs.Changes.{at_removed, beside_removed, from_removed}
 use Rattle.tss_protocol.specs.State.{State, Entry, Version}
-use Rattle.tss_control.specs.Members.{operand_among, IsVersionOf, IsOpenOf, IsMember, registered_of, opening_reader, uses_of}
-use Rattle.tss_control.specs.Entries.{IsGoingHome, IsLeaving, IsUsed, IsLive, IsRetiring, IsLastVersion, HasEntries, HasRetirement}
+use Rattle.tss_control.specs.Members.{operand_among, IsVersionOf, IsOpenOf, IsMember, registered_of, opening_reader}
+use Rattle.tss_control.specs.Members.{uses_of}
+use Rattle.tss_control.specs.Entries.{IsGoingHome, IsLeaving, IsUsed, IsLive, IsRetiring, IsLastVersion, HasEntries}
+use Rattle.tss_control.specs.Entries.{HasRetirement}
 use Rattle.tss_control.proofs.rounds.EntriesFrames.{DecodesNoMore, KeepsLatest, KeepsLeaving, entries_kept}
 use Rattle.tss_control.proofs.rounds.RetirementFrames.{cause_same}
 use Rattle.tss_control.proofs.rounds.Facts.{Facts}

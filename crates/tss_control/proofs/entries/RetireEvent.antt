@@ -165,7 +165,7 @@ module _ (m : Machine) (S : State) (facts : Facts m S) (v : OpName) (on : IsEnab
   open facts use {basis, ts, control as h}
 
   -- what may retire is there
-  pub record Finds : Type 0 where
+  record Finds : Type 0 where
     pub version : Version
     pub there : get S.versions v ≡ Some version
     pub may : get S.mail.retires v ≡ Some tt

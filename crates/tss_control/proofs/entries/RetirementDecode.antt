@@ -1,5 +1,6 @@
 -- Every decode keeps the causes of refusals: the latest version is another one, or more readers were directed to it.
-use Rattle.std.proofs.Common.{◌≡◌, ◌≢◌, ℕ, suc, ◌<◌, ◌⊎◌, inl, inr, [], ◌∷◌, Option, Some, None, refl, sym, ap, ◌∙◌, subst, arith}
+use Rattle.std.proofs.Common.{◌≡◌, ◌≢◌, ℕ, suc, ◌<◌, ◌⊎◌, inl, inr, [], ◌∷◌, Option, Some, None, refl, sym, ap, ◌∙◌}
+use Rattle.std.proofs.Common.{subst, arith}
 use Rattle.std.specs.FinMap.{get, insert}
 use Rattle.std.proofs.lemmas.Option.{none-some, same_Some}
 use Rattle.tss_base.specs.declared.operand.OpName.{OpName}
@@ -23,12 +24,13 @@ use Rattle.tss_control.proofs.rounds.EntriesNames.{object_of_entry, no_version}
 use Rattle.tss_control.proofs.entries.QuietEvents.{nacks_aside}
 use Rattle.tss_control.proofs.rounds.EntriesDecodeOpen.{DecodesOpen}
 use Rattle.tss_control.proofs.rounds.EntriesDecodeUse.{DecodesUse}
-use Rattle.tss_control.proofs.rounds.EntriesDecode.{mail_decoded, sends_first, sends_beside, sends_over, sends_use, entry_awake}
+use Rattle.tss_control.proofs.rounds.EntriesDecode.{mail_decoded, sends_first, sends_beside, sends_over, sends_use}
+use Rattle.tss_control.proofs.rounds.EntriesDecode.{entry_awake}
 use Rattle.tss_control.proofs.rounds.RetirementFrames.{retirement_kept}
 use Rattle.tss_control.proofs.rounds.Facts.{Basis}
 
 -- an entry is a cause
-abbrev pub Causes : OpName → ℕ → Entry → Type 0
+abbrev Causes : OpName → ℕ → Entry → Type 0
 Causes v count e = (e.latest ≢ v) ⊎ (count < e.sent)
 
 -- where the entry of one base is written over with one that is a cause, causes are kept

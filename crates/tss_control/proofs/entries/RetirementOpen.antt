@@ -18,7 +18,8 @@ use Rattle.tss_control.proofs.rounds.RetirementFrames.{cause_same}
 use Rattle.tss_names.specs.Asking.{AsksFor}
 use Rattle.tss_control.proofs.entries.Settled.{AsksSoundly}
 use Rattle.tss_control.proofs.chains.Registered.{linked_to}
-use Rattle.tss_control.proofs.chains.Open.{following, at_followed, behind_followed, beside_followed, registered_state, front_apart, fresh}
+use Rattle.tss_control.proofs.chains.Open.{following, at_followed, behind_followed, beside_followed, registered_state}
+use Rattle.tss_control.proofs.chains.Open.{front_apart, fresh}
 use Rattle.tss_control.proofs.rounds.Facts.{Facts}
 
 -- a ready is no nack

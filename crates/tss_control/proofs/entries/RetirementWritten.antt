@@ -39,7 +39,7 @@ module _ (S T : State) (v : OpName) (x y : Version) (there : get S.versions v �
     (asking : (w : OpName) → get S.mail.nacks w ≡ Some tt → (count : ℕ) × AsksFor S.versions w count)
     (h : HasRetirement S) where
   -- what stands in a version's place
-  pub written_from : (w : OpName) (z : Version) → get T.versions w ≡ Some z
+  written_from : (w : OpName) (z : Version) → get T.versions w ≡ Some z
       → (u : Version) × (get S.versions w ≡ Some u) × AsksAlike u z
   written_from w z at =
       elim (from_inserted name_order S.versions v y w z (ap (λ m. get m w) (sym versions) ∙ at)) [

@@ -1,5 +1,6 @@
 -- What a settle leaves, in each of its cases: the versions, and the one of which it says that it has died.
-use Rattle.std.proofs.Common.{◌≡◌, ◌≢◌, inl, inr, true, false, List, [], ◌∷◌, Option, Some, None, refl, sym, ap, ◌∙◌, subst}
+use Rattle.std.proofs.Common.{◌≡◌, ◌≢◌, inl, inr, true, false, List, [], ◌∷◌, Option, Some, None, refl, sym, ap, ◌∙◌}
+use Rattle.std.proofs.Common.{subst}
 use Rattle.std.specs.FinMap.{get}
 use Rattle.std.proofs.lemmas.Option.{none-some, same_Some}
 use Rattle.tss_base.specs.declared.operand.OpName.{OpName}
@@ -8,15 +9,18 @@ use Rattle.tss_base.specs.declared.marks.Follow.{Follow}
 use Rattle.tss_base.specs.Names.{Named}
 use Rattle.tss_maps.proofs.Keys.{name_order, decide_key}
 use Rattle.tss_maps.proofs.Changes.{beside_inserted, from_inserted}
-use Rattle.tss_protocol.specs.Mail.{StorageName, Message, Decode, Ack, Open, Use, Ready, Link, Release, Bye, Idle, Nack, Retire, Gone, GoneContents, Mail, posted, posted_all}
+use Rattle.tss_protocol.specs.Mail.{StorageName, Message, Decode, Ack, Open, Use, Ready, Link, Release, Bye, Idle, Nack}
+use Rattle.tss_protocol.specs.Mail.{Retire, Gone, GoneContents, Mail, posted, posted_all}
 use Rattle.tss_protocol.specs.State.{State, Version}
 use Rattle.tss_protocol.specs.Versions.{Versioned, settle_asking, may_ask, put_version, ready_with, settled, unlinked}
 use Rattle.tss_control.specs.Chains.{HasChains}
 use Rattle.tss_protocol.proofs.SentLemmas.{AllSent}
-use Rattle.tss_protocol.proofs.SettleCases.{OthersSettled, IsQuiet, Asks, IsTakenOver, IsPassedBy, SettleCase, moved_up, settle_cases}
+use Rattle.tss_protocol.proofs.SettleCases.{OthersSettled, IsQuiet, Asks, IsTakenOver, IsPassedBy, SettleCase, moved_up}
+use Rattle.tss_protocol.proofs.SettleCases.{settle_cases}
 use Rattle.tss_protocol.proofs.UnlinkedVersions.{GaveWay, gave_way_beside, gave_way_over, took_over}
 use Rattle.tss_control.proofs.chains.Settled.{chains_next, chains_own}
-use Rattle.tss_control.proofs.entries.Settling.{Becomes, becomes_itself, SettlesTo, settled_open, settled_asking, asking_parts, asks_to, gave_to, gave_again}
+use Rattle.tss_control.proofs.entries.Settling.{Becomes, becomes_itself, SettlesTo, settled_open, settled_asking}
+use Rattle.tss_control.proofs.entries.Settling.{asking_parts, asks_to, gave_to, gave_again}
 
 -- ---- messages
 

@@ -11,7 +11,8 @@ use Rattle.tss_protocol.specs.State.{State, Entry, Version}
 use Rattle.tss_control.specs.Members.{IsVersionOf, IsOpenOf, IsMember, registered_of, opening_reader, uses_of, total}
 use Rattle.tss_control.specs.Chains.{HasChains}
 use Rattle.tss_names.specs.Asking.{AsksFor}
-use Rattle.tss_control.specs.Entries.{IsGoingHome, IsLeaving, IsUsed, IsLive, IsRetiring, IsLastVersion, HasEntries, AsksRightly, HasCause, HasRetirement}
+use Rattle.tss_control.specs.Entries.{IsGoingHome, IsLeaving, IsUsed, IsLive, IsRetiring, IsLastVersion, HasEntries}
+use Rattle.tss_control.specs.Entries.{AsksRightly, HasCause, HasRetirement}
 use Rattle.tss_control.proofs.rounds.EntriesFrames.{DecodesNoMore, KeepsLatest, KeepsLeaving, entries_kept}
 use Rattle.tss_control.proofs.entries.Settling.{Becomes, SettlesTo}
 use Rattle.tss_control.proofs.entries.SettleCases.{KeepsSettled}

@@ -1,5 +1,6 @@
 -- What a settle does to versions where all others were settled: each is settled then.
-use Rattle.std.proofs.Common.{◌≡◌, ◌≢◌, ℕ, ◌⊎◌, inl, inr, Bool, true, false, List, Option, Some, None, refl, sym, ap, ◌∙◌, subst, arith, true≢false}
+use Rattle.std.proofs.Common.{◌≡◌, ◌≢◌, ℕ, ◌⊎◌, inl, inr, Bool, true, false, List, Option, Some, None, refl, sym, ap}
+use Rattle.std.proofs.Common.{◌∙◌, subst, arith, true≢false}
 use Rattle.std.proofs.lemmas.Bool.Decides.{nat_tests}
 use Rattle.std.specs.Prelude.{◌&&◌, ◌==◌, is_none, not}
 use Rattle.std.specs.FinMap.{get, insert}
@@ -22,7 +23,7 @@ use Rattle.tss_control.proofs.chains.Settled.{chains_next, chains_own}
 -- ---- what becomes of a version
 
 -- it asks as it did, or it asks now, rightly
-abbrev pub AskedThen : Version → Version → Type 0
+abbrev AskedThen : Version → Version → Type 0
 AskedThen y z =
     (z.asked ≡ y.asked)
     ⊎ ((y.asked ≡ None) × (z.asked ≡ Some y.registered) × (z.produced ≡ true) × (z.predecessor ≡ None)
@@ -102,7 +103,7 @@ bridged_none s None e = refl
 bridged_none s (Some h) e = absurd (none-some (record h { version = s }) (sym e))
 
 -- a settled version stays so where its successor is bridged
-pub settled_bridged : (s : OpName) (y : Version) → IsSettled y → IsSettled (bridged s y)
+settled_bridged : (s : OpName) (y : Version) → IsSettled y → IsSettled (bridged s y)
 settled_bridged s y k = record {
   dies = λ f to.
       let h = bridged_follow s y.successor f to in
@@ -195,7 +196,7 @@ module _ (ts : List Task) (U : State) (h : HasChains ts U) (v : OpName) (x : Ver
       (a.version, a.there, k.before p a.version e a.there, others p a.version a.there other)
 
   -- which names those are
-  pub data Place (w : OpName) : Type 0 where
+  data Place (w : OpName) : Type 0 where
     Own : w ≡ v → Place w
     Next : w ≡ s → Place w
     Before : x.predecessor ≡ Some w → Place w

@@ -1,5 +1,6 @@
 -- A use keeps the entries, and asking and refusing.
-use Rattle.std.proofs.Common.{◌≡◌, ℕ, suc, ◌≤◌, inl, inr, Bool, true, false, Option, Some, None, refl, sym, ap, ◌∙◌, subst, arith}
+use Rattle.std.proofs.Common.{◌≡◌, ℕ, suc, ◌≤◌, inl, inr, Bool, true, false, Option, Some, None, refl, sym, ap, ◌∙◌}
+use Rattle.std.proofs.Common.{subst, arith}
 use Rattle.std.proofs.lemmas.Bool.Decides.{nat_tests}
 use Rattle.std.specs.Prelude.{is_some, ◌&&◌, ◌==◌, is_none, not}
 use Rattle.std.specs.FinMap.{get, insert, remove}
@@ -15,7 +16,8 @@ use Rattle.tss_maps.proofs.Changes.{from_inserted, from_removed}
 use Rattle.tss_protocol.specs.Mail.{StorageName, Mail, posted_all, taken}
 use Rattle.tss_protocol.specs.State.{State, Entry, Version}
 use Rattle.tss_protocol.specs.Versions.{Versioned, ready_with, enlisted, is_count, used_alone, used_behind, used_at}
-use Rattle.tss_protocol.specs.UnitMachine.{IsEnabled, is_enabled, after_event, without, with_versioned, can_use_message, use_message_taken}
+use Rattle.tss_protocol.specs.UnitMachine.{IsEnabled, is_enabled, after_event, without, with_versioned, can_use_message}
+use Rattle.tss_protocol.specs.UnitMachine.{use_message_taken}
 use Rattle.tss_phases.specs.Orderly.{AreOrderly}
 use Rattle.tss_phases.proofs.Tests.{something}
 use Rattle.tss_control.specs.Members.{operand_among, IsMember}
@@ -37,7 +39,7 @@ use Rattle.tss_control.proofs.rounds.Facts.{Facts}
 -- ---- the version with one more reader
 
 -- what is left of it, and what is sent
-pub record UsedThen (vs : Named Version) (v : OpName) (x : Version) (d : Versioned) : Type 0 where
+record UsedThen (vs : Named Version) (v : OpName) (x : Version) (d : Versioned) : Type 0 where
   pub used : IsUsed vs v x d
   pub asks : AsksAlike x used.version
   pub produced : used.version.produced ≡ x.produced
@@ -247,7 +249,7 @@ module _ (m : Machine) (S : State) (facts : Facts m S) (o : OpName) where
     }
 
   -- what a use finds
-  pub record FindsUsed : Type 0 where
+  record FindsUsed : Type 0 where
     pub of : OpName
     pub there : get S.mail.uses o ≡ Some of
     pub version : Version

@@ -10,7 +10,8 @@ use Rattle.tss_maps.proofs.Keys.{name_order, decide_key}
 use Rattle.tss_maps.proofs.Changes.{at_inserted, beside_inserted, from_inserted}
 use Rattle.tss_protocol.specs.State.{State, Entry, Version}
 use Rattle.tss_phases.proofs.Tests.{not_both}
-use Rattle.tss_control.specs.Members.{operand_among, IsVersionOf, IsOpenOf, IsMember, registered_of, opening_reader, uses_of, total}
+use Rattle.tss_control.specs.Members.{operand_among, IsVersionOf, IsOpenOf, IsMember, registered_of, opening_reader}
+use Rattle.tss_control.specs.Members.{uses_of, total}
 use Rattle.tss_control.specs.Entries.{IsGoingHome, IsLeaving, IsUsed, IsRetiring, HasEntries}
 use Rattle.tss_control.specs.Chains.{HasChains}
 use Rattle.tss_control.proofs.rounds.EntriesFrames.{DecodesNoMore, KeepsLeaving, entries_kept}

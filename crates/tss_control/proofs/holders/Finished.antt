@@ -1,5 +1,6 @@
 -- What operands hold after a finish: those of the task let their versions go.
-use Rattle.std.proofs.Common.{◌≡◌, ◌≢◌, ◌⊎◌, ℕ, zero, suc, ◌+◌, Bool, true, false, cond, List, [], ◌∷◌, ◌++◌, Option, Some, None, refl, sym, ap, ◌∙◌, subst, inl, inr, true≢false, arith}
+use Rattle.std.proofs.Common.{◌≡◌, ◌≢◌, ◌⊎◌, ℕ, zero, suc, ◌+◌, Bool, true, false, cond, List, [], ◌∷◌, ◌++◌, Option}
+use Rattle.std.proofs.Common.{Some, None, refl, sym, ap, ◌∙◌, subst, inl, inr, true≢false, arith}
 use Rattle.std.specs.Prelude.{slice_get, option_map}
 use Rattle.std.specs.FinMap.{get}
 use Rattle.std.proofs.lemmas.Option.{none-some, same_Some, slice_get-map}
@@ -25,7 +26,8 @@ use Rattle.tss_phases.proofs.Shown.{ready_shows}
 use Rattle.tss_phases.proofs.Received.{own_name, received_all, received_other}
 use Rattle.tss_phases.proofs.Records.{operand_in, task_of_record}
 use Rattle.tss_phases.proofs.OrderlyLemmas.{fits_at, orderly_releasing, same_informed}
-use Rattle.tss_phases.proofs.FinishEvent.{finished_task, apart_further, releases_other, look_ups-finish, look_ups-finish-beyond, look_ups-finish-other, phase_of-finish}
+use Rattle.tss_phases.proofs.FinishEvent.{finished_task, apart_further, releases_other, look_ups-finish}
+use Rattle.tss_phases.proofs.FinishEvent.{look_ups-finish-beyond, look_ups-finish-other, phase_of-finish}
 use Rattle.tss_locality.proofs.LeftFields.{Leaves-after_event}
 use Rattle.tss_control.specs.Members.{operand_among}
 use Rattle.tss_control.specs.Holders.{IsTrue, HasHolders}
@@ -42,7 +44,7 @@ use Rattle.tss_control.proofs.rounds.Facts.{Facts}
 -- ---- the releases of a task's operands
 
 -- what an operand's release says
-abbrev pub its_release : OperandState → Source → ReleaseContents
+abbrev its_release : OperandState → Source → ReleaseContents
 its_release r s = record { version = s.version; producer = writes r.operand.mode }
 
 other_release : (task place : ℕ) (r : OperandState) (s : Option Source) (ms : List Message) (q : OpName) (l : LookUps)
@@ -67,7 +69,7 @@ own_release task place r (Some s) source rs q l told same =
     ∙ ap (λ s. record l { releasing = Some (its_release r s) }) (same_Some s source told)
 
 -- an operand that was told something has its release after them
-pub release_sent : (task place : ℕ) (rs : List OperandState) (j : ℕ) (r : OperandState) (source : Source) (q : OpName)
+release_sent : (task place : ℕ) (rs : List OperandState) (j : ℕ) (r : OperandState) (source : Source) (q : OpName)
     (l : LookUps) → slice_get rs j ≡ Some r → r.source ≡ Some source → q.task ≡ task → q.place ≡ place + j
     → received_all (releases_from task place rs) q l ≡ record l { releasing = Some (its_release r source) }
 release_sent task place [] j r source q l at told same here = absurd (none-some r at)

@@ -9,7 +9,8 @@ use Rattle.tss_model.specs.Access.{writes}
 use Rattle.tss_protocol.specs.Mail.{Source, ReleaseContents}
 use Rattle.tss_protocol.specs.State.{State, OperandState, Version}
 use Rattle.tss_protocol.specs.Stations.{operand_at}
-use Rattle.tss_phases.specs.Phase.{Phase, Decoding, Sent, Waiting, Told, Ready, Releasing, Promised, Left, LookUps, look_ups, phase_at, phase_of}
+use Rattle.tss_phases.specs.Phase.{Phase, Decoding, Sent, Waiting, Told, Ready, Releasing, Promised, Left, LookUps}
+use Rattle.tss_phases.specs.Phase.{look_ups, phase_at, phase_of}
 use Rattle.tss_phases.specs.Openers.{holds_version, version_opener}
 use Rattle.tss_phases.specs.Orderly.{IsOrderly, AreOrderly}
 use Rattle.tss_phases.proofs.PhaseLemmas.{phase_telling}
@@ -59,13 +60,13 @@ HoldsIn g S o p =
     Holding (IsTrue g S o p) (HasOpened S o) (HasCome g S o) (writes p.mode) (look_ups S o) (get S.mail.links o)
 
 -- the phase of the opener of each registered version
-abbrev pub HasOpeners : List Task → State → Type 0
+abbrev HasOpeners : List Task → State → Type 0
 HasOpeners ts S =
     (v : OpName) (y : Version) (p : Operand) → get S.versions v ≡ Some y → operand_among ts v ≡ Some p
     → version_opener y p.mode (phase_of S v) ≡ true
 
 -- a link is of an operand with a record that hasn't left
-abbrev pub HasLinkRecords : State → Type 0
+abbrev HasLinkRecords : State → Type 0
 HasLinkRecords S =
     (o next : OpName) → get S.mail.links o ≡ Some next
     → (r : OperandState) × (operand_at S.flight o ≡ Some r) × (phase_of S o ≡ Left → ⊥)

@@ -15,7 +15,8 @@ use Rattle.tss_control.specs.Members.{operand_among}
 use Rattle.tss_control.specs.Readers.{Arrivals}
 use Rattle.tss_control.specs.Holders.{IsTrue, HasHolders}
 use Rattle.tss_control.specs.Runners.{HasRunners}
-use Rattle.tss_control.proofs.holders.Fits.{Holding, HasOpened, HasCome, HoldsIn, holding_of, holding_mapped, holders_by}
+use Rattle.tss_control.proofs.holders.Fits.{Holding, HasOpened, HasCome, HoldsIn, holding_of, holding_mapped}
+use Rattle.tss_control.proofs.holders.Fits.{holders_by}
 
 module _ (ts : List Task) (g : Arrivals) (S T : State) where
   -- an operand of which the look-ups and the link are left
@@ -32,13 +33,13 @@ module _ (ts : List Task) (g : Arrivals) (S T : State) where
         → (r : OperandState) × (operand_at T.flight q ≡ Some r) × (phase_of T q ≡ Left → ⊥)
 
   -- each is one of both
-  abbrev pub ChangesHolders : Type 0
+  abbrev ChangesHolders : Type 0
   ChangesHolders = (q : OpName) → IsSameHolder q ⊎ IsChangedHolder q
 
 module _ (ts : List Task) (g : Arrivals) (S T : State) (versions : T.versions ≡ S.versions)
     (orderly : AreOrderly S) where
   -- what it was told is still true
-  pub true_kept : (o : OpName) (p : Operand) (s : Source) → IsTrue g S o p s → IsTrue g T o p s
+  true_kept : (o : OpName) (p : Operand) (s : Source) → IsTrue g S o p s → IsTrue g T o p s
   true_kept o p s t = record {
     version = t.version;
     there = ap (λ vs. get vs s.version) versions ∙ t.there;
@@ -66,7 +67,7 @@ module _ (ts : List Task) (g : Arrivals) (S T : State) (versions : T.versions �
       (subst (λ next. Holding (IsTrue g T o p) (HasOpened T o) (HasCome g T o) (writes p.mode) l next) (sym links) h)
 
   -- an operand that is left holds what it held
-  pub holding_kept : (o : OpName) (p : Operand) → IsSameHolder ts g S T o → HoldsIn g S o p → HoldsIn g T o p
+  holding_kept : (o : OpName) (p : Operand) → IsSameHolder ts g S T o → HoldsIn g S o p → HoldsIn g T o p
   holding_kept o p k h = holding_after o p (look_ups S o) (get S.mail.links o) k.looked k.links (holding_there o p h)
 
   before : (v : OpName) (y : Version) → get T.versions v ≡ Some y → get S.versions v ≡ Some y

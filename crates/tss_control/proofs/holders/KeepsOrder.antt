@@ -39,7 +39,7 @@ module _ (ts : List Task) (g : Arrivals) (S : State) (readers : HasReaders ts g 
           (h.first q (sym (ap (λ b. head_of b (g v)) e) ∙ sym h.head ∙ head)).1 e
 
 -- release
-pub releases_registered : (m : Machine) (ts : List Task) (g : Arrivals) (S : State) → IsRounded S ts → AreOrderly S
+releases_registered : (m : Machine) (ts : List Task) (g : Arrivals) (S : State) → IsRounded S ts → AreOrderly S
     → HasChains ts S
     → HasRetirement S → HasReaders ts g S → HasHolders ts g S → (o : OpName) → ReleasesRegistered S o
 releases_registered m ts g S round orderly chains retirement readers holders o r e =

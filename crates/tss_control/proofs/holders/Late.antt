@@ -7,7 +7,8 @@ use Rattle.tss_base.specs.declared.operand.Operand.{Operand}
 use Rattle.tss_base.specs.declared.marks.Stage.TheVariants as stage
 use Rattle.tss_protocol.specs.State.{State, OperandState}
 use Rattle.tss_protocol.specs.Stations.{operand_at}
-use Rattle.tss_phases.specs.Phase.{Phase, Ahead, Decoding, Sent, Waiting, Told, Ready, Releasing, Leaving, Promised, Left, phase_of}
+use Rattle.tss_phases.specs.Phase.{Phase, Ahead, Decoding, Sent, Waiting, Told, Ready, Releasing, Leaving, Promised}
+use Rattle.tss_phases.specs.Phase.{Left, phase_of}
 use Rattle.tss_phases.specs.Told.{phase_told}
 use Rattle.tss_phases.specs.Leaving.{phase_linked}
 use Rattle.tss_phases.proofs.Records.{operand_in, task_of_record}

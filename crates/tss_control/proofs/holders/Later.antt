@@ -8,19 +8,23 @@ use Rattle.tss_base.specs.declared.event.Event.TheVariants as event
 use Rattle.tss_protocol.specs.State.{State}
 use Rattle.tss_protocol.specs.Stations.{sent_by_ready, sent_by_link}
 use Rattle.tss_protocol.specs.Versions.{after_open, after_use, after_nack}
-use Rattle.tss_protocol.specs.UnitMachine.{is_enabled, IsEnabled, after_event, can_decode_message, can_open_message, can_use_message}
+use Rattle.tss_protocol.specs.UnitMachine.{is_enabled, IsEnabled, after_event, can_decode_message, can_open_message}
+use Rattle.tss_protocol.specs.UnitMachine.{can_use_message}
 use Rattle.tss_phases.specs.Phase.{Sent, Waiting, Ready, Releasing, Leaving, look_ups}
 use Rattle.tss_phases.specs.Told.{tells, phase_told, WaitsIfTold}
-use Rattle.tss_phases.specs.Orderly.{AreOrderly, TellWaiting, OpensForWaiting, ReadiesWaiting, LinksWaiting, ReleasesRegistered}
+use Rattle.tss_phases.specs.Orderly.{AreOrderly, TellWaiting, OpensForWaiting, ReadiesWaiting, LinksWaiting}
+use Rattle.tss_phases.specs.Orderly.{ReleasesRegistered}
 use Rattle.tss_phases.proofs.DecodeEvent.{phase_of-decode, phase_of-decode-other}
 use Rattle.tss_phases.proofs.OpenEvent.{phase_of-open, phase_of-open-other}
 use Rattle.tss_phases.proofs.UseEvent.{phase_of-use, phase_of-use-other}
 use Rattle.tss_phases.proofs.ReadyEvent.{phase_of-ready, phase_of-ready-other}
 use Rattle.tss_phases.proofs.LinkEvent.{phase_of-link, phase_of-link-other}
-use Rattle.tss_phases.proofs.ReleaseEvent.{sent_by_release, release_sends_here, releasing_before, phase_of-release-other}
+use Rattle.tss_phases.proofs.ReleaseEvent.{sent_by_release, release_sends_here, releasing_before}
+use Rattle.tss_phases.proofs.ReleaseEvent.{phase_of-release-other}
 use Rattle.tss_phases.proofs.ByeEvent.{leaving_before, phase_of-bye-other}
 use Rattle.tss_phases.proofs.NackEvent.{phase_of-nack}
-use Rattle.tss_phases.proofs.OrderlyLemmas.{opening_stands, using_stands, telling_stands, leaving_stands, taken_by_record, at_and_beside}
+use Rattle.tss_phases.proofs.OrderlyLemmas.{opening_stands, using_stands, telling_stands, leaving_stands}
+use Rattle.tss_phases.proofs.OrderlyLemmas.{taken_by_record, at_and_beside}
 use Rattle.tss_phases.proofs.Tests.{something}
 use Rattle.tss_control.specs.Runners.{is_late}
 use Rattle.tss_control.proofs.holders.Late.{NoLater, late_same, late_told, late_early, late_before, late_link}

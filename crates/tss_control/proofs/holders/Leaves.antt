@@ -1,6 +1,7 @@
 -- What an operand holds where its task finishes, where it releases its version, and where it says farewell. A link that
 -- is sent to it.
-use Rattle.std.proofs.Common.{◌≡◌, ◌⊎◌, Bool, true, false, Option, Some, None, refl, sym, ap, ◌∙◌, subst, inl, inr, true≢false}
+use Rattle.std.proofs.Common.{◌≡◌, ◌⊎◌, Bool, true, false, Option, Some, None, refl, sym, ap, ◌∙◌, subst, inl, inr}
+use Rattle.std.proofs.Common.{true≢false}
 use Rattle.std.specs.Prelude.{◌&&◌, not}
 use Rattle.std.proofs.lemmas.Option.{none-some, same_Some}
 use Rattle.tss_base.specs.declared.operand.OpName.{OpName}
@@ -9,7 +10,8 @@ use Rattle.tss_base.specs.declared.marks.LinkState.TheVariants as link
 use Rattle.tss_protocol.specs.Mail.{Source, ReleaseContents}
 use Rattle.tss_protocol.specs.State.{OperandState}
 use Rattle.tss_protocol.specs.Stations.{operand_after_bye, has_passed}
-use Rattle.tss_phases.specs.Phase.{Phase, Ahead, Decoding, Sent, Waiting, Told, Ready, Releasing, Leaving, Promised, Left, LookUps, phase_at}
+use Rattle.tss_phases.specs.Phase.{Phase, Ahead, Decoding, Sent, Waiting, Told, Ready, Releasing, Leaving, Promised}
+use Rattle.tss_phases.specs.Phase.{Left, LookUps, phase_at}
 use Rattle.tss_phases.specs.Alone.{IsSilent, HasRecord}
 use Rattle.tss_phases.specs.Openers.{holds_version}
 use Rattle.tss_phases.specs.Leaving.{phase_parted}

@@ -1,5 +1,6 @@
 -- What operands hold after a link: its operand holds it or has passed it on, and then the next one is told the same.
-use Rattle.std.proofs.Common.{◌≡◌, ◌≢◌, ℕ, Bool, true, false, if◌then◌else◌, List, Option, Some, None, refl, sym, ap, ◌∙◌, subst, inl, inr, true≢false}
+use Rattle.std.proofs.Common.{◌≡◌, ◌≢◌, ℕ, Bool, true, false, if◌then◌else◌, List, Option, Some, None, refl, sym, ap}
+use Rattle.std.proofs.Common.{◌∙◌, subst, inl, inr, true≢false}
 use Rattle.std.specs.Prelude.{is_some, slice_get}
 use Rattle.std.specs.FinMap.{get, insert, remove}
 use Rattle.std.proofs.lemmas.Option.{none-some}
@@ -17,7 +18,8 @@ use Rattle.tss_protocol.specs.Mail.{Source, StorageName, Message}
 use Rattle.tss_protocol.specs.State.{State, OperandState, Flying, Version, Outcome}
 use Rattle.tss_protocol.specs.Stations.{operand_at, sent_by_link, is_gone, remaining_tasks}
 use Rattle.tss_protocol.specs.UnitMachine.{is_enabled, IsEnabled, after_event, with_flight, without, link_message_taken}
-use Rattle.tss_phases.specs.Phase.{Phase, Ahead, Decoding, Sent, Waiting, Told, Ready, Releasing, Leaving, Promised, Left, LookUps, look_ups, phase_at, phase_of, is_ahead}
+use Rattle.tss_phases.specs.Phase.{Phase, Ahead, Decoding, Sent, Waiting, Told, Ready, Releasing, Leaving, Promised}
+use Rattle.tss_phases.specs.Phase.{Left, LookUps, look_ups, phase_at, phase_of, is_ahead}
 use Rattle.tss_phases.specs.Leaving.{phase_linked}
 use Rattle.tss_phases.specs.Told.{tells, phase_told}
 use Rattle.tss_phases.specs.Openers.{produced_opener, open_opener, opener_by, version_opener}
@@ -27,7 +29,9 @@ use Rattle.tss_phases.proofs.News.{untold}
 use Rattle.tss_phases.proofs.Records.{record_put}
 use Rattle.tss_phases.proofs.PhaseLemmas.{same_station}
 use Rattle.tss_phases.proofs.LeavingTasks.{remaining_beside, done_from_test}
-use Rattle.tss_phases.proofs.LinkEvent.{news_link, link_tells, link_untold, linked_task, linked, look_ups-link, flight-link, linked_record, linked_record_other, link_station_other, phase_of-link, phase_of-link-other}
+use Rattle.tss_phases.proofs.LinkEvent.{news_link, link_tells, link_untold, linked_task, linked, look_ups-link}
+use Rattle.tss_phases.proofs.LinkEvent.{flight-link, linked_record, linked_record_other, link_station_other}
+use Rattle.tss_phases.proofs.LinkEvent.{phase_of-link, phase_of-link-other}
 use Rattle.tss_phases.proofs.OrderlyLemmas.{taken_by_record}
 use Rattle.tss_phases.proofs.OrderlyRecords.{left_by_record, orderly_linked}
 use Rattle.tss_phases.proofs.Tests.{something}
@@ -48,7 +52,7 @@ use Rattle.tss_control.proofs.rounds.Facts.{Facts}
 -- ---- tasks that may leave
 
 -- the record of an operand that hasn't left stays
-pub remaining_stays : (flight : Numbered Flying) (task : ℕ) (y : Flying) (q : OpName) (l : LookUps) → q.task ≡ task
+remaining_stays : (flight : Numbered Flying) (task : ℕ) (y : Flying) (q : OpName) (l : LookUps) → q.task ≡ task
     → IsOrderly (record l { station = slice_get y.operands q.place }) → (r : OperandState)
     → slice_get y.operands q.place ≡ Some r → phase_at (record l { station = slice_get y.operands q.place }) ≢ Left
     → operand_at (remaining_tasks flight task y) q ≡ Some r

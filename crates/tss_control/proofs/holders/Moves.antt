@@ -1,10 +1,12 @@
 -- What an operand holds that was told nothing yet, and where it is told.
-use Rattle.std.proofs.Common.{◌≡◌, ◌≢◌, Bool, true, false, cond, List, [], ◌∷◌, Option, Some, None, refl, sym, ap, ◌∙◌, subst, inl, inr, true≢false}
+use Rattle.std.proofs.Common.{◌≡◌, ◌≢◌, Bool, true, false, cond, List, [], ◌∷◌, Option, Some, None, refl, sym, ap, ◌∙◌}
+use Rattle.std.proofs.Common.{subst, inl, inr, true≢false}
 use Rattle.std.proofs.lemmas.Option.{none-some, same_Some}
 use Rattle.tss_base.specs.declared.operand.OpName.{OpName}
 use Rattle.tss_base.specs.declared.marks.LinkState.{LinkState}
 use Rattle.tss_base.specs.declared.marks.LinkState.TheVariants as link
-use Rattle.tss_protocol.specs.Mail.{Source, Message, Decode, Ack, Open, Use, Ready, Link, Release, Bye, Idle, Nack, Retire, Gone}
+use Rattle.tss_protocol.specs.Mail.{Source, Message, Decode, Ack, Open, Use, Ready, Link, Release, Bye, Idle, Nack}
+use Rattle.tss_protocol.specs.Mail.{Retire, Gone}
 use Rattle.tss_protocol.specs.State.{OperandState}
 use Rattle.tss_phases.specs.Phase.{Decoding, Sent, Waiting, Told, Promised, LookUps, phase_at}
 use Rattle.tss_phases.specs.Told.{tells}
@@ -57,7 +59,7 @@ module _ (T : Source → Type 0) (O C : Type 0) (w : Bool) (l : LookUps) (k : Op
     }
 
     -- with what was known of its links in another phase
-    pub links_moved : (j : LookUps) → LinksFit w j k r
+    links_moved : (j : LookUps) → LinksFit w j k r
         → (link_fits (phase_at j) r.link ≡ true → link_fits (phase_at l) r.link ≡ true)
         → (phase_at l ≢ Decoding) → (phase_at l ≢ Sent) → (phase_at l ≢ Promised) → LinksFit w l k r
     links_moved j f fits not_decoding not_sent other = record {
@@ -152,24 +154,9 @@ module _ (T : Source → Type 0) (O C : Type 0) (w : Bool) (l : LookUps) (k : Op
       fits_told link.Passed e = absurd (true≢false (sym e))
 
   -- by a ready
-  pub holding_told : phase_at l ≡ Waiting → Holding T O C w l k → (s : Source) → T s
+  holding_told : phase_at l ≡ Waiting → Holding T O C w l k → (s : Source) → T s
       → Holding T O C w (record l { telling = Some s }) k
   holding_told e h s t = holding_told_by e h.links s t
-
-  -- where news is sent, that tells it what is true or doesn't tell it, and what it waited for may have changed
-  pub holding_news_by : (ms : List Message) (q : OpName) → AreNews ms → (tells ms q ≡ true → phase_at l ≡ Waiting)
-      → AllSent (TellsTrue q T) ms → ((r : OperandState) → l.station ≡ Some r → LinksFit w l k r)
-      → (tells ms q ≡ false → Holding T O C w l k) → Holding T O C w (received_all ms q l) k
-  holding_news_by ms q news waits all links h = by (tells ms q) refl
-    where
-      by : (b : Bool) → tells ms q ≡ b → Holding T O C w (received_all ms q l) k
-      by false e = subst (λ l. Holding T O C w l k) (sym (untold ms q l news e)) (h e)
-      by true e =
-          let t = told ms q l news e in
-          let silent = (waiting_shows l (waits e)).0.telling in
-          subst (λ l. Holding T O C w l k) (sym t.1)
-          (holding_told_by (waits e) links t.0
-          (told_true T q ms l t.0 all (λ i. (t.1 i).telling) (λ f. absurd (none_left l.telling t.0 silent f))))
 
   -- where news is sent, that tells it what is true or doesn't tell it
   pub holding_news : (ms : List Message) (q : OpName) → AreNews ms → (tells ms q ≡ true → phase_at l ≡ Waiting)

@@ -1,5 +1,6 @@
 -- What operands hold after a nack: the version may go now, and its successor may be told its storage.
-use Rattle.std.proofs.Common.{◌≡◌, ◌≢◌, ◌⊎◌, ℕ, ◌+◌, ◌≤◌, Bool, true, false, Option, Some, None, refl, sym, ap, ◌∙◌, subst, inl, inr, true≢false, arith}
+use Rattle.std.proofs.Common.{◌≡◌, ◌≢◌, ◌⊎◌, ℕ, ◌+◌, ◌≤◌, Bool, true, false, Option, Some, None, refl, sym, ap, ◌∙◌}
+use Rattle.std.proofs.Common.{subst, inl, inr, true≢false, arith}
 use Rattle.std.specs.Prelude.{is_some}
 use Rattle.std.specs.FinMap.{get}
 use Rattle.std.proofs.lemmas.Option.{none-some, same_Some}
@@ -30,11 +31,13 @@ use Rattle.tss_control.proofs.chains.Settled.{with_versions, HasChains-written, 
 use Rattle.tss_control.proofs.chains.Released.{others_written, HasChains-nack}
 use Rattle.tss_control.proofs.holders.Fits.{Holding, HasOpened, HasCome, HoldsIn, holding_mapped, holders_by}
 use Rattle.tss_control.proofs.holders.Moves.{holding_news}
-use Rattle.tss_control.proofs.holders.Settled.{HeldAlike, HasGone, HasTaken, SettlesHeld, settles_held, stays_alike, from_alike}
+use Rattle.tss_control.proofs.holders.Settled.{HeldAlike, HasGone, HasTaken, SettlesHeld, settles_held, stays_alike}
+use Rattle.tss_control.proofs.holders.Settled.{from_alike}
 use Rattle.tss_control.proofs.holders.Thinned.{StaysHeld, IsSpent, ThinsHeld, holding_still}
 use Rattle.tss_control.proofs.holders.RunnerEvents.{HasRunners-after_event}
 use Rattle.tss_control.proofs.holders.KeepsOrder.{keeps_order, AreOrderly-controlled}
-use Rattle.tss_control.proofs.holders.Sent.{told_own, tells_true, waiting_opener, opener_from, version_opener-from, same_opener}
+use Rattle.tss_control.proofs.holders.Sent.{told_own, tells_true, waiting_opener, opener_from, version_opener-from}
+use Rattle.tss_control.proofs.holders.Sent.{same_opener}
 use Rattle.tss_control.proofs.rounds.Facts.{Facts}
 
 module _ (m : Machine) (S : State) (facts : Facts m S) (v : OpName) (x : Version)

@@ -1,5 +1,6 @@
 -- A produced version whose readers have all released it is needed by nobody.
-use Rattle.std.proofs.Common.{◌≡◌, ◌≢◌, ◌≤◌, Bool, true, false, List, Some, refl, sym, ap, ◌∙◌, subst, inl, inr, true≢false}
+use Rattle.std.proofs.Common.{◌≡◌, ◌≢◌, ◌≤◌, Bool, true, false, List, Some, refl, sym, ap, ◌∙◌, subst, inl, inr}
+use Rattle.std.proofs.Common.{true≢false}
 use Rattle.std.specs.FinMap.{get}
 use Rattle.std.proofs.lemmas.Option.{none-some}
 use Rattle.tss_base.specs.declared.operand.OpName.{OpName}
@@ -10,7 +11,8 @@ use Rattle.tss_base.specs.declared.operand.Task.{Task}
 use Rattle.tss_model.specs.Access.{writes}
 use Rattle.tss_protocol.specs.Mail.{Source}
 use Rattle.tss_protocol.specs.State.{State, Version}
-use Rattle.tss_phases.specs.Phase.{Phase, Ahead, Decoding, Sent, Waiting, Told, Ready, Releasing, Leaving, Promised, Left, phase_of, has_released}
+use Rattle.tss_phases.specs.Phase.{Phase, Ahead, Decoding, Sent, Waiting, Told, Ready, Releasing, Leaving, Promised}
+use Rattle.tss_phases.specs.Phase.{Left, phase_of, has_released}
 use Rattle.tss_phases.specs.Openers.{holds_version, has_parted, produced_opener, version_opener, opener_by}
 use Rattle.tss_control.specs.Members.{operand_among}
 use Rattle.tss_control.specs.Readers.{Arrivals, Has}
@@ -58,7 +60,7 @@ writer_parted y mode p produced writer opens = by mode writer (ap (opener_by y m
 module _ (ts : List Task) (g : Arrivals) (S : State) (h : IsControlled ts g S) (v : OpName) (y : Version)
     (there : get S.versions v ≡ Some y) (produced : y.produced ≡ true) (full : y.registered ≤ y.released) where
   -- its readers have gone
-  pub reader_gone : (o : OpName) → Has o (g v) → has_released (phase_of S o) ≡ true
+  reader_gone : (o : OpName) → Has o (g v) → has_released (phase_of S o) ≡ true
   reader_gone o has = all_have_gone ts (g v) S v y (h.readers.versions v y there) full o has
 
   -- and its writer

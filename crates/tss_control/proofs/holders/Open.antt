@@ -1,5 +1,6 @@
 -- What operands hold after an open: its own is told its version or waits, and the others are left.
-use Rattle.std.proofs.Common.{◌≡◌, ◌≢◌, ◌⊎◌, suc, Bool, true, false, cond, Some, None, refl, sym, ap, ◌∙◌, subst, inl, inr, true≢false}
+use Rattle.std.proofs.Common.{◌≡◌, ◌≢◌, ◌⊎◌, suc, Bool, true, false, cond, Some, None, refl, sym, ap, ◌∙◌, subst, inl}
+use Rattle.std.proofs.Common.{inr, true≢false}
 use Rattle.std.specs.FinMap.{get, len}
 use Rattle.std.proofs.lemmas.Option.{none-some, same_Some}
 use Rattle.tss_base.specs.declared.operand.OpName.{OpName}
@@ -15,7 +16,8 @@ use Rattle.tss_model.specs.Access.{writes}
 use Rattle.tss_protocol.specs.Mail.{StorageName, Source, OpenContents}
 use Rattle.tss_protocol.specs.State.{State, Version}
 use Rattle.tss_protocol.specs.Versions.{Versioned, followed, after_open, is_followable}
-use Rattle.tss_protocol.specs.UnitMachine.{is_enabled, IsEnabled, after_event, can_open_message, open_message_taken, without}
+use Rattle.tss_protocol.specs.UnitMachine.{is_enabled, IsEnabled, after_event, can_open_message, open_message_taken}
+use Rattle.tss_protocol.specs.UnitMachine.{without}
 use Rattle.tss_phases.specs.Phase.{Sent, Waiting, Told, Promised, LookUps, look_ups, phase_at, phase_of}
 use Rattle.tss_phases.specs.Alone.{IsSilent}
 use Rattle.tss_phases.specs.Orderly.{IsUntold}
@@ -28,11 +30,13 @@ use Rattle.tss_phases.proofs.PhaseLemmas.{phase_silent, phase_opening, station_t
 use Rattle.tss_phases.proofs.OrderlyLemmas.{opening_stands}
 use Rattle.tss_phases.proofs.OpenEvent.{open_tells, news_open, look_ups-open-own, look_ups-open-other, phase_of-open}
 use Rattle.tss_control.specs.Members.{operand_among}
-use Rattle.tss_control.specs.Readers.{Arrivals, Has, first_arrivals, set_arrivals, arrivals_opened, arrivals_after_event}
+use Rattle.tss_control.specs.Readers.{Arrivals, Has, first_arrivals, set_arrivals, arrivals_opened}
+use Rattle.tss_control.specs.Readers.{arrivals_after_event}
 use Rattle.tss_control.specs.Holders.{link_fits, IsOwnOrRead, IsTrue, HasHolders}
 use Rattle.tss_control.proofs.readers.Links.{links-open}
 use Rattle.tss_control.proofs.holders.Told.{settle_tells_own}
-use Rattle.tss_control.proofs.holders.Fits.{Needs, Holding, HasOpened, HasCome, HoldsIn, holding_of, holding_mapped, holders_by}
+use Rattle.tss_control.proofs.holders.Fits.{Needs, Holding, HasOpened, HasCome, HoldsIn, holding_of, holding_mapped}
+use Rattle.tss_control.proofs.holders.Fits.{holders_by}
 use Rattle.tss_control.proofs.holders.Moves.{holding_fresh, links_none, holding_news}
 use Rattle.tss_control.proofs.holders.Needed.{not_needed, none_waits}
 use Rattle.tss_control.proofs.holders.Sent.{tells_true, version_opener-from, opener_from, same_opener}
@@ -289,7 +293,7 @@ module _ (m : Machine) (S : State) (facts : Facts m S) (o : OpName) (c : OpenCon
       none-some next (sym ((h.holders.links o c.operand r.kept p r.there).early (inr sent)) ∙ sym (links_left o) ∙ e)
 
   -- who holds what, after it
-  pub holders_opened : HasHolders ts come After
+  holders_opened : HasHolders ts come After
   holders_opened =
       holders_by ts come After
       (λ q p at. elim (decide_key name_order q o) [

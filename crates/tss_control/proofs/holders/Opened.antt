@@ -1,5 +1,6 @@
 -- What an open leaves of versions: the new one, and the settle of the one that it follows.
-use Rattle.std.proofs.Common.{◌≡◌, ◌≢◌, ◌⊎◌, ℕ, ◌+◌, ◌≤◌, Bool, true, false, ◌++◌, Option, Some, None, refl, sym, ap, ◌∙◌, subst, inl, inr, true≢false, arith}
+use Rattle.std.proofs.Common.{◌≡◌, ◌≢◌, ◌⊎◌, ℕ, ◌+◌, ◌≤◌, Bool, true, false, ◌++◌, Option, Some, None, refl, sym, ap}
+use Rattle.std.proofs.Common.{◌∙◌, subst, inl, inr, true≢false, arith}
 use Rattle.std.specs.Prelude.{is_some}
 use Rattle.std.specs.FinMap.{get, contains_key}
 use Rattle.std.proofs.lemmas.Option.{none-some, same_Some}
@@ -14,7 +15,8 @@ use Rattle.tss_maps.proofs.Keys.{name_order, decide_key}
 use Rattle.tss_maps.proofs.Changes.{decide_get}
 use Rattle.tss_protocol.specs.Mail.{StorageName, Buffer, OpenContents}
 use Rattle.tss_protocol.specs.State.{State, Version}
-use Rattle.tss_protocol.specs.Versions.{Versioned, ready_with, followed, settled, opened_how, opened_by, after_open, is_followable}
+use Rattle.tss_protocol.specs.Versions.{Versioned, ready_with, followed, settled, opened_how, opened_by, after_open}
+use Rattle.tss_protocol.specs.Versions.{is_followable}
 use Rattle.tss_phases.specs.Told.{tells}
 use Rattle.tss_phases.proofs.SettlingLemmas.{ready_with_told}
 use Rattle.tss_phases.proofs.ToldPhases.{first_tells}
@@ -24,7 +26,8 @@ use Rattle.tss_protocol.proofs.SettleCases.{HasNext}
 use Rattle.tss_control.proofs.chains.Registered.{link_to, linked_to}
 use Rattle.tss_control.proofs.chains.Open.{following, at_followed, behind_followed, beside_followed, others_followed}
 use Rattle.tss_control.proofs.chains.Settled.{done_parts}
-use Rattle.tss_control.proofs.holders.Settled.{HeldAlike, HasGone, HasTaken, TellsOwn, SettlesHeld, settles_held, stays_alike, from_alike}
+use Rattle.tss_control.proofs.holders.Settled.{HeldAlike, HasGone, HasTaken, TellsOwn, SettlesHeld, settles_held}
+use Rattle.tss_control.proofs.holders.Settled.{stays_alike, from_alike}
 use Rattle.tss_control.proofs.holders.Thinned.{StaysHeld, IsSpent, ThinsHeld}
 use Rattle.tss_control.proofs.holders.Sent.{told_own}
 use Rattle.tss_control.proofs.holders.First.{OpensHeld, opens_first}
@@ -204,7 +207,7 @@ module _ (m : Machine) (S : State) (facts : Facts m S) (o : OpName) (c : OpenCon
       input_output e = cc
 
   -- beside another one it is told its buffer
-  pub opens_beside : f.how ≡ Beside → c.storage ≡ Some (Buffer o)
+  opens_beside : f.how ≡ Beside → c.storage ≡ Some (Buffer o)
       → OpensHeld S.versions rest.part o c (ready_with o o c.storage ++ rest.sent)
   opens_beside way storage = elim (settles.others o own_front) [
     | inr taken ↦ absurd (beside_over (sym way ∙ taken_way o taken))
@@ -241,7 +244,7 @@ module _ (m : Machine) (S : State) (facts : Facts m S) (o : OpName) (c : OpenCon
       sent_by z at has (Some s) e = ((refl, (z, at, has ∙ sym e)), tt)
 
   -- over another one it waits, unless that gives way at once
-  pub opens_over : f.how ≡ Over → c.storage ≡ None → c.operand.mode ≡ Inout
+  opens_over : f.how ≡ Over → c.storage ≡ None → c.operand.mode ≡ Inout
       → OpensHeld S.versions rest.part o c rest.sent
   opens_over way storage mode = record {
     thins = thins;
@@ -295,7 +298,7 @@ module _ (m : Machine) (S : State) (facts : Facts m S) (o : OpName) (c : OpenCon
       stored_of produced (Some s) e = (s, e)
 
   -- by how it follows
-  pub opens_after : (how : How) → f.how ≡ how
+  opens_after : (how : How) → f.how ≡ how
       → OpensHeld S.versions (opened_how S.versions o c f how).part o c (opened_how S.versions o c f how).sent
   opens_after Beside way = elim ((h.chains.opens o c opening).after f to).way [
     | inl over ↦ absurd (over_beside (sym over.1 ∙ way))

@@ -1,6 +1,7 @@
 -- What the events of tasks find, so that operands stay in order: those that are told wait, and a task that finishes has
 -- all its operands ready.
-use Rattle.std.proofs.Common.{◌≡◌, ℕ, zero, suc, Bool, true, false, List, [], ◌∷◌, Option, Some, None, refl, sym, ap, ◌∙◌, arith, true≢false}
+use Rattle.std.proofs.Common.{◌≡◌, ℕ, zero, suc, Bool, true, false, List, [], ◌∷◌, Option, Some, None, refl, sym, ap}
+use Rattle.std.proofs.Common.{◌∙◌, arith, true≢false}
 use Rattle.std.specs.Prelude.{slice_get}
 use Rattle.std.specs.List.{list_all}
 use Rattle.std.specs.FinMap.{get}
@@ -13,9 +14,11 @@ use Rattle.tss_base.specs.declared.marks.Stage.TheVariants as stage
 use Rattle.tss_protocol.specs.Mail.{Source}
 use Rattle.tss_protocol.specs.State.{State, OperandState, Flying}
 use Rattle.tss_protocol.specs.Stations.{operand_at, is_ready, is_complete}
-use Rattle.tss_phases.specs.Phase.{Phase, Ahead, Decoding, Sent, Waiting, Told, Ready, Releasing, Leaving, Promised, Left, look_ups, phase_of}
+use Rattle.tss_phases.specs.Phase.{Phase, Ahead, Decoding, Sent, Waiting, Told, Ready, Releasing, Leaving, Promised}
+use Rattle.tss_phases.specs.Phase.{Left, look_ups, phase_of}
 use Rattle.tss_phases.specs.Alone.{HasRecord}
-use Rattle.tss_phases.specs.Orderly.{FitsPhase, AreOrderly, TakesSpawned, ReadiesWaiting, LinksWaiting, FinishesReady, AreReady}
+use Rattle.tss_phases.specs.Orderly.{FitsPhase, AreOrderly, TakesSpawned, ReadiesWaiting, LinksWaiting, FinishesReady}
+use Rattle.tss_phases.specs.Orderly.{AreReady}
 use Rattle.tss_phases.proofs.Records.{operand_in}
 use Rattle.tss_phases.proofs.ReadyEvent.{ready_tells}
 use Rattle.tss_phases.proofs.LinkEvent.{link_tells}
@@ -97,7 +100,7 @@ module _ (S : State) (n : ℕ) (x : Flying) (flying : get S.flight n ≡ Some x)
     by_phase Left e h = absurd (not_late (ap is_late e))
 
   -- a task that runs has all its operands ready
-  pub running_ready : AreReady S n
+  running_ready : AreReady S n
   running_ready q r same kept = by_phase q r same kept (phase_of S q) refl (orderly q).fits
 
 -- so has one that finishes

@@ -1,5 +1,6 @@
 -- What operands hold after a bye: the operand has left, or awaits its link, and its task may leave.
-use Rattle.std.proofs.Common.{◌≡◌, ◌≢◌, Bool, true, false, Option, Some, None, refl, sym, ap, ◌∙◌, subst, inl, inr, true≢false}
+use Rattle.std.proofs.Common.{◌≡◌, ◌≢◌, Bool, true, false, Option, Some, None, refl, sym, ap, ◌∙◌, subst, inl, inr}
+use Rattle.std.proofs.Common.{true≢false}
 use Rattle.std.specs.Prelude.{◌&&◌, not, if◌then◌else◌, is_some}
 use Rattle.std.specs.FinMap.{get}
 use Rattle.std.proofs.lemmas.Option.{none-some}
@@ -19,7 +20,8 @@ use Rattle.tss_protocol.specs.Mail.{StorageName, Source}
 use Rattle.tss_protocol.specs.State.{State, OperandState, Flying, Version}
 use Rattle.tss_protocol.specs.Stations.{operand_at, operand_after_bye, has_passed, remaining_tasks}
 use Rattle.tss_protocol.specs.UnitMachine.{is_enabled, IsEnabled, after_event}
-use Rattle.tss_phases.specs.Phase.{Phase, Ahead, Decoding, Sent, Waiting, Told, Ready, Releasing, Leaving, Promised, Left, LookUps, look_ups, phase_at, phase_of, is_ahead}
+use Rattle.tss_phases.specs.Phase.{Phase, Ahead, Decoding, Sent, Waiting, Told, Ready, Releasing, Leaving, Promised}
+use Rattle.tss_phases.specs.Phase.{Left, LookUps, look_ups, phase_at, phase_of, is_ahead}
 use Rattle.tss_phases.specs.Alone.{IsSilent}
 use Rattle.tss_phases.specs.Leaving.{phase_parted}
 use Rattle.tss_phases.specs.Openers.{version_opener, opener_by, open_opener}
@@ -29,7 +31,8 @@ use Rattle.tss_phases.proofs.Shown.{promised_shows}
 use Rattle.tss_phases.proofs.PhaseLemmas.{silent_station}
 use Rattle.tss_phases.proofs.LeavingTasks.{remaining_beside}
 use Rattle.tss_phases.proofs.OrderlyLemmas.{leaving_stands, orderly_promised, orderly_left, taken_by_record}
-use Rattle.tss_phases.proofs.ByeEvent.{parted_task, look_ups-bye-own, look_ups-bye-other, parted_record, parted_record_other, leaving_before, phase_of-bye, phase_of-bye-other}
+use Rattle.tss_phases.proofs.ByeEvent.{parted_task, look_ups-bye-own, look_ups-bye-other, parted_record}
+use Rattle.tss_phases.proofs.ByeEvent.{parted_record_other, leaving_before, phase_of-bye, phase_of-bye-other}
 use Rattle.tss_locality.proofs.LeftFields.{Leaves-after_event}
 use Rattle.tss_control.specs.Members.{operand_among}
 use Rattle.tss_control.specs.Holders.{IsTrue, PromiseFits, HasHolders}
@@ -63,7 +66,7 @@ record_stands l orderly ahead left = by (phase_at l) orderly.fits ahead left
     by Left f a b = absurd (b refl)
 
 -- one with a record isn't ahead
-pub not_ahead_by_record : (l : LookUps) (r : OperandState) → IsOrderly l → l.station ≡ Some r → phase_at l ≢ Ahead
+not_ahead_by_record : (l : LookUps) (r : OperandState) → IsOrderly l → l.station ≡ Some r → phase_at l ≢ Ahead
 not_ahead_by_record l r orderly kept e =
     let f : FitsPhase Ahead l = subst (λ p. FitsPhase p l) e orderly.fits in none-some r (sym f.0 ∙ kept)
 

@@ -1,5 +1,6 @@
 -- What a release promises, and which readers a version has beside the last one that releases it.
-use Rattle.std.proofs.Common.{◌≡◌, ◌≢◌, ◌≤◌, ℕ, suc, Bool, true, false, cond, List, [], ◌∷◌, length, Option, Some, None, refl, sym, ap, ◌∙◌, subst, inl, inr, arith, true≢false}
+use Rattle.std.proofs.Common.{◌≡◌, ◌≢◌, ◌≤◌, ℕ, suc, Bool, true, false, cond, List, [], ◌∷◌, length, Option, Some, None}
+use Rattle.std.proofs.Common.{refl, sym, ap, ◌∙◌, subst, inl, inr, arith, true≢false}
 use Rattle.std.specs.Prelude.{not}
 use Rattle.std.specs.FinMap.{get}
 use Rattle.std.proofs.lemmas.Option.{same_Some}
@@ -16,7 +17,8 @@ use Rattle.tss_phases.proofs.Received.{own_name}
 use Rattle.tss_phases.proofs.SettlingLemmas.{name_from_test}
 use Rattle.tss_control.specs.Readers.{Has, AreOnce, released_among, tail_of, AreNeighbours, IsLinking, HasArrivals}
 use Rattle.tss_control.specs.Holders.{link_fits, PromiseFits}
-use Rattle.tss_control.proofs.rounds.ReadersLists.{newest_of, IsNext, newest_or_older, none_after_newest, chained_at, newest_at}
+use Rattle.tss_control.proofs.rounds.ReadersLists.{newest_of, IsNext, newest_or_older, none_after_newest, chained_at}
+use Rattle.tss_control.proofs.rounds.ReadersLists.{newest_at}
 use Rattle.tss_control.proofs.rounds.ReleaseFacts.{more_readers}
 use Rattle.tss_control.proofs.holders.Told.{waiting_from_test}
 use Rattle.tss_control.proofs.holders.Fits.{LinksFit}

@@ -1,5 +1,6 @@
 -- What operands hold after a ready: its operand is ready, and the next one of a held link is told the same.
-use Rattle.std.proofs.Common.{◌≡◌, ◌≢◌, ◌⊎◌, Bool, true, false, List, Option, Some, None, refl, sym, ap, ◌∙◌, subst, inl, inr, true≢false}
+use Rattle.std.proofs.Common.{◌≡◌, ◌≢◌, ◌⊎◌, Bool, true, false, List, Option, Some, None, refl, sym, ap, ◌∙◌, subst}
+use Rattle.std.proofs.Common.{inl, inr, true≢false}
 use Rattle.std.specs.Prelude.{is_some}
 use Rattle.std.specs.FinMap.{get}
 use Rattle.std.proofs.lemmas.Option.{same_Some}
@@ -27,7 +28,8 @@ use Rattle.tss_phases.proofs.Received.{received_all}
 use Rattle.tss_phases.proofs.News.{AreNews, untold, told}
 use Rattle.tss_phases.proofs.PhaseLemmas.{phase_telling}
 use Rattle.tss_phases.proofs.Shown.{waiting_shows}
-use Rattle.tss_phases.proofs.ReadyEvent.{news_ready, ready_tells, look_ups-ready-own, look_ups-ready-other, told_before, phase_of-ready}
+use Rattle.tss_phases.proofs.ReadyEvent.{news_ready, ready_tells, look_ups-ready-own, look_ups-ready-other, told_before}
+use Rattle.tss_phases.proofs.ReadyEvent.{phase_of-ready}
 use Rattle.tss_phases.proofs.ToldPhases.{not_told}
 use Rattle.tss_phases.proofs.OrderlyLemmas.{telling_stands}
 use Rattle.tss_phases.proofs.Tests.{something}
@@ -135,7 +137,7 @@ module _ (ts : List Task) (g : Arrivals) (S T : State) (versions : T.versions �
       }
 
   -- an operand that may be told, and that has no version where it is
-  pub told_or_same : HasHolders ts g S → (q : OpName) (ms : List Message) → AreNews ms → WaitsIfTold S ms q
+  told_or_same : HasHolders ts g S → (q : OpName) (ms : List Message) → AreNews ms → WaitsIfTold S ms q
       → look_ups T q ≡ received_all ms q (look_ups S q) → get T.mail.links q ≡ get S.mail.links q
       → ((p : Operand) → operand_among ts q ≡ Some p → AllSent (TellsTrue q (IsTrue g S q p)) ms)
       → (tells ms q ≡ true → (y : Version) (p : Operand) → get S.versions q ≡ Some y → operand_among ts q ≡ Some p → ⊥)

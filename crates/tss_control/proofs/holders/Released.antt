@@ -1,5 +1,6 @@
 -- What operands hold after a release.
-use Rattle.std.proofs.Common.{◌≡◌, ◌≢◌, Bool, true, false, ◌++◌, Option, Some, None, refl, sym, ap, ◌∙◌, subst, inl, inr, true≢false}
+use Rattle.std.proofs.Common.{◌≡◌, ◌≢◌, Bool, true, false, ◌++◌, Option, Some, None, refl, sym, ap, ◌∙◌, subst, inl}
+use Rattle.std.proofs.Common.{inr, true≢false}
 use Rattle.std.specs.Prelude.{is_some}
 use Rattle.std.specs.FinMap.{get}
 use Rattle.std.proofs.lemmas.Option.{none-some, same_Some}
@@ -34,7 +35,8 @@ use Rattle.tss_control.specs.Holders.{IsTrue, IsOwnOrRead, HasHolders, PromiseFi
 use Rattle.tss_protocol.proofs.SentLemmas.{AllSent, AllSent-append}
 use Rattle.tss_control.proofs.rounds.ReadersLists.{has_oldest}
 use Rattle.tss_control.proofs.rounds.ReleaseFacts.{releases_facts}
-use Rattle.tss_control.proofs.holders.Fits.{Holding, LinksFit, HoldsIn, HasOpened, HasCome, Needs, holding_of, holding_mapped, holders_by}
+use Rattle.tss_control.proofs.holders.Fits.{Holding, LinksFit, HoldsIn, HasOpened, HasCome, Needs, holding_of}
+use Rattle.tss_control.proofs.holders.Fits.{holding_mapped, holders_by}
 use Rattle.tss_control.proofs.holders.Moves.{TellsTrue, told_true, holding_told_by}
 use Rattle.tss_control.proofs.holders.Leaves.{holding_released}
 use Rattle.tss_control.proofs.holders.Sent.{tells_true}
@@ -43,7 +45,8 @@ use Rattle.tss_control.proofs.holders.Promises.{promise_reader}
 use Rattle.tss_control.proofs.holders.Settled.{stays_alike}
 use Rattle.tss_control.proofs.holders.Releases.{z_parts, not_linked, none_waits_by, not_needed_by, stays_or_gone}
 use Rattle.tss_control.proofs.holders.RunnerEvents.{HasRunners-after_event}
-use Rattle.tss_control.proofs.holders.Releasing.{settles, versions, after, order, waits, news, same_link, looked, not_waiting, came, kept, own_looked, now_leaving, other_phase}
+use Rattle.tss_control.proofs.holders.Releasing.{settles, versions, after, order, waits, news, same_link, looked}
+use Rattle.tss_control.proofs.holders.Releasing.{not_waiting, came, kept, own_looked, now_leaving, other_phase}
 use Rattle.tss_control.proofs.holders.ReleasedOpeners.{reads_input, openers}
 use Rattle.tss_control.proofs.rounds.Facts.{Facts}
 use Rattle.tss_control.proofs.holders.Release.{Release, released}
@@ -308,7 +311,7 @@ module _ (m : Machine) (S : State) (release : Release m S) where
   ]
 
   -- who holds what, after it
-  pub holders_released : HasHolders ts g T
+  holders_released : HasHolders ts g T
   holders_released =
       holders_by ts g T each_holds (openers m S release) records
       (HasRunners-after_event m all S ground.numbers ground.stages h.orderly h.holders.runners (event.Release o) on

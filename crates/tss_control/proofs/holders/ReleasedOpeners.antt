@@ -1,5 +1,6 @@
 -- The openers of versions after a release.
-use Rattle.std.proofs.Common.{◌≡◌, ◌≢◌, ◌⊎◌, suc, Bool, true, false, ◌++◌, Some, None, refl, sym, ap, ◌∙◌, subst, inl, inr, true≢false}
+use Rattle.std.proofs.Common.{◌≡◌, ◌≢◌, ◌⊎◌, suc, Bool, true, false, ◌++◌, Some, None, refl, sym, ap, ◌∙◌, subst, inl}
+use Rattle.std.proofs.Common.{inr, true≢false}
 use Rattle.std.specs.FinMap.{get, len}
 use Rattle.std.proofs.lemmas.Option.{none-some, same_Some}
 use Rattle.tss_base.specs.declared.operand.OpName.{OpName}
@@ -26,7 +27,8 @@ use Rattle.tss_control.proofs.holders.Sent.{told_own, waiting_opener, same_opene
 use Rattle.tss_control.proofs.holders.Ready.{reader_operand, waiting_input}
 use Rattle.tss_control.proofs.holders.Settled.{from_alike}
 use Rattle.tss_control.proofs.holders.Releases.{z_parts}
-use Rattle.tss_control.proofs.holders.Releasing.{settles, versions, waits, not_waiting, came, now_leaving, other_phase, same_tells}
+use Rattle.tss_control.proofs.holders.Releasing.{settles, versions, waits, not_waiting, came, now_leaving, other_phase}
+use Rattle.tss_control.proofs.holders.Releasing.{same_tells}
 use Rattle.tss_control.proofs.holders.Release.{Release, released}
 
 -- one that doesn't write is an input

@@ -1,5 +1,6 @@
 -- What a release leaves of versions for those who hold them: where its version goes, nobody else needs it.
-use Rattle.std.proofs.Common.{◌≡◌, ◌≢◌, ◌⊎◌, ◌≤◌, ℕ, Bool, true, false, List, Some, None, refl, sym, ap, ◌∙◌, subst, inl, inr, arith, true≢false}
+use Rattle.std.proofs.Common.{◌≡◌, ◌≢◌, ◌⊎◌, ◌≤◌, ℕ, Bool, true, false, List, Some, None, refl, sym, ap, ◌∙◌, subst}
+use Rattle.std.proofs.Common.{inl, inr, arith, true≢false}
 use Rattle.std.specs.FinMap.{get}
 use Rattle.std.proofs.lemmas.Option.{none-some}
 use Rattle.tss_base.specs.declared.operand.OpName.{OpName}
@@ -11,7 +12,8 @@ use Rattle.tss_model.specs.Access.{writes}
 use Rattle.tss_protocol.specs.Mail.{Source, Message}
 use Rattle.tss_protocol.specs.State.{State, Version}
 use Rattle.tss_protocol.specs.Versions.{Versioned, settled}
-use Rattle.tss_phases.specs.Phase.{Phase, Ahead, Decoding, Sent, Waiting, Told, Ready, Releasing, Leaving, Promised, Left, phase_of, has_released}
+use Rattle.tss_phases.specs.Phase.{Phase, Ahead, Decoding, Sent, Waiting, Told, Ready, Releasing, Leaving, Promised}
+use Rattle.tss_phases.specs.Phase.{Left, phase_of, has_released}
 use Rattle.tss_phases.specs.Openers.{holds_version, has_parted}
 use Rattle.tss_phases.proofs.ReleaseEvent.{version_released}
 use Rattle.tss_control.specs.Members.{operand_among, total}
@@ -63,7 +65,7 @@ module _ (m : Machine) (S : State) (release : Release m S) where
   open released m S release use {v, x, vs}
 
   -- the version that is released
-  abbrev pub z : Version
+  abbrev z : Version
   z = version_released o x c.producer
 
   same_parts : (b : Bool) (x : Version)
@@ -182,7 +184,7 @@ module _ (m : Machine) (S : State) (release : Release m S) where
   -- ---- where versions stay
 
   -- one that is followed over has no storage
-  pub over_storeless : (us : Named Version) (ms : List Message) (w : OpName) → w ≢ v → HasTaken vs us v w ms
+  over_storeless : (us : Named Version) (ms : List Message) (w : OpName) → w ≢ v → HasTaken vs us v w ms
       → (y : Version) → get S.versions w ≡ Some y → y.storage ≡ None
   over_storeless us ms w apart t y e =
       let is = one_value vs v t.version z t.there at_v in

@@ -19,7 +19,9 @@ use Rattle.tss_phases.specs.Orderly.{IsInformed, AreOrderly, ReleasesRegistered}
 use Rattle.tss_phases.proofs.Received.{received_all}
 use Rattle.tss_phases.proofs.News.{AreNews, news_both}
 use Rattle.tss_phases.proofs.ToldPhases.{not_told, bye_tells}
-use Rattle.tss_phases.proofs.ReleaseEvent.{versions_released, bye_promised, sent_by_release, news_heads, news_released, release_sends_here, look_ups-release-own, look_ups-release-other, phase_of-release, phase_of-release-other}
+use Rattle.tss_phases.proofs.ReleaseEvent.{versions_released, bye_promised, sent_by_release, news_heads, news_released}
+use Rattle.tss_phases.proofs.ReleaseEvent.{release_sends_here, look_ups-release-own, look_ups-release-other}
+use Rattle.tss_phases.proofs.ReleaseEvent.{phase_of-release, phase_of-release-other}
 use Rattle.tss_phases.proofs.OrderlyLemmas.{releasing_stands}
 use Rattle.tss_control.proofs.readers.Links.{links-release}
 use Rattle.tss_control.proofs.holders.Sent.{waiting_opener}
@@ -58,7 +60,7 @@ module _ (m : Machine) (S : State) (release : Release m S) where
   order = keeps_order m S facts (event.Release o)
 
   -- whom its messages tell waits
-  pub told_waits : (q : OpName) → WaitsIfTold S (sent_by_release S.versions o v x c.producer) q
+  told_waits : (q : OpName) → WaitsIfTold S (sent_by_release S.versions o v x c.producer) q
   told_waits q t = (order c there).1 q (ap (λ ms. tells ms q) (release_sends_here m S o c x there k.there) ∙ t)
 
   -- whom it tells, the bye aside, waits

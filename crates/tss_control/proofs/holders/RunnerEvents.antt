@@ -1,5 +1,6 @@
 -- Every event keeps what is known of tasks that are queued, run, or have finished.
-use Rattle.std.proofs.Common.{◌≡◌, ℕ, ◌≤◌, Bool, true, false, if◌then◌else◌, List, Option, Some, None, refl, sym, ap, ◌∙◌, subst, inl, inr, arith, true≢false}
+use Rattle.std.proofs.Common.{◌≡◌, ℕ, ◌≤◌, Bool, true, false, if◌then◌else◌, List, Option, Some, None, refl, sym, ap}
+use Rattle.std.proofs.Common.{◌∙◌, subst, inl, inr, arith, true≢false}
 use Rattle.std.specs.Prelude.{slice_get, option_map}
 use Rattle.std.specs.FinMap.{get, insert, remove}
 use Rattle.std.proofs.lemmas.Option.{none-some, same_Some}
@@ -23,7 +24,8 @@ use Rattle.tss_phases.specs.Orderly.{AreOrderly, FinishesReady, KeepsOrder}
 use Rattle.tss_phases.proofs.Records.{task_of_record, record_beside_put}
 use Rattle.tss_phases.proofs.MainEvent.{phase_of-main}
 use Rattle.tss_phases.proofs.TakeEvent.{phase_of-take, phase_of-take-other}
-use Rattle.tss_phases.proofs.QuietEvents.{phase_of-ack, phase_of-exec, phase_of-idle, phase_of-retire, phase_of-copy, phase_of-gone}
+use Rattle.tss_phases.proofs.QuietEvents.{phase_of-ack, phase_of-exec, phase_of-idle, phase_of-retire, phase_of-copy}
+use Rattle.tss_phases.proofs.QuietEvents.{phase_of-gone}
 use Rattle.tss_phases.proofs.StartEvent.{phase_of-start}
 use Rattle.tss_phases.proofs.FinishEvent.{flight-finish, phase_of-finish-other}
 use Rattle.tss_phases.proofs.OrderlyDecode.{new_record}
@@ -36,10 +38,11 @@ use Rattle.tss_protocol.proofs.FrontLemmas.{ComeFrom, all_come, KeepsFront, Keep
 use Rattle.tss_names.proofs.TakeLemmas.{TakesTask, takes_take}
 use Rattle.tss_control.proofs.holders.Stages.{RunsOn, runs_on}
 use Rattle.tss_control.proofs.holders.Late.{NoLater, late_same, late_kept}
-use Rattle.tss_control.proofs.holders.Later.{later-decode, later-open, later-use, later-ready, later-link, later-release, later-bye, later-nack}
+use Rattle.tss_control.proofs.holders.Later.{later-decode, later-open, later-use, later-ready, later-link}
+use Rattle.tss_control.proofs.holders.Later.{later-release, later-bye, later-nack}
 
 -- in a state each late operand is of a finished task
-abbrev pub LateIsFinished : State → Type 0
+abbrev LateIsFinished : State → Type 0
 LateIsFinished T =
     (o : OpName) (r : OperandState) → operand_at T.flight o ≡ Some r → is_late (phase_of T o) ≡ true
     → IsAtStage T.flight o.task stage.Finished

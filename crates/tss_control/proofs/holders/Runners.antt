@@ -1,5 +1,6 @@
 -- Tasks that are queued or run stay in flight at that stage, and once, whatever event happens.
-use Rattle.std.proofs.Common.{◌≡◌, ◌≢◌, ℕ, inl, inr, Bool, true, false, if◌then◌else◌, List, [], ◌∷◌, ◌++◌, Option, Some, None, refl, sym, ap, ◌∙◌, subst, arith, true≢false}
+use Rattle.std.proofs.Common.{◌≡◌, ◌≢◌, ℕ, inl, inr, Bool, true, false, if◌then◌else◌, List, [], ◌∷◌, ◌++◌, Option}
+use Rattle.std.proofs.Common.{Some, None, refl, sym, ap, ◌∙◌, subst, arith, true≢false}
 use Rattle.std.specs.Prelude.{◌==◌, ◌||◌}
 use Rattle.std.specs.FinMap.{get, insert, remove}
 use Rattle.std.proofs.lemmas.Bool.Decides.{nat_tests}
@@ -11,7 +12,8 @@ use Rattle.tss_base.specs.Names.{Numbered}
 use Rattle.tss_maps.proofs.Keys.{nat_order, decide_key}
 use Rattle.tss_maps.proofs.Changes.{at_inserted, beside_inserted, from_inserted, beside_removed, from_removed}
 use Rattle.tss_protocol.specs.State.{Flying, Busy}
-use Rattle.tss_protocol.specs.Stations.{is_gone, has_finished, remaining_tasks, entered, flight_after_take, flight_after_start, finished_in}
+use Rattle.tss_protocol.specs.Stations.{is_gone, has_finished, remaining_tasks, entered, flight_after_take}
+use Rattle.tss_protocol.specs.Stations.{flight_after_start, finished_in}
 use Rattle.tss_protocol.specs.Workers.{busy_at_start}
 use Rattle.tss_protocol.specs.UnitMachine.{queue_with, is_queued}
 use Rattle.tss_phases.proofs.LeavingTasks.{done_from_test}
@@ -38,17 +40,17 @@ one_stage flight n k s t a b same =
     sym a.2 ∙ ap (λ (x : Flying). x.stage) (same_Some a.0 b.0 (sym a.1 ∙ ap (get flight) same ∙ b.1)) ∙ b.2
 
 -- beside a task that is put
-pub stage_beside : (flight : Numbered Flying) (n : ℕ) (y : Flying) (k : ℕ) (s : Stage) → k ≢ n → IsAtStage flight k s
+stage_beside : (flight : Numbered Flying) (n : ℕ) (y : Flying) (k : ℕ) (s : Stage) → k ≢ n → IsAtStage flight k s
     → IsAtStage (insert flight n y) k s
 stage_beside flight n y k s apart a = (a.0, beside_inserted nat_order flight n y k apart ∙ a.1, a.2)
 
 -- the one that is put
-pub stage_put : (flight : Numbered Flying) (n : ℕ) (y : Flying) (k : ℕ) (s : Stage) → k ≡ n → y.stage ≡ s
+stage_put : (flight : Numbered Flying) (n : ℕ) (y : Flying) (k : ℕ) (s : Stage) → k ≡ n → y.stage ≡ s
     → IsAtStage (insert flight n y) k s
 stage_put flight n y k s same e = (y, ap (get (insert flight n y)) same ∙ at_inserted nat_order flight n y, e)
 
 -- beside a task that may leave
-pub stage_remaining : (flight : Numbered Flying) (n : ℕ) (y : Flying) (k : ℕ) (s : Stage) → k ≢ n
+stage_remaining : (flight : Numbered Flying) (n : ℕ) (y : Flying) (k : ℕ) (s : Stage) → k ≢ n
     → IsAtStage flight k s → IsAtStage (remaining_tasks flight n y) k s
 stage_remaining flight n y k s apart a =
     elim (is_gone y) as (λ b. IsAtStage (if b then remove flight n else insert flight n y) k s) [
@@ -57,7 +59,7 @@ stage_remaining flight n y k s apart a =
     ]
 
 -- a task that goes on at a stage before the last stays
-pub stage_stays : (flight : Numbered Flying) (n : ℕ) (y : Flying) (s : Stage) → has_finished s ≡ false → y.stage ≡ s
+stage_stays : (flight : Numbered Flying) (n : ℕ) (y : Flying) (s : Stage) → has_finished s ≡ false → y.stage ≡ s
     → IsAtStage (remaining_tasks flight n y) n s
 stage_stays flight n y s early e = by (is_gone y) refl
   where
@@ -68,7 +70,7 @@ stage_stays flight n y s early e = by (is_gone y) refl
 -- ---- the queue
 
 -- one more behind others that aren't it
-pub once_more : (ns : List ℕ) (t : ℕ) → in_queue t ns ≡ false → AreApart ns → AreApart (ns ++ t ∷ [])
+once_more : (ns : List ℕ) (t : ℕ) → in_queue t ns ≡ false → AreApart ns → AreApart (ns ++ t ∷ [])
 once_more [] t e h = (refl, tt)
 once_more (n ∷ ns) t e h =
     let parts = neither_part (n == t) (in_queue t ns) e in
@@ -89,7 +91,7 @@ once_more (n ∷ ns) t e h =
         ap (λ b. b || in_queue n (ns ++ t ∷ [])) parts.0 ∙ beyond ns n t e parts.1
 
 -- one that isn't there isn't found
-pub not_in_queue : (ns : List ℕ) (n : ℕ) → (in_queue n ns ≡ true → ⊥) → in_queue n ns ≡ false
+not_in_queue : (ns : List ℕ) (n : ℕ) → (in_queue n ns ≡ true → ⊥) → in_queue n ns ≡ false
 not_in_queue ns n never = by (in_queue n ns) refl
   where
     by : (b : Bool) → in_queue n ns ≡ b → in_queue n ns ≡ false

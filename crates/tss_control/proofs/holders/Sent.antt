@@ -1,12 +1,14 @@
 -- Messages that tell an operand its own version, and the openers of versions that are alike.
-use Rattle.std.proofs.Common.{◌≡◌, Bool, true, false, List, [], ◌∷◌, Option, Some, None, refl, sym, ap, ◌∙◌, inl, inr, true≢false}
+use Rattle.std.proofs.Common.{◌≡◌, Bool, true, false, List, [], ◌∷◌, Option, Some, None, refl, sym, ap, ◌∙◌, inl, inr}
+use Rattle.std.proofs.Common.{true≢false}
 use Rattle.std.specs.FinMap.{get}
 use Rattle.std.proofs.lemmas.Bool.{or_cases}
 use Rattle.tss_base.specs.declared.operand.OpName.{OpName}
 use Rattle.tss_base.specs.declared.operand.Mode.{Mode}
 use Rattle.tss_base.specs.declared.operand.Mode.TheVariants.{Input, Output, Inout}
 use Rattle.tss_base.specs.Names.{Named}
-use Rattle.tss_protocol.specs.Mail.{StorageName, Source, Message, Decode, Ack, Open, Use, Ready, Link, Release, Bye, Idle, Nack, Retire, Gone}
+use Rattle.tss_protocol.specs.Mail.{StorageName, Source, Message, Decode, Ack, Open, Use, Ready, Link, Release, Bye}
+use Rattle.tss_protocol.specs.Mail.{Idle, Nack, Retire, Gone}
 use Rattle.tss_protocol.specs.State.{Version}
 use Rattle.tss_phases.specs.Phase.{Phase, Waiting}
 use Rattle.tss_phases.specs.Told.{is_ready_for, tells}

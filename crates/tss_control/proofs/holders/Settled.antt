@@ -1,6 +1,7 @@
 -- What a settle leaves of versions: it changes no object and no produced bit. One version may go, which was done, and
 -- one that is told may get the storage of that. All others keep their storages.
-use Rattle.std.proofs.Common.{◌≡◌, ◌≢◌, ◌⊎◌, true, false, List, [], ◌∷◌, Option, Some, None, refl, sym, ap, ◌∙◌, subst, inl, inr}
+use Rattle.std.proofs.Common.{◌≡◌, ◌≢◌, ◌⊎◌, true, false, List, [], ◌∷◌, Option, Some, None, refl, sym, ap, ◌∙◌, subst}
+use Rattle.std.proofs.Common.{inl, inr}
 use Rattle.std.specs.Prelude.{◌||◌}
 use Rattle.std.specs.FinMap.{get, insert}
 use Rattle.std.proofs.lemmas.Option.{none-some}
@@ -10,9 +11,12 @@ use Rattle.tss_base.specs.declared.marks.Follow.{Follow}
 use Rattle.tss_base.specs.Names.{Named}
 use Rattle.tss_maps.proofs.Keys.{name_order, decide_key}
 use Rattle.tss_maps.proofs.Changes.{at_inserted, beside_inserted, at_removed, beside_removed}
-use Rattle.tss_protocol.specs.Mail.{StorageName, Message, Decode, Ack, Open, Use, Ready, Link, Release, Bye, Idle, Nack, Retire, Gone}
+use Rattle.tss_protocol.specs.Mail.{StorageName, Message, Decode, Ack, Open, Use, Ready, Link, Release, Bye, Idle, Nack}
+use Rattle.tss_protocol.specs.Mail.{Retire, Gone}
 use Rattle.tss_protocol.specs.State.{Version}
-use Rattle.tss_protocol.specs.Versions.{Versioned, sending, died, buffer_of, ready_with, drop_version, change_version, version_changed, change_named, followed_by, unlinked, may_die, settle_over, settle_asking, unchanged, settled}
+use Rattle.tss_protocol.specs.Versions.{Versioned, sending, died, buffer_of, ready_with, drop_version, change_version}
+use Rattle.tss_protocol.specs.Versions.{version_changed, change_named, followed_by, unlinked, may_die, settle_over}
+use Rattle.tss_protocol.specs.Versions.{settle_asking, unchanged, settled}
 use Rattle.tss_protocol.specs.Names.{same_name}
 use Rattle.tss_phases.specs.Told.{tells}
 use Rattle.tss_phases.proofs.Received.{own_name}
@@ -28,7 +32,7 @@ pub record HeldAlike (y z : Version) : Type 0 where
   pub storage : z.storage ≡ y.storage
 
 -- both there and alike, or none
-abbrev pub AlikeBy : Option Version → Option Version → Type 0
+abbrev AlikeBy : Option Version → Option Version → Type 0
 AlikeBy None None = Unit {0}
 AlikeBy None (Some z) = ⊥
 AlikeBy (Some y) None = ⊥

@@ -1,5 +1,6 @@
 -- Every event leaves tasks that are queued or run in flight at that stage, and one that has finished stays so.
-use Rattle.std.proofs.Common.{◌≡◌, ℕ, Bool, true, false, if◌then◌else◌, List, ◌∷◌, Option, Some, None, refl, sym, ap, ◌∙◌, subst, inl, inr, arith, true≢false}
+use Rattle.std.proofs.Common.{◌≡◌, ℕ, Bool, true, false, if◌then◌else◌, List, ◌∷◌, Option, Some, None, refl, sym, ap}
+use Rattle.std.proofs.Common.{◌∙◌, subst, inl, inr, arith, true≢false}
 use Rattle.std.specs.Prelude.{is_some}
 use Rattle.std.specs.FinMap.{get, insert, remove}
 use Rattle.std.proofs.lemmas.Option.{none-some, same_Some}
@@ -12,7 +13,8 @@ use Rattle.tss_base.specs.Names.{Numbered}
 use Rattle.tss_maps.proofs.Keys.{nat_order}
 use Rattle.tss_maps.proofs.Changes.{from_inserted, from_removed, one_value}
 use Rattle.tss_protocol.specs.State.{State, Flying}
-use Rattle.tss_protocol.specs.Stations.{is_ready, is_complete, is_gone, remaining_tasks, entered, flight_after_start, finished_in, flight_after_finish, task_after_ready, awaited}
+use Rattle.tss_protocol.specs.Stations.{is_ready, is_complete, is_gone, remaining_tasks, entered, flight_after_start}
+use Rattle.tss_protocol.specs.Stations.{finished_in, flight_after_finish, task_after_ready, awaited}
 use Rattle.tss_protocol.specs.UnitMachine.{IsEnabled, after_event}
 use Rattle.tss_phases.specs.Phase.{look_ups}
 use Rattle.tss_phases.specs.Orderly.{AreOrderly}
@@ -24,10 +26,12 @@ use Rattle.tss_protocol.proofs.FrontLemmas.{KeepsFront}
 use Rattle.tss_names.proofs.SpawnLemmas.{SpawnsOne}
 use Rattle.tss_names.proofs.TakeLemmas.{TakesTask}
 use Rattle.tss_names.proofs.NumberLemmas.{taken_newest, last_taken_before}
-use Rattle.tss_names.proofs.BackLemmas.{Standing, standing_by, standing_of, ReadiesOperand, ChangesTask, StartsTask, ExecutesTask, FinishesTask, kept_by_standing}
+use Rattle.tss_names.proofs.BackLemmas.{Standing, standing_by, standing_of, ReadiesOperand, ChangesTask, StartsTask}
+use Rattle.tss_names.proofs.BackLemmas.{ExecutesTask, FinishesTask, kept_by_standing}
 use Rattle.tss_names.proofs.QueueLemmas.{at_front, in_queue}
 use Rattle.tss_names.proofs.StageLemmas.{waiting≢finished, queued≢finished}
-use Rattle.tss_control.proofs.holders.Runners.{Runs, runs_went_on, runs_readied, runs_taken, runs_started, runs_executed, runs_finished}
+use Rattle.tss_control.proofs.holders.Runners.{Runs, runs_went_on, runs_readied, runs_taken, runs_started}
+use Rattle.tss_control.proofs.holders.Runners.{runs_executed, runs_finished}
 use Rattle.tss_control.proofs.holders.Order.{ready_in}
 
 -- a task that has finished stays so while it is in flight

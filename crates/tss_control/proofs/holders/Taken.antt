@@ -1,5 +1,6 @@
 -- What operands hold after a take and a decode: an operand that is on its way to its version holds nothing yet.
-use Rattle.std.proofs.Common.{◌≡◌, ◌≢◌, Bool, true, false, Option, Some, None, refl, sym, ap, ◌∙◌, subst, inl, inr, true≢false}
+use Rattle.std.proofs.Common.{◌≡◌, ◌≢◌, Bool, true, false, Option, Some, None, refl, sym, ap, ◌∙◌, subst, inl, inr}
+use Rattle.std.proofs.Common.{true≢false}
 use Rattle.std.specs.Prelude.{slice_get, option_map}
 use Rattle.std.specs.FinMap.{get}
 use Rattle.std.proofs.lemmas.Option.{none-some, same_Some}
@@ -18,13 +19,15 @@ use Rattle.tss_protocol.specs.Mail.{StorageName, Source, ReleaseContents}
 use Rattle.tss_protocol.specs.State.{State, OperandState, Version}
 use Rattle.tss_protocol.specs.Stations.{operand_at, new_operand, flight_after_take}
 use Rattle.tss_protocol.specs.UnitMachine.{is_enabled, IsEnabled, after_event, after_take, can_decode_message}
-use Rattle.tss_phases.specs.Phase.{Phase, Ahead, Decoding, Sent, Waiting, Told, Ready, Releasing, Leaving, Promised, Left, LookUps, look_ups, phase_at, phase_of}
+use Rattle.tss_phases.specs.Phase.{Phase, Ahead, Decoding, Sent, Waiting, Told, Ready, Releasing, Leaving, Promised}
+use Rattle.tss_phases.specs.Phase.{Left, LookUps, look_ups, phase_at, phase_of}
 use Rattle.tss_phases.specs.Openers.{version_opener, opener_by, produced_opener, open_opener}
 use Rattle.tss_phases.specs.Orderly.{IsOrderly}
 use Rattle.tss_phases.proofs.Tests.{something}
 use Rattle.tss_phases.proofs.Shown.{ahead_shows}
 use Rattle.tss_phases.proofs.PhaseLemmas.{phase_telling, phase_releasing, phase_leaving}
-use Rattle.tss_phases.proofs.OrderlyLemmas.{decoding_stands, telling_stands, releasing_stands, leaving_stands, ahead_by_test}
+use Rattle.tss_phases.proofs.OrderlyLemmas.{decoding_stands, telling_stands, releasing_stands, leaving_stands}
+use Rattle.tss_phases.proofs.OrderlyLemmas.{ahead_by_test}
 use Rattle.tss_phases.proofs.OrderlyDecode.{new_record}
 use Rattle.tss_phases.proofs.TakeEvent.{look_ups-take-other, inbox_is_ahead, phase_of-take}
 use Rattle.tss_phases.proofs.DecodeEvent.{decoding_before, phase_of-decode, look_ups-decode-other}
@@ -43,7 +46,7 @@ use Rattle.tss_control.proofs.rounds.Facts.{Facts}
 -- ---- operands on their way
 
 -- decoding, or sent to its version
-abbrev pub is_early : Phase → Bool
+abbrev is_early : Phase → Bool
 is_early Decoding = true
 is_early Sent = true
 is_early p = false
@@ -93,7 +96,7 @@ module _ (l : LookUps) (orderly : IsOrderly l) (early : is_early (phase_at l) �
       ∙ ap is_early (phase_leaving l s a.decoding a.opening a.using a.telling a.releasing e)))
 
   -- an operand on its way holds nothing, where it has no link and was told nothing
-  pub holding_early : (T : Source → Type 0) (O C : Type 0) (w : Bool) (k : Option OpName) (r : OperandState) → k ≡ None
+  holding_early : (T : Source → Type 0) (O C : Type 0) (w : Bool) (k : Option OpName) (r : OperandState) → k ≡ None
       → l.station ≡ Some r → r.source ≡ None → r.link ≡ link.Nothing → Holding T O C w l k
   holding_early T O C w k r no_link kept fresh nothing =
       let releasing = no_releasing l.releasing refl in
@@ -113,7 +116,7 @@ no_opener_by y mode p produced opened true = produced
 no_opener_by y mode p produced opened false = opened
 
 -- an operand that isn't sent yet has opened no version
-pub no_opener_ahead : (y : Version) (mode : Mode) → version_opener y mode Ahead ≡ false
+no_opener_ahead : (y : Version) (mode : Mode) → version_opener y mode Ahead ≡ false
 no_opener_ahead y mode = no_opener_by y mode Ahead (by mode) (at y.storage) y.produced
   where
     by : (mode : Mode) → produced_opener mode Ahead ≡ false
@@ -126,7 +129,7 @@ no_opener_ahead y mode = no_opener_by y mode Ahead (by mode) (at y.storage) y.pr
     at (Some s) = refl
 
 -- no version has an opener that is being decoded
-pub no_opener_decoding : (y : Version) (mode : Mode) → version_opener y mode Decoding ≡ false
+no_opener_decoding : (y : Version) (mode : Mode) → version_opener y mode Decoding ≡ false
 no_opener_decoding y mode = no_opener_by y mode Decoding (by mode) (at y.storage) y.produced
   where
     by : (mode : Mode) → produced_opener mode Decoding ≡ false

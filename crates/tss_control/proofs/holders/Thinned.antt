@@ -33,7 +33,7 @@ ThinsHeld vs us = (w : OpName) (y : Version) → get vs w ≡ Some y → StaysHe
 module _ (ts : List Task) (g : Arrivals) (S T : State) (h : IsControlled ts g S)
     (thins : ThinsHeld S.versions T.versions) where
   -- what is needed is still true
-  pub true_still : (o : OpName) (p : Operand) (s : Source) → operand_among ts o ≡ Some p
+  true_still : (o : OpName) (p : Operand) (s : Source) → operand_among ts o ≡ Some p
       → Needs (phase_of S o) (get S.mail.links o) → IsTrue g S o p s → IsTrue g T o p s
   true_still o p s at needs t = elim (thins s.version t.version t.there) [
     | inl stays ↦ record {
@@ -47,7 +47,7 @@ module _ (ts : List Task) (g : Arrivals) (S T : State) (h : IsControlled ts g S)
   ]
 
   -- a reader that waits has still come to its version
-  pub come_still : (o : OpName) → phase_of S o ≡ Waiting → HasCome g S o → HasCome g T o
+  come_still : (o : OpName) → phase_of S o ≡ Waiting → HasCome g S o → HasCome g T o
   come_still o waits c = elim (thins c.0 c.1 c.2) [
     | inl stays ↦ (c.0, stays.0, stays.1, c.3)
     | inr spent ↦ absurd (none_waits ts g S h c.0 c.1 c.2 spent.0 spent.1 o c.3 waits)

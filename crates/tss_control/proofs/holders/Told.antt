@@ -1,5 +1,6 @@
 -- Whom an open, a release and a nack tell: operands that wait, beside the one that opens.
-use Rattle.std.proofs.Common.{◌≡◌, ◌≢◌, ℕ, zero, suc, true, List, Option, Some, None, refl, sym, ap, ◌∙◌, subst, inl, inr, arith, true≢false}
+use Rattle.std.proofs.Common.{◌≡◌, ◌≢◌, ℕ, zero, suc, true, List, Option, Some, None, refl, sym, ap, ◌∙◌, subst, inl}
+use Rattle.std.proofs.Common.{inr, arith, true≢false}
 use Rattle.std.specs.FinMap.{get, len}
 use Rattle.std.proofs.lemmas.Option.{none-some, same_Some}
 use Rattle.tss_base.specs.declared.operand.OpName.{OpName}
@@ -12,8 +13,10 @@ use Rattle.tss_maps.proofs.Keys.{name_order}
 use Rattle.tss_maps.proofs.Changes.{at_inserted, beside_inserted, decide_get, one_value}
 use Rattle.tss_protocol.specs.Mail.{OpenContents}
 use Rattle.tss_protocol.specs.State.{State, Version}
-use Rattle.tss_protocol.specs.Versions.{put_version, may_die, version_changed, new_version, followed, after_nack, refused_once, unlinked}
-use Rattle.tss_phases.specs.Phase.{Phase, Ahead, Decoding, Sent, Waiting, Told, Ready, Releasing, Leaving, Promised, Left, phase_of}
+use Rattle.tss_protocol.specs.Versions.{put_version, may_die, version_changed, new_version, followed, after_nack}
+use Rattle.tss_protocol.specs.Versions.{refused_once, unlinked}
+use Rattle.tss_phases.specs.Phase.{Phase, Ahead, Decoding, Sent, Waiting, Told, Ready, Releasing, Leaving, Promised}
+use Rattle.tss_phases.specs.Phase.{Left, phase_of}
 use Rattle.tss_phases.specs.Openers.{is_waiting, opener_by}
 use Rattle.tss_phases.specs.Orderly.{TellWaiting, OpensForWaiting}
 use Rattle.tss_phases.specs.Settling.{GoesOn, SettleTells}
@@ -41,7 +44,7 @@ waiting_from_test Left e = absurd (true≢false (sym e))
 
 module _ (ts : List Task) (g : Arrivals) (S : State) (chains : HasChains ts S) (holders : HasHolders ts g S) where
   -- the opener of a version without a storage waits
-  pub opener_waits : (v : OpName) (y : Version) → get S.versions v ≡ Some y → y.storage ≡ None → phase_of S v ≡ Waiting
+  opener_waits : (v : OpName) (y : Version) → get S.versions v ≡ Some y → y.storage ≡ None → phase_of S v ≡ Waiting
   opener_waits v y there none =
       let p = chains.opener v y there in
       let unproduced = ((chains.storages v y there).waits none).0 in
@@ -52,7 +55,7 @@ module _ (ts : List Task) (g : Arrivals) (S : State) (chains : HasChains ts S) (
       storeless = λ i. record y { storage = none i }
 
   -- whom one that is followed over has before it waits
-  pub over_waits : (v : OpName) (x : Version) (f : Follow) → get S.versions v ≡ Some x → x.successor ≡ Some f
+  over_waits : (v : OpName) (x : Version) (f : Follow) → get S.versions v ≡ Some x → x.successor ≡ Some f
       → f.how ≡ Over → phase_of S f.version ≡ Waiting
   over_waits v x f there to over =
       let n = (chains.linked v x there).followed f to in

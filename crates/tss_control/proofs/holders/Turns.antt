@@ -1,5 +1,6 @@
 -- What an operand holds where it becomes ready, is linked, lets go, and has gone.
-use Rattle.std.proofs.Common.{◌≡◌, ◌≢◌, ℕ, Bool, true, false, Option, Some, None, refl, sym, ap, ◌∙◌, subst, inl, inr, true≢false}
+use Rattle.std.proofs.Common.{◌≡◌, ◌≢◌, ℕ, Bool, true, false, Option, Some, None, refl, sym, ap, ◌∙◌, subst, inl, inr}
+use Rattle.std.proofs.Common.{true≢false}
 use Rattle.std.specs.Prelude.{if◌then◌else◌, slice_get}
 use Rattle.std.specs.FinMap.{insert, remove}
 use Rattle.std.proofs.lemmas.Option.{none-some, same_Some}
@@ -10,8 +11,10 @@ use Rattle.tss_base.specs.declared.marks.LinkState.TheVariants as link
 use Rattle.tss_base.specs.Names.{Numbered}
 use Rattle.tss_protocol.specs.Mail.{Source}
 use Rattle.tss_protocol.specs.State.{OperandState, Flying}
-use Rattle.tss_protocol.specs.Stations.{operand_at, operand_after_ready, link_after_ready, operand_after_link, link_after_link, is_gone, remaining_tasks}
-use Rattle.tss_phases.specs.Phase.{Phase, Ahead, Decoding, Sent, Waiting, Told, Ready, Releasing, Leaving, Promised, Left, LookUps, absent_phase, station_phase, record_phase, phase_at}
+use Rattle.tss_protocol.specs.Stations.{operand_at, operand_after_ready, link_after_ready, operand_after_link}
+use Rattle.tss_protocol.specs.Stations.{link_after_link, is_gone, remaining_tasks}
+use Rattle.tss_phases.specs.Phase.{Phase, Ahead, Decoding, Sent, Waiting, Told, Ready, Releasing, Leaving, Promised}
+use Rattle.tss_phases.specs.Phase.{Left, LookUps, absent_phase, station_phase, record_phase, phase_at}
 use Rattle.tss_phases.specs.Alone.{IsSilent, HasRecord}
 use Rattle.tss_phases.specs.Leaving.{phase_linked}
 use Rattle.tss_phases.specs.Orderly.{IsInformed, FitsPhase, IsOrderly}
@@ -29,7 +32,7 @@ use Rattle.tss_control.proofs.holders.Moves.{none_left}
 -- ---- one without a record
 
 -- an operand that has no record and no message holds nothing
-pub holding_gone : (T : Source → Type 0) (O C : Type 0) (w : Bool) (l : LookUps) (k : Option OpName) → IsSilent l
+holding_gone : (T : Source → Type 0) (O C : Type 0) (w : Bool) (l : LookUps) (k : Option OpName) → IsSilent l
     → l.station ≡ None → Holding T O C w l k
 holding_gone T O C w l k silent none = record {
   told = λ s e. absurd (none_left l.telling s silent.telling e);

@@ -1,6 +1,7 @@
 -- What operands hold after a use: its operand has come to the version and waits, or is told it, and the last reader may
 -- be linked to it.
-use Rattle.std.proofs.Common.{◌≡◌, ◌≢◌, ◌⊎◌, Bool, true, false, cond, List, ◌∷◌, Option, Some, None, refl, sym, ap, ◌∙◌, subst, inl, inr}
+use Rattle.std.proofs.Common.{◌≡◌, ◌≢◌, ◌⊎◌, Bool, true, false, cond, List, ◌∷◌, Option, Some, None, refl, sym, ap, ◌∙◌}
+use Rattle.std.proofs.Common.{subst, inl, inr}
 use Rattle.std.specs.FinMap.{get}
 use Rattle.std.proofs.lemmas.Option.{same_Some}
 use Rattle.tss_base.specs.declared.operand.OpName.{OpName}
@@ -13,7 +14,8 @@ use Rattle.tss_maps.proofs.Changes.{at_inserted, beside_inserted}
 use Rattle.tss_model.specs.Access.{writes}
 use Rattle.tss_protocol.specs.Mail.{Source, StorageName, Message, posted_all}
 use Rattle.tss_protocol.specs.State.{State, Version}
-use Rattle.tss_protocol.specs.Versions.{Versioned, put_version, enlisted, ready_with, used_alone, used_behind, used_at, after_use}
+use Rattle.tss_protocol.specs.Versions.{Versioned, put_version, enlisted, ready_with, used_alone, used_behind, used_at}
+use Rattle.tss_protocol.specs.Versions.{after_use}
 use Rattle.tss_protocol.specs.UnitMachine.{after_event, without, use_message_taken}
 use Rattle.tss_phases.specs.Phase.{look_ups}
 use Rattle.tss_phases.proofs.Received.{own_name, received_all}

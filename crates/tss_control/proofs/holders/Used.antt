@@ -1,5 +1,6 @@
 -- All that operands hold after a use.
-use Rattle.std.proofs.Common.{◌≡◌, ◌≢◌, Bool, true, false, List, [], ◌∷◌, Option, Some, None, refl, sym, ap, ◌∙◌, subst, inl, inr, arith, true≢false}
+use Rattle.std.proofs.Common.{◌≡◌, ◌≢◌, Bool, true, false, List, [], ◌∷◌, Option, Some, None, refl, sym, ap, ◌∙◌, subst}
+use Rattle.std.proofs.Common.{inl, inr, arith, true≢false}
 use Rattle.std.specs.Prelude.{cond, is_some}
 use Rattle.std.specs.FinMap.{get}
 use Rattle.std.proofs.lemmas.Option.{none-some, same_Some}
@@ -16,7 +17,8 @@ use Rattle.tss_protocol.specs.Mail.{Source, StorageName}
 use Rattle.tss_protocol.specs.State.{State, OperandState, Version}
 use Rattle.tss_protocol.specs.Stations.{operand_at}
 use Rattle.tss_protocol.specs.UnitMachine.{is_enabled, IsEnabled, after_event, can_use_message}
-use Rattle.tss_phases.specs.Phase.{Phase, Ahead, Decoding, Sent, Waiting, Told, Ready, Releasing, Leaving, Promised, Left, LookUps, look_ups, phase_at, phase_of, has_released}
+use Rattle.tss_phases.specs.Phase.{Phase, Ahead, Decoding, Sent, Waiting, Told, Ready, Releasing, Leaving, Promised}
+use Rattle.tss_phases.specs.Phase.{Left, LookUps, look_ups, phase_at, phase_of, has_released}
 use Rattle.tss_phases.specs.Alone.{IsSilent}
 use Rattle.tss_phases.specs.Openers.{version_opener}
 use Rattle.tss_phases.specs.Orderly.{IsUntold, FitsPhase, IsOrderly, AreOrderly}
@@ -27,12 +29,14 @@ use Rattle.tss_phases.proofs.Tests.{something}
 use Rattle.tss_locality.proofs.LeftFields.{Leaves-after_event}
 use Rattle.tss_control.specs.Members.{operand_among}
 use Rattle.tss_control.specs.Chains.{IsUseInOrder}
-use Rattle.tss_control.specs.Readers.{Arrivals, Has, has_arrived, tail_of, set_arrivals, arrivals_used, arrivals_after_event, IsNewest, HasArrivals}
+use Rattle.tss_control.specs.Readers.{Arrivals, Has, has_arrived, tail_of, set_arrivals, arrivals_used}
+use Rattle.tss_control.specs.Readers.{arrivals_after_event, IsNewest, HasArrivals}
 use Rattle.tss_control.specs.Holders.{IsOwnOrRead, IsTrue, link_fits, HasHolders}
 use Rattle.tss_control.proofs.rounds.ReadersLists.{newest_of, newest_at}
 use Rattle.tss_control.proofs.readers.Come.{at_set}
 use Rattle.tss_control.proofs.readers.Use.{sent_link}
-use Rattle.tss_control.proofs.holders.Fits.{Holding, LinksFit, HoldsIn, HasOpened, HasCome, holding_of, holding_mapped, holders_by}
+use Rattle.tss_control.proofs.holders.Fits.{Holding, LinksFit, HoldsIn, HasOpened, HasCome, holding_of, holding_mapped}
+use Rattle.tss_control.proofs.holders.Fits.{holders_by}
 use Rattle.tss_control.proofs.holders.Moves.{holding_fresh, links_none}
 use Rattle.tss_control.proofs.holders.Leaves.{may_be_linked, holding_linking}
 use Rattle.tss_control.proofs.holders.Sent.{same_opener}
@@ -57,7 +61,7 @@ tail_some S (b ∷ bs) a e = by (has_released (phase_of S b)) refl e
         (e, ap (λ a. has_released (phase_of S a)) (sym same) ∙ t, inl same)
 
 -- a reader that has come and hasn't released its version may be linked
-pub come_linked : (p : Phase) → has_arrived p ≡ true → has_released p ≡ false → may_be_linked p ≡ true
+come_linked : (p : Phase) → has_arrived p ≡ true → has_released p ≡ false → may_be_linked p ≡ true
 come_linked Ahead a b = absurd (true≢false (sym a))
 come_linked Decoding a b = absurd (true≢false (sym a))
 come_linked Sent a b = absurd (true≢false (sym a))
@@ -70,7 +74,7 @@ come_linked Promised a b = absurd (true≢false b)
 come_linked Left a b = absurd (true≢false b)
 
 -- and has a record
-pub linked_has_record : (l : LookUps) (p : Phase) → FitsPhase p l → may_be_linked p ≡ true
+linked_has_record : (l : LookUps) (p : Phase) → FitsPhase p l → may_be_linked p ≡ true
     → (r : OperandState) × (l.station ≡ Some r)
 linked_has_record l Ahead f a = absurd (true≢false (sym a))
 linked_has_record l Decoding f a = absurd (true≢false (sym a))
@@ -348,7 +352,7 @@ module _ (m : Machine) (S : State) (facts : Facts m S) (o : OpName) (on : IsEnab
   ]
 
   -- who holds what, after it
-  pub holders_used : HasHolders ts New T
+  holders_used : HasHolders ts New T
   holders_used =
       holders_by ts New T each_holds openers_used records_used
       (HasRunners-after_event m all S ground.numbers ground.stages h.orderly h.holders.runners (event.Use o) on tt)

@@ -1,5 +1,6 @@
 -- One more reader comes to a version: what has to be known so that its readers are in order.
-use Rattle.std.proofs.Common.{◌≡◌, ◌≢◌, ◌⊎◌, inl, inr, ℕ, suc, Bool, true, false, cond, List, [], ◌∷◌, Option, Some, None, refl, sym, ap, ◌∙◌, subst}
+use Rattle.std.proofs.Common.{◌≡◌, ◌≢◌, ◌⊎◌, inl, inr, ℕ, suc, Bool, true, false, cond, List, [], ◌∷◌, Option, Some}
+use Rattle.std.proofs.Common.{None, refl, sym, ap, ◌∙◌, subst}
 use Rattle.std.specs.FinMap.{get}
 use Rattle.std.proofs.lemmas.Option.{none-some, same_Some}
 use Rattle.tss_base.specs.declared.operand.OpName.{OpName}
@@ -12,28 +13,31 @@ use Rattle.tss_phases.specs.Phase.{Phase, Waiting, Told, phase_of, has_released}
 use Rattle.tss_phases.proofs.Tests.{not_both}
 use Rattle.tss_phases.specs.Openers.{is_waiting}
 use Rattle.tss_control.specs.Members.{IsOn}
-use Rattle.tss_control.specs.Readers.{Has, oldest_of, head_of, tail_of, released_among, has_arrived, IsArrival, Holds, IsLinking, AreNeighbours, IsNewest, AreChained, HasArrivals}
-use Rattle.tss_control.proofs.rounds.ReadersLists.{newest_of, IsNext, has_older, has_newer, has_oldest, has_newest, none_after_newest, chained_at, chained_by, newest_at, newest_by}
+use Rattle.tss_control.specs.Readers.{Has, oldest_of, head_of, tail_of, released_among, has_arrived, IsArrival, Holds}
+use Rattle.tss_control.specs.Readers.{IsLinking, AreNeighbours, IsNewest, AreChained, HasArrivals}
+use Rattle.tss_control.proofs.rounds.ReadersLists.{newest_of, IsNext, has_older, has_newer, has_oldest, has_newest}
+use Rattle.tss_control.proofs.rounds.ReadersLists.{none_after_newest, chained_at, chained_by, newest_at, newest_by}
 use Rattle.tss_control.proofs.rounds.ReadersCounts.{same_released}
-use Rattle.tss_control.proofs.rounds.ReadersKept.{waiting_from_test, SameReader, alike_same, neighbours_kept, arrival_kept}
+use Rattle.tss_control.proofs.rounds.ReadersKept.{waiting_from_test, SameReader, alike_same, neighbours_kept}
+use Rattle.tss_control.proofs.rounds.ReadersKept.{arrival_kept}
 use Rattle.tss_control.proofs.rounds.ReadersStates.{nothing_held}
 
 -- ---- lists
 
 -- the oldest is the same in a longer list
-pub oldest_more : (o a : OpName) (xs : List OpName) → oldest_of xs ≡ Some a → oldest_of (o ∷ xs) ≡ Some a
+oldest_more : (o a : OpName) (xs : List OpName) → oldest_of xs ≡ Some a → oldest_of (o ∷ xs) ≡ Some a
 oldest_more o a [] e = absurd (none-some a e)
 oldest_more o a (x ∷ xs) e = e
 
 -- the newest is followed by one more
-pub next_more : (o a b : OpName) (xs : List OpName) → IsNext a b (o ∷ xs)
+next_more : (o a b : OpName) (xs : List OpName) → IsNext a b (o ∷ xs)
     → ((o ≡ b) × (newest_of xs ≡ Some a)) ⊎ IsNext a b xs
 next_more o a b [] h = absurd h
 next_more o a b (x ∷ xs) (inl p) = inl (p.0, ap Some p.1)
 next_more o a b (x ∷ xs) (inr h) = inr h
 
 -- a reader that waits keeps all after it waiting
-pub newer_waits : (S : State) (a b : OpName) → AreNeighbours S a b → phase_of S a ≡ Waiting → phase_of S b ≡ Waiting
+newer_waits : (S : State) (a b : OpName) → AreNeighbours S a b → phase_of S a ≡ Waiting → phase_of S b ≡ Waiting
 newer_waits S a b n w = by (is_waiting (phase_of S b)) refl
   where
     by : (t : Bool) → is_waiting (phase_of S b) ≡ t → phase_of S b ≡ Waiting
@@ -73,7 +77,7 @@ pub record Enlists (ts : List Task) (xs : List OpName) (S T : State) (v : OpName
 module _ (ts : List Task) (xs : List OpName) (S T : State) (v : OpName) (x z : Version) (o : OpName)
     (k : Enlists ts xs S T v x z o) where
   -- a reader whose link under way is the same is as it was
-  pub reader_same : (a : OpName) → Has a xs → get T.mail.links a ≡ get S.mail.links a → SameReader S T a
+  reader_same : (a : OpName) → Has a xs → get T.mail.links a ≡ get S.mail.links a → SameReader S T a
   reader_same a h e = record {
     phase = alike_same (phase_of S a) (phase_of T a) (k.same a h);
     links = e;
@@ -90,7 +94,7 @@ module _ (ts : List Task) (xs : List OpName) (S T : State) (v : OpName) (x z : V
   new_own (inr h) = oldest_more o v xs (k.old.own h)
 
   -- its readers are in order with one more
-  pub arrivals_enlisted : z.head ≡ head_of z.produced (o ∷ xs)
+  arrivals_enlisted : z.head ≡ head_of z.produced (o ∷ xs)
       → ((a : OpName) → oldest_of (o ∷ xs) ≡ Some a
       → (phase_of T a ≡ Waiting → z.produced ≡ false) × (z.produced ≡ false → phase_of T a ≡ Waiting))
       → ((a : OpName) → newest_of xs ≡ Some a → AreNeighbours T a o)
@@ -133,7 +137,7 @@ told_first : (p : Phase) → p ≡ Told → p ≡ Waiting → ⊥
 told_first p e f = cc
 
 -- where a list has no tail, its newest has released the version
-pub no_tail : (S : State) (xs : List OpName) → tail_of S xs ≡ None → (a : OpName) → newest_of xs ≡ Some a
+no_tail : (S : State) (xs : List OpName) → tail_of S xs ≡ None → (a : OpName) → newest_of xs ≡ Some a
     → has_released (phase_of S a) ≡ true
 no_tail S [] e a n = absurd (none-some a n)
 no_tail S (x ∷ xs) e a n =
@@ -153,7 +157,7 @@ tail_is_newest S (x ∷ xs) t e = by (has_released (phase_of S x)) e
     by false e = e
 
 -- the oldest of a longer list
-pub oldest_by : (o a : OpName) (xs : List OpName) → oldest_of (o ∷ xs) ≡ Some a
+oldest_by : (o a : OpName) (xs : List OpName) → oldest_of (o ∷ xs) ≡ Some a
     → ((xs ≡ []) × (o ≡ a)) ⊎ (oldest_of xs ≡ Some a)
 oldest_by o a [] e = inl (refl, same_Some o a e)
 oldest_by o a (x ∷ xs) e = inr e

@@ -1,6 +1,7 @@
 -- A version is opened that follows another: what that leaves of all versions, and whom a settle of the followed one
 -- tells.
-use Rattle.std.proofs.Common.{◌≡◌, ◌≢◌, ◌⊎◌, inl, inr, ℕ, ◌<◌, ◌≤◌, true, List, Option, Some, None, refl, sym, ap, ◌∙◌, subst, arith}
+use Rattle.std.proofs.Common.{◌≡◌, ◌≢◌, ◌⊎◌, inl, inr, ℕ, ◌<◌, ◌≤◌, true, List, Option, Some, None, refl, sym, ap, ◌∙◌}
+use Rattle.std.proofs.Common.{subst, arith}
 use Rattle.std.specs.FinMap.{get}
 use Rattle.std.proofs.lemmas.Option.{none-some, same_Some}
 use Rattle.tss_base.specs.declared.operand.OpName.{OpName}
@@ -19,7 +20,8 @@ use Rattle.tss_phases.specs.Settling.{SettleTells}
 use Rattle.tss_control.specs.Members.{total}
 use Rattle.tss_control.specs.Chains.{IsOpenInOrder, OpensAfter, HasChains}
 use Rattle.tss_control.proofs.rounds.ReadersKept.{SameForReaders, same_version}
-use Rattle.tss_control.proofs.readers.Told.{FollowsOver, StandsBeside, settle_tells_over, IsTaker, followed_by_takers, with_storage_beside, produced_has_storage, from_changed}
+use Rattle.tss_control.proofs.readers.Told.{FollowsOver, StandsBeside, settle_tells_over, IsTaker, followed_by_takers}
+use Rattle.tss_control.proofs.readers.Told.{with_storage_beside, produced_has_storage, from_changed}
 use Rattle.tss_control.proofs.readers.Settled.{HasFewReaders, registered_in_total, few_readers}
 
 less_than_itself : (a : ℕ) → a < a → ⊥

@@ -18,8 +18,10 @@ use Rattle.tss_phases.specs.Orderly.{AreOrderly, FinishesReady}
 use Rattle.tss_phases.proofs.Tests.{something}
 use Rattle.tss_phases.proofs.Records.{operand_in}
 use Rattle.tss_phases.proofs.OrderlyLemmas.{leaving_stands, taken_by_record}
-use Rattle.tss_phases.proofs.FinishEvent.{finished_task, flight-finish, phase_of-finish, phase_of-finish-other, look_ups-finish-beyond}
-use Rattle.tss_phases.proofs.ByeEvent.{parted_task, parted_record, parted_record_other, flight-bye, leaving_before, phase_of-bye, phase_of-bye-other}
+use Rattle.tss_phases.proofs.FinishEvent.{finished_task, flight-finish, phase_of-finish, phase_of-finish-other}
+use Rattle.tss_phases.proofs.FinishEvent.{look_ups-finish-beyond}
+use Rattle.tss_phases.proofs.ByeEvent.{parted_task, parted_record, parted_record_other, flight-bye, leaving_before}
+use Rattle.tss_phases.proofs.ByeEvent.{phase_of-bye, phase_of-bye-other}
 use Rattle.tss_locality.proofs.LeftFields.{Leaves-after_event}
 use Rattle.tss_control.specs.Readers.{Arrivals, HasReaders}
 use Rattle.tss_control.specs.Holders.{HasHolders}
@@ -29,7 +31,7 @@ use Rattle.tss_control.proofs.readers.Stations.{IsEarly, station_before, holds_a
 use Rattle.tss_control.proofs.readers.Tasks.{alike_by, releasing_alike, parted_alike, readers_by}
 
 -- a phase is another one than the two in which a link is held
-abbrev pub IsLate : Phase → Type 0
+abbrev IsLate : Phase → Type 0
 IsLate p = IsEarly p → ⊥
 
 -- every name

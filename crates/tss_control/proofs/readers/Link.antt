@@ -1,5 +1,6 @@
 -- Readers after a link: its operand holds it, or tells the reader that came right after it.
-use Rattle.std.proofs.Common.{◌≡◌, ◌≢◌, ◌⊎◌, inl, inr, Bool, true, false, List, Option, Some, None, refl, sym, ap, ◌∙◌, subst}
+use Rattle.std.proofs.Common.{◌≡◌, ◌≢◌, ◌⊎◌, inl, inr, Bool, true, false, List, Option, Some, None, refl, sym, ap, ◌∙◌}
+use Rattle.std.proofs.Common.{subst}
 use Rattle.std.specs.Prelude.{is_some}
 use Rattle.std.specs.FinMap.{get, remove}
 use Rattle.std.proofs.lemmas.Option.{none-some, same_Some}
@@ -14,16 +15,19 @@ use Rattle.tss_maps.proofs.Keys.{name_order}
 use Rattle.tss_maps.proofs.Changes.{at_removed, beside_removed}
 use Rattle.tss_protocol.specs.Mail.{Source}
 use Rattle.tss_protocol.specs.State.{State, OperandState, Flying, Version}
-use Rattle.tss_protocol.specs.Stations.{operand_at, remaining_tasks, link_after_link, farewell_after_link, operand_after_link, sent_by_link}
+use Rattle.tss_protocol.specs.Stations.{operand_at, remaining_tasks, link_after_link, farewell_after_link}
+use Rattle.tss_protocol.specs.Stations.{operand_after_link, sent_by_link}
 use Rattle.tss_protocol.specs.UnitMachine.{IsEnabled, is_enabled, after_event, without, link_message_taken}
-use Rattle.tss_phases.specs.Phase.{Phase, Ahead, Decoding, Sent, Waiting, Told, Ready, Releasing, Leaving, Promised, Left, LookUps, look_ups, phase_at, phase_of, is_ahead}
+use Rattle.tss_phases.specs.Phase.{Phase, Ahead, Decoding, Sent, Waiting, Told, Ready, Releasing, Leaving, Promised}
+use Rattle.tss_phases.specs.Phase.{Left, LookUps, look_ups, phase_at, phase_of, is_ahead}
 use Rattle.tss_phases.specs.Alone.{HasRecord}
 use Rattle.tss_phases.specs.Leaving.{phase_linked}
 use Rattle.tss_phases.specs.Told.{tells, phase_told}
 use Rattle.tss_phases.specs.Orderly.{FitsPhase, WasTold, IsOrderly, AreOrderly, TellWaiting, LinksWaiting}
 use Rattle.tss_phases.proofs.Tests.{something}
 use Rattle.tss_phases.proofs.OrderlyLemmas.{taken_by_record}
-use Rattle.tss_phases.proofs.LinkEvent.{link_tells, link_tells_next, linked_task, flight-link, linked_record, linked_record_other, phase_of-link, phase_of-link-other}
+use Rattle.tss_phases.proofs.LinkEvent.{link_tells, link_tells_next, linked_task, flight-link, linked_record}
+use Rattle.tss_phases.proofs.LinkEvent.{linked_record_other, phase_of-link, phase_of-link-other}
 use Rattle.tss_locality.proofs.LeftFields.{Leaves-after_event}
 use Rattle.tss_control.specs.Readers.{Arrivals, IsLinking, AreNeighbours, HasReaders}
 use Rattle.tss_control.specs.Holders.{HasHolders}
@@ -33,14 +37,15 @@ use Rattle.tss_control.proofs.rounds.ReadersLists.{IsNext, next_apart, chained_a
 use Rattle.tss_control.proofs.rounds.ReadersKept.{is_told, told_from_test, waited, LooksAlike, alike_same}
 use Rattle.tss_control.proofs.readers.Links.{IsNoLink, links_kept}
 use Rattle.tss_control.proofs.readers.Settled.{fails}
-use Rattle.tss_control.proofs.readers.Stations.{IsEarly, early_record, record_from_remaining, record_stays, station_before, holds_after}
+use Rattle.tss_control.proofs.readers.Stations.{IsEarly, early_record, record_from_remaining, record_stays}
+use Rattle.tss_control.proofs.readers.Stations.{station_before, holds_after}
 use Rattle.tss_control.proofs.readers.Ready.{told_not_waiting}
 use Rattle.tss_control.proofs.readers.Wakes.{IsWoken, Wakes, readers_after_wake}
 
 -- ---- phases
 
 -- what readers see of a phase is the same after a link
-pub linked_alike : (p : Phase) → LooksAlike p (phase_linked p)
+linked_alike : (p : Phase) → LooksAlike p (phase_linked p)
 linked_alike Ahead = record { waiting = refl; told = refl; released = refl; arrived = refl }
 linked_alike Decoding = record { waiting = refl; told = refl; released = refl; arrived = refl }
 linked_alike Sent = record { waiting = refl; told = refl; released = refl; arrived = refl }
@@ -81,7 +86,7 @@ module _ (l : LookUps) (r : OperandState) (at : l.station ≡ Some r) (none : r.
   ]
 
   -- an operand that was told nothing hasn't said farewell
-  pub untold_stays : IsOrderly l → r.farewell ≡ farewell.Nothing
+  untold_stays : IsOrderly l → r.farewell ≡ farewell.Nothing
   untold_stays orderly = stays_in (phase_at l) orderly.fits
 
 passed_is : (s : Option Source) (next : OpName) (t : Source) → s ≡ Some t → link_after_link s next ≡ link.Passed

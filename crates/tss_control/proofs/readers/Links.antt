@@ -15,13 +15,20 @@ use Rattle.tss_base.specs.declared.marks.How.TheVariants.{Beside, Over}
 use Rattle.tss_base.specs.declared.marks.Follow.{Follow}
 use Rattle.tss_base.specs.Names.{Named}
 use Rattle.tss_model.specs.Access.{operands_of}
-use Rattle.tss_protocol.specs.Mail.{StorageName, Home, Buffer, Source, OpenContents, ReleaseContents, IdleContents, GoneContents, Message, Decode, Ack, Open, Use, Ready, Link, Release, Bye, Idle, Nack, Retire, Gone, Mail, posted, posted_all}
+use Rattle.tss_protocol.specs.Mail.{StorageName, Home, Buffer, Source, OpenContents, ReleaseContents, IdleContents}
+use Rattle.tss_protocol.specs.Mail.{GoneContents, Message, Decode, Ack, Open, Use, Ready, Link, Release, Bye, Idle}
+use Rattle.tss_protocol.specs.Mail.{Nack, Retire, Gone, Mail, posted, posted_all}
 use Rattle.tss_protocol.specs.State.{State, Busy, Flying, Entry, Version, CopyState}
 use Rattle.tss_protocol.specs.Gateway.{decodes_from}
 use Rattle.tss_protocol.specs.Renaming.{decode_message, live_message, may_retire, idle_by}
-use Rattle.tss_protocol.specs.Versions.{Settling, ready_with, may_die, may_ask, settle_asking, settle_how, settle_by, settle_at, settle, settled, unchanged, opened_how, opened_by, head_ready, released_by, released_at, nacked_at}
+use Rattle.tss_protocol.specs.Versions.{Settling, ready_with, may_die, may_ask, settle_asking, settle_how, settle_by}
+use Rattle.tss_protocol.specs.Versions.{settle_at, settle, settled, unchanged, opened_how, opened_by, head_ready}
+use Rattle.tss_protocol.specs.Versions.{released_by, released_at, nacked_at}
 use Rattle.tss_protocol.specs.Buffers.{sent_by_retire, sent_by_copy, is_last_piece}
-use Rattle.tss_protocol.specs.UnitMachine.{after_event, without, after_take, decode_message_taken, open_message_taken, ready_message_taken, after_start, start_task, after_exec, after_finish, release_message_taken, bye_message_taken, idle_message_taken, retire_version, after_copy, gone_message_taken}
+use Rattle.tss_protocol.specs.UnitMachine.{after_event, without, after_take, decode_message_taken, open_message_taken}
+use Rattle.tss_protocol.specs.UnitMachine.{ready_message_taken, after_start, start_task, after_exec, after_finish}
+use Rattle.tss_protocol.specs.UnitMachine.{release_message_taken, bye_message_taken, idle_message_taken, retire_version}
+use Rattle.tss_protocol.specs.UnitMachine.{after_copy, gone_message_taken}
 use Rattle.tss_protocol.proofs.SentLemmas.{AllSent, AllSent-append, after_ready-all, flight_after_finish-all}
 
 -- ---- messages that are no links

@@ -19,8 +19,10 @@ use Rattle.tss_maps.proofs.Changes.{still_inserted, at_inserted, beside_inserted
 use Rattle.tss_protocol.specs.Mail.{Home, OpenContents}
 use Rattle.tss_protocol.specs.State.{State, Version}
 use Rattle.tss_protocol.specs.Stations.{operand_at}
-use Rattle.tss_protocol.specs.Versions.{first_version, put_version, followed, opened_how, opened_by, after_open, settled}
-use Rattle.tss_protocol.specs.UnitMachine.{IsEnabled, is_enabled, after_event, without, open_message_taken, can_open_message}
+use Rattle.tss_protocol.specs.Versions.{first_version, put_version, followed, opened_how, opened_by, after_open}
+use Rattle.tss_protocol.specs.Versions.{settled}
+use Rattle.tss_protocol.specs.UnitMachine.{IsEnabled, is_enabled, after_event, without, open_message_taken}
+use Rattle.tss_protocol.specs.UnitMachine.{can_open_message}
 use Rattle.tss_phases.specs.Phase.{Sent, Waiting, Told, look_ups, phase_of}
 use Rattle.tss_phases.specs.Told.{tells, phase_told}
 use Rattle.tss_phases.specs.Orderly.{AreOrderly, OpensForWaiting}
@@ -32,7 +34,8 @@ use Rattle.tss_locality.proofs.LeftFields.{Leaves-after_event}
 use Rattle.tss_control.specs.Members.{IsOn}
 use Rattle.tss_control.specs.Chains.{IsOpenInOrder, FollowsAs, HasChains}
 use Rattle.tss_names.specs.Openings.{HasOpenings}
-use Rattle.tss_control.specs.Readers.{Arrivals, first_arrivals, set_arrivals, arrivals_opened, arrivals_after_event, Has, has_arrived, HasArrivals, HasReaders}
+use Rattle.tss_control.specs.Readers.{Arrivals, first_arrivals, set_arrivals, arrivals_opened, arrivals_after_event}
+use Rattle.tss_control.specs.Readers.{Has, has_arrived, HasArrivals, HasReaders}
 use Rattle.tss_control.specs.Holders.{HasHolders}
 use Rattle.tss_control.proofs.rounds.ReadersKept.{same_version}
 use Rattle.tss_control.proofs.readers.Links.{links-open}

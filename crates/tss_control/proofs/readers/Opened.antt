@@ -1,5 +1,6 @@
 -- A version is opened: its readers, and all others.
-use Rattle.std.proofs.Common.{◌≡◌, ◌≢◌, ◌⊎◌, inl, inr, ℕ, ◌<◌, true, false, cond, List, [], ◌∷◌, Some, None, refl, sym, ap, ◌∙◌, subst, arith}
+use Rattle.std.proofs.Common.{◌≡◌, ◌≢◌, ◌⊎◌, inl, inr, ℕ, ◌<◌, true, false, cond, List, [], ◌∷◌, Some, None, refl, sym}
+use Rattle.std.proofs.Common.{ap, ◌∙◌, subst, arith}
 use Rattle.std.specs.FinMap.{get}
 use Rattle.std.proofs.lemmas.Option.{none-some, same_Some}
 use Rattle.tss_base.specs.declared.operand.OpName.{OpName}
@@ -12,7 +13,8 @@ use Rattle.tss_protocol.specs.Stations.{operand_at}
 use Rattle.tss_phases.specs.Phase.{Told, phase_of, has_released}
 use Rattle.tss_phases.proofs.Tests.{not_both}
 use Rattle.tss_control.specs.Members.{IsOn}
-use Rattle.tss_control.specs.Readers.{Arrivals, set_arrivals, Has, head_of, has_arrived, IsArrival, IsLinking, HasArrivals, HasReaders}
+use Rattle.tss_control.specs.Readers.{Arrivals, set_arrivals, Has, head_of, has_arrived, IsArrival, IsLinking}
+use Rattle.tss_control.specs.Readers.{HasArrivals, HasReaders}
 use Rattle.tss_control.proofs.rounds.ReadersKept.{SameForReaders, alike_same, arrivals_kept}
 use Rattle.tss_control.proofs.readers.Ready.{told_not_waiting}
 use Rattle.tss_control.proofs.readers.Come.{at_set, beside_set}

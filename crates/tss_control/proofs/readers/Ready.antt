@@ -20,7 +20,8 @@ use Rattle.tss_phases.specs.Told.{tells, phase_told}
 use Rattle.tss_phases.specs.Orderly.{AreOrderly, ReadiesWaiting}
 use Rattle.tss_phases.proofs.Tests.{something, not_both}
 use Rattle.tss_phases.proofs.OrderlyLemmas.{telling_stands}
-use Rattle.tss_phases.proofs.ReadyEvent.{ready_tells, ready_tells_next, ready_record, ready_record_other, told_before, phase_of-ready, phase_of-ready-other}
+use Rattle.tss_phases.proofs.ReadyEvent.{ready_tells, ready_tells_next, ready_record, ready_record_other, told_before}
+use Rattle.tss_phases.proofs.ReadyEvent.{phase_of-ready, phase_of-ready-other}
 use Rattle.tss_locality.proofs.LeftFields.{Leaves-after_event}
 use Rattle.tss_control.specs.Readers.{Arrivals, has_arrived, Holds, AreNeighbours, IsNewest, HasReaders}
 use Rattle.tss_control.proofs.rounds.HoldersNext.{held_waits}
@@ -33,7 +34,7 @@ use Rattle.tss_control.proofs.readers.Wakes.{IsWoken, Wakes, readers_after_wake}
 -- ---- links
 
 -- a link is held for someone, or for nobody
-pub held_or_free : (l : LinkState) → ((c : OpName) × (l ≡ link.Held c)) ⊎ ((c : OpName) → l ≡ link.Held c → ⊥)
+held_or_free : (l : LinkState) → ((c : OpName) × (l ≡ link.Held c)) ⊎ ((c : OpName) → l ≡ link.Held c → ⊥)
 held_or_free link.Nothing = inr (λ c e. cc)
 held_or_free (link.Held c) = inl (c, refl)
 held_or_free link.Passed = inr (λ c e. cc)

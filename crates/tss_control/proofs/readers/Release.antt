@@ -1,5 +1,6 @@
 -- Readers after a release: by a reader of the version, or by its producer, which tells the first of them.
-use Rattle.std.proofs.Common.{◌≡◌, ◌≢◌, ◌⊎◌, inl, inr, suc, Bool, true, false, List, Some, None, refl, sym, ap, ◌∙◌, subst}
+use Rattle.std.proofs.Common.{◌≡◌, ◌≢◌, ◌⊎◌, inl, inr, suc, Bool, true, false, List, Some, None, refl, sym, ap, ◌∙◌}
+use Rattle.std.proofs.Common.{subst}
 use Rattle.std.specs.Prelude.{is_some}
 use Rattle.std.specs.FinMap.{get, len}
 use Rattle.std.proofs.lemmas.Option.{none-some, same_Some}
@@ -23,23 +24,28 @@ use Rattle.tss_phases.specs.Told.{tells, phase_told, WaitsIfTold}
 use Rattle.tss_phases.specs.Settling.{SettleTells}
 use Rattle.tss_phases.specs.Orderly.{AreOrderly, ReleasesRegistered}
 use Rattle.tss_phases.proofs.Tests.{something, not_both}
-use Rattle.tss_phases.proofs.ReleaseEvent.{version_released, sent_by_release, release_tells, release_tells_head, release_sends_here, phase_of-release, phase_of-release-other}
+use Rattle.tss_phases.proofs.ReleaseEvent.{version_released, sent_by_release, release_tells, release_tells_head}
+use Rattle.tss_phases.proofs.ReleaseEvent.{release_sends_here, phase_of-release, phase_of-release-other}
 use Rattle.tss_locality.specs.Rounds.{IsRounded}
 use Rattle.tss_locality.proofs.LeftFields.{Leaves-after_event}
 use Rattle.tss_control.specs.Members.{operand_among, IsOn}
 use Rattle.tss_control.specs.Chains.{HasChains}
-use Rattle.tss_control.specs.Readers.{Arrivals, Has, oldest_of, head_of, has_arrived, AreNeighbours, HasArrivals, HasReaders}
+use Rattle.tss_control.specs.Readers.{Arrivals, Has, oldest_of, head_of, has_arrived, AreNeighbours, HasArrivals}
+use Rattle.tss_control.specs.Readers.{HasReaders}
 use Rattle.tss_control.specs.Holders.{IsOwnOrRead, HasHolders}
 use Rattle.tss_control.proofs.rounds.ReleaseFacts.{Releases, releases_facts}
-use Rattle.tss_control.proofs.rounds.ReadersLists.{IsNext, has_older, has_newer, has_oldest, none_before_oldest, chained_at, chained_by, newest_at, newest_by}
+use Rattle.tss_control.proofs.rounds.ReadersLists.{IsNext, has_older, has_newer, has_oldest, none_before_oldest}
+use Rattle.tss_control.proofs.rounds.ReadersLists.{chained_at, chained_by, newest_at, newest_by}
 use Rattle.tss_control.proofs.rounds.ReadersCounts.{same_released, same_tail}
 use Rattle.tss_control.proofs.rounds.ReadersKept.{alike_same, still_waits, neighbours_kept, arrival_kept}
 use Rattle.tss_control.proofs.readers.Wakes.{waiting_told, neighbours_woken}
 use Rattle.tss_control.proofs.readers.Ready.{told_not_waiting}
 use Rattle.tss_control.proofs.readers.Links.{links-release}
 use Rattle.tss_control.proofs.readers.Told.{IsTaker, taker_writes}
-use Rattle.tss_control.proofs.readers.Settled.{HasFewReaders, few_readers, few_written, readers_settled, settle_tells_taker, fails}
-use Rattle.tss_control.proofs.readers.Written.{SameStations, reader_by, newest_stays, readers_written, arrivals_released, arrivals_beside}
+use Rattle.tss_control.proofs.readers.Settled.{HasFewReaders, few_readers, few_written, readers_settled}
+use Rattle.tss_control.proofs.readers.Settled.{settle_tells_taker, fails}
+use Rattle.tss_control.proofs.readers.Written.{SameStations, reader_by, newest_stays, readers_written}
+use Rattle.tss_control.proofs.readers.Written.{arrivals_released, arrivals_beside}
 
 -- ---- the producer releases
 
@@ -86,7 +92,7 @@ module _ (ts : List Task) (xs : List OpName) (S T : State) (v : OpName) (x : Ver
       ]
 
   -- its readers are in order where the first is told
-  pub arrivals_produced : HasArrivals ts xs T v (produced_now x)
+  arrivals_produced : HasArrivals ts xs T v (produced_now x)
   arrivals_produced = record {
     once = h.once;
     each = λ a q. arrival_kept ts S T v x (produced_now x) a refl (first_seen a q).1 (h.each a q);

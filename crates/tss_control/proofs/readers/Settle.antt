@@ -1,6 +1,7 @@
 -- What a settle leaves to the readers of versions: it removes versions alone that as many have released as it was to
 -- have, and changes nothing in the others that readers make.
-use Rattle.std.proofs.Common.{◌≡◌, ◌⊎◌, inl, inr, ℕ, zero, suc, Bool, true, false, Option, Some, None, refl, sym, ap, ◌∙◌, subst, arith}
+use Rattle.std.proofs.Common.{◌≡◌, ◌⊎◌, inl, inr, ℕ, zero, suc, Bool, true, false, Option, Some, None, refl, sym, ap}
+use Rattle.std.proofs.Common.{◌∙◌, subst, arith}
 use Rattle.std.specs.Prelude.{option_map, ◌&&◌, ◌==◌, is_none, if◌then◌else◌}
 use Rattle.std.proofs.lemmas.Bool.Decides.{nat_tests}
 use Rattle.std.proofs.lemmas.Option.{none-some, same_Some}
@@ -14,14 +15,16 @@ use Rattle.tss_maps.proofs.Keys.{name_order, decide_key}
 use Rattle.tss_maps.proofs.Changes.{from_inserted, from_removed, at_inserted, beside_inserted, beside_removed}
 use Rattle.tss_protocol.specs.Mail.{StorageName}
 use Rattle.tss_protocol.specs.State.{Version}
-use Rattle.tss_protocol.specs.Versions.{Settling, put_version, drop_version, version_changed, change_version, change_named, may_die, may_ask, followed_by, unlinked, settle_asking, settle_how, settle_by, settle_at, settle, unchanged}
+use Rattle.tss_protocol.specs.Versions.{Settling, put_version, drop_version, version_changed, change_version}
+use Rattle.tss_protocol.specs.Versions.{change_named, may_die, may_ask, followed_by, unlinked, settle_asking}
+use Rattle.tss_protocol.specs.Versions.{settle_how, settle_by, settle_at, settle, unchanged}
 use Rattle.tss_phases.proofs.Tests.{both}
 use Rattle.tss_control.proofs.rounds.ReadersKept.{SameForReaders, same_version}
 
 -- ---- versions that keep what readers make of them
 
 -- the final number of readers, where a version has a successor
-abbrev pub last_of : Option Follow → Option ℕ
+abbrev last_of : Option Follow → Option ℕ
 last_of f = option_map (λ (f : Follow). f.last) f
 
 -- a version keeps this with its final number
@@ -30,7 +33,7 @@ pub record KeepsCounts (y z : Version) : Type 0 where
   pub last : last_of z.successor ≡ last_of y.successor
 
 -- it is done: as many have released it as it was to have
-abbrev pub IsDone : Version → Type 0
+abbrev IsDone : Version → Type 0
 IsDone y = (f : Follow) × (y.successor ≡ Some f) × (y.released ≡ f.last)
 
 some_last : (f : Option Follow) (n : ℕ) → last_of f ≡ Some n → (h : Follow) × (f ≡ Some h) × (h.last ≡ n)
@@ -168,7 +171,7 @@ equal_numbers : (a b : ℕ) → (a == b) ≡ true → a ≡ b
 equal_numbers a b e = grind (arith, nat_tests)
 
 -- a version that may die is done
-pub done_from_test : (x : Version) (f : Follow) → x.successor ≡ Some f → may_die x f.last ≡ true → IsDone x
+done_from_test : (x : Version) (f : Follow) → x.successor ≡ Some f → may_die x f.last ≡ true → IsDone x
 done_from_test x f to e =
     let t = both (x.produced && (x.released == f.last)) (is_none x.asked) e in
     (f, to, equal_numbers x.released f.last (both x.produced (x.released == f.last) t.0).1)

@@ -1,5 +1,6 @@
 -- Readers after events that settle a version: a nack, and what the others share with it.
-use Rattle.std.proofs.Common.{◌≡◌, inl, inr, ℕ, suc, ◌+◌, ◌≤◌, Bool, true, false, List, Option, Some, None, refl, sym, ap, ◌∙◌, subst, arith}
+use Rattle.std.proofs.Common.{◌≡◌, inl, inr, ℕ, suc, ◌+◌, ◌≤◌, Bool, true, false, List, Option, Some, None, refl, sym}
+use Rattle.std.proofs.Common.{ap, ◌∙◌, subst, arith}
 use Rattle.std.specs.Prelude.{is_some}
 use Rattle.std.specs.FinMap.{get, len}
 use Rattle.std.proofs.lemmas.Option.{same_Some}
@@ -30,7 +31,8 @@ use Rattle.tss_control.proofs.rounds.ReadersKept.{SameForReaders, LooksAlike, al
 use Rattle.tss_control.proofs.rounds.ReadersStates.{KeepsReaders, readers_kept, readers_fewer}
 use Rattle.tss_control.proofs.readers.Links.{links-nack}
 use Rattle.tss_control.proofs.readers.Settle.{Thins, thins_settle}
-use Rattle.tss_control.proofs.readers.Told.{FollowsOver, StandsBeside, settle_tells_over, IsTaker, taker_writes, followed_by_takers, with_storage_beside, produced_has_storage}
+use Rattle.tss_control.proofs.readers.Told.{FollowsOver, StandsBeside, settle_tells_over, IsTaker, taker_writes}
+use Rattle.tss_control.proofs.readers.Told.{followed_by_takers, with_storage_beside, produced_has_storage}
 
 -- ---- a settle
 
@@ -96,11 +98,11 @@ module _ (vs : Named Version) (v : OpName) (x z : Version) (there : get vs v ≡
   ]
 
   -- what holds of all that a version gives way over to holds where one version is written
-  pub follows_over_written : (Q : OpName → Type 0) → FollowsOver Q vs → FollowsOver Q Written
+  follows_over_written : (Q : OpName → Type 0) → FollowsOver Q vs → FollowsOver Q Written
   follows_over_written Q over q y f e to way = let w = was_there q y e in over q w.0 f w.1 (sym w.2 ∙ to) way
 
   -- and so does what stands beside
-  pub beside_written : StandsBeside vs x → (y : Version) → get Written v ≡ Some y → StandsBeside Written y
+  beside_written : StandsBeside vs x → (y : Version) → get Written v ≡ Some y → StandsBeside Written y
   beside_written beside y e q w f back at to =
       let k = was_there q w at in
       let h = was_there v y e in

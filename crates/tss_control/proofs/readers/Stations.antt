@@ -12,7 +12,8 @@ use Rattle.tss_base.specs.declared.marks.LinkState.TheVariants as link
 use Rattle.tss_base.specs.Names.{Numbered}
 use Rattle.tss_protocol.specs.State.{State, OperandState, Flying}
 use Rattle.tss_protocol.specs.Stations.{operand_at, is_gone, remaining_tasks}
-use Rattle.tss_phases.specs.Phase.{Phase, Ahead, Decoding, Sent, Waiting, Told, Ready, Releasing, Leaving, Promised, Left, LookUps, look_ups, phase_of}
+use Rattle.tss_phases.specs.Phase.{Phase, Ahead, Decoding, Sent, Waiting, Told, Ready, Releasing, Leaving, Promised}
+use Rattle.tss_phases.specs.Phase.{Left, LookUps, look_ups, phase_of}
 use Rattle.tss_phases.specs.Alone.{HasRecord}
 use Rattle.tss_phases.specs.Orderly.{FitsPhase, AreOrderly}
 use Rattle.tss_phases.proofs.Records.{record_put, record_removed}
@@ -41,7 +42,7 @@ fits_early Promised next e = absurd (cc)
 fits_early Left next e = absurd (cc)
 
 -- who holds a link waits, or is told
-pub held_early : (ts : List Task) (g : Arrivals) (S : State) → HasHolders ts g S → (a c : OpName) (p : Operand)
+held_early : (ts : List Task) (g : Arrivals) (S : State) → HasHolders ts g S → (a c : OpName) (p : Operand)
     → operand_among ts a ≡ Some p → Holds S a c → IsEarly (phase_of S a)
 held_early ts g S h a c p there held =
     fits_early (phase_of S a) c

@@ -1,5 +1,6 @@
 -- Decode, take, finish and bye change no version and no link of a reader that has come.
-use Rattle.std.proofs.Common.{◌≡◌, ◌≢◌, inl, inr, Bool, true, false, List, Option, Some, None, refl, sym, ap, ◌∙◌, subst}
+use Rattle.std.proofs.Common.{◌≡◌, ◌≢◌, inl, inr, Bool, true, false, List, Option, Some, None, refl, sym, ap, ◌∙◌}
+use Rattle.std.proofs.Common.{subst}
 use Rattle.std.specs.Prelude.{slice_get, option_map}
 use Rattle.std.specs.FinMap.{get}
 use Rattle.std.proofs.lemmas.Option.{none-some, same_Some}
@@ -37,7 +38,7 @@ pub alike_by : (p q a b : Phase) → p ≡ a → q ≡ b → LooksAlike a b → 
 alike_by p q a b e f h = subst (λ p. LooksAlike p q) (sym e) (subst (LooksAlike a) (sym f) h)
 
 -- as do these
-pub sent_alike : LooksAlike Decoding Sent
+sent_alike : LooksAlike Decoding Sent
 sent_alike = record { waiting = refl; told = refl; released = refl; arrived = refl }
 
 -- nor between one that is ready and one that releases

@@ -15,7 +15,8 @@ use Rattle.tss_base.specs.Names.{Named}
 use Rattle.tss_maps.proofs.Keys.{name_order}
 use Rattle.tss_maps.proofs.Changes.{from_inserted, from_removed}
 use Rattle.tss_protocol.specs.State.{State, Version}
-use Rattle.tss_protocol.specs.Versions.{drop_version, version_changed, change_version, change_named, followed_by, unlinked}
+use Rattle.tss_protocol.specs.Versions.{drop_version, version_changed, change_version, change_named, followed_by}
+use Rattle.tss_protocol.specs.Versions.{unlinked}
 use Rattle.tss_phases.specs.Settling.{SettleTells}
 use Rattle.tss_protocol.specs.Settled.{GivesWay}
 use Rattle.tss_phases.proofs.SettlingLemmas.{settle_tells_by}

@@ -1,5 +1,6 @@
 -- Readers after a use: its operand comes to the version as the newest reader.
-use Rattle.std.proofs.Common.{◌≡◌, ◌≢◌, ◌⊎◌, inl, inr, ℕ, suc, ◌<◌, Bool, true, false, List, ◌∷◌, Option, Some, None, refl, sym, ap, ◌∙◌, subst, arith}
+use Rattle.std.proofs.Common.{◌≡◌, ◌≢◌, ◌⊎◌, inl, inr, ℕ, suc, ◌<◌, Bool, true, false, List, ◌∷◌, Option, Some, None}
+use Rattle.std.proofs.Common.{refl, sym, ap, ◌∙◌, subst, arith}
 use Rattle.std.specs.Prelude.{is_some}
 use Rattle.std.specs.FinMap.{get, contains_key}
 use Rattle.std.proofs.lemmas.Option.{none-some, same_Some}
@@ -16,7 +17,8 @@ use Rattle.tss_protocol.specs.Mail.{StorageName, posted_all}
 use Rattle.tss_protocol.specs.State.{State, OperandState, Version}
 use Rattle.tss_protocol.specs.Stations.{operand_at}
 use Rattle.tss_protocol.specs.Versions.{Versioned, put_version, enlisted, used_alone, used_behind, used_at, after_use}
-use Rattle.tss_protocol.specs.UnitMachine.{IsEnabled, is_enabled, after_event, without, use_message_taken, can_use_message}
+use Rattle.tss_protocol.specs.UnitMachine.{IsEnabled, is_enabled, after_event, without, use_message_taken}
+use Rattle.tss_protocol.specs.UnitMachine.{can_use_message}
 use Rattle.tss_phases.specs.Phase.{Phase, Sent, Waiting, Told, look_ups, phase_of, has_released}
 use Rattle.tss_phases.specs.Told.{tells, phase_told}
 use Rattle.tss_phases.specs.Orderly.{AreOrderly}
@@ -28,7 +30,8 @@ use Rattle.tss_locality.proofs.LeftFields.{Leaves-after_event}
 use Rattle.tss_control.specs.Members.{IsWriterOn}
 use Rattle.tss_control.specs.Chains.{IsUseInOrder, HasChains}
 use Rattle.tss_names.specs.Openings.{HasOpenings}
-use Rattle.tss_control.specs.Readers.{Arrivals, set_arrivals, arrivals_used, arrivals_after_event, Has, has_arrived, IsArrival, IsLinking, HasArrivals, HasReaders}
+use Rattle.tss_control.specs.Readers.{Arrivals, set_arrivals, arrivals_used, arrivals_after_event, Has, has_arrived}
+use Rattle.tss_control.specs.Readers.{IsArrival, IsLinking, HasArrivals, HasReaders}
 use Rattle.tss_control.specs.Holders.{link_fits, HasHolders}
 use Rattle.tss_control.proofs.rounds.ReadersLists.{has_newest}
 use Rattle.tss_control.proofs.readers.Links.{links_kept, ready_with-no_link}
@@ -259,7 +262,7 @@ module _ (m : Machine) (all ts : List Task) (g : Arrivals) (S : State) (h : HasR
   readers_after_use = readers_come ts g S After o v x h (comes (left_by x.tail refl))
 
 -- a version passes the test where it is registered
-pub registered_by_test : (vs : Named Version) (v : OpName) → contains_key vs v ≡ true
+registered_by_test : (vs : Named Version) (v : OpName) → contains_key vs v ≡ true
     → (x : Version) × (get vs v ≡ Some x)
 registered_by_test vs v e = something is_some (get vs v) refl e
 

@@ -11,15 +11,18 @@ use Rattle.tss_phases.specs.Phase.{Phase, Waiting, Told, phase_of, has_released}
 use Rattle.tss_phases.specs.Openers.{is_waiting}
 use Rattle.tss_phases.proofs.Tests.{not_both}
 use Rattle.tss_control.specs.Members.{operand_among}
-use Rattle.tss_control.specs.Readers.{Arrivals, Has, oldest_of, has_arrived, Holds, IsLinking, AreNeighbours, IsNewest, HasArrivals, HasReaders}
-use Rattle.tss_control.proofs.rounds.ReadersLists.{newest_of, IsNext, has_older, has_newer, has_oldest, one_older, none_before_oldest, chained_at, chained_by, newest_at, newest_by}
+use Rattle.tss_control.specs.Readers.{Arrivals, Has, oldest_of, has_arrived, Holds, IsLinking, AreNeighbours, IsNewest}
+use Rattle.tss_control.specs.Readers.{HasArrivals, HasReaders}
+use Rattle.tss_control.proofs.rounds.ReadersLists.{newest_of, IsNext, has_older, has_newer, has_oldest, one_older}
+use Rattle.tss_control.proofs.rounds.ReadersLists.{none_before_oldest, chained_at, chained_by, newest_at, newest_by}
 use Rattle.tss_control.proofs.rounds.ReadersCounts.{same_released, same_tail}
-use Rattle.tss_control.proofs.rounds.ReadersKept.{waiting_from_test, LooksAlike, waited, still_waits, neighbours_kept, arrival_kept}
+use Rattle.tss_control.proofs.rounds.ReadersKept.{waiting_from_test, LooksAlike, waited, still_waits, neighbours_kept}
+use Rattle.tss_control.proofs.rounds.ReadersKept.{arrival_kept}
 
 -- ---- the readers of one version
 
 -- what has to be known of the readers of a version, so that they are in order in another state
-pub arrivals_moved : (ts : List Task) (xs : List OpName) (S T : State) (v : OpName) (y : Version)
+arrivals_moved : (ts : List Task) (xs : List OpName) (S T : State) (v : OpName) (y : Version)
     → HasArrivals ts xs S v y
     → ((a : OpName) → Has a xs → has_released (phase_of T a) ≡ has_released (phase_of S a))
     → ((a : OpName) → Has a xs → has_arrived (phase_of T a) ≡ has_arrived (phase_of S a))

@@ -1,5 +1,6 @@
 -- A version is written, and its readers are known: all readers are in order. And readers after a release by a reader.
-use Rattle.std.proofs.Common.{◌≡◌, ◌≢◌, ◌⊎◌, inl, inr, suc, Bool, true, false, cond, List, [], ◌∷◌, Some, None, refl, sym, ap, ◌∙◌, subst}
+use Rattle.std.proofs.Common.{◌≡◌, ◌≢◌, ◌⊎◌, inl, inr, suc, Bool, true, false, cond, List, [], ◌∷◌, Some, None, refl}
+use Rattle.std.proofs.Common.{sym, ap, ◌∙◌, subst}
 use Rattle.std.specs.Prelude.{if◌then◌else◌}
 use Rattle.std.specs.FinMap.{get}
 use Rattle.tss_base.specs.declared.operand.OpName.{OpName}
@@ -14,10 +15,13 @@ use Rattle.tss_phases.specs.Phase.{Phase, Waiting, Told, Releasing, Leaving, pha
 use Rattle.tss_phases.specs.Openers.{is_waiting}
 use Rattle.tss_phases.proofs.Received.{own_name, other_name}
 use Rattle.tss_phases.proofs.Tests.{not_both}
-use Rattle.tss_control.specs.Readers.{Arrivals, Has, tail_of, has_arrived, Holds, IsLinking, AreNeighbours, IsNewest, HasArrivals, HasReaders}
-use Rattle.tss_control.proofs.rounds.ReadersLists.{IsNext, has_older, has_newer, has_oldest, chained_at, chained_by, newest_at, newest_by}
+use Rattle.tss_control.specs.Readers.{Arrivals, Has, tail_of, has_arrived, Holds, IsLinking, AreNeighbours, IsNewest}
+use Rattle.tss_control.specs.Readers.{HasArrivals, HasReaders}
+use Rattle.tss_control.proofs.rounds.ReadersLists.{IsNext, has_older, has_newer, has_oldest, chained_at, chained_by}
+use Rattle.tss_control.proofs.rounds.ReadersLists.{newest_at, newest_by}
 use Rattle.tss_control.proofs.rounds.ReadersCounts.{one_more_released}
-use Rattle.tss_control.proofs.rounds.ReadersKept.{SameReader, LooksAlike, alike_same, waited, still_waits, neighbours_kept, arrival_kept, same_version, arrivals_kept}
+use Rattle.tss_control.proofs.rounds.ReadersKept.{SameReader, LooksAlike, alike_same, waited, still_waits}
+use Rattle.tss_control.proofs.rounds.ReadersKept.{neighbours_kept, arrival_kept, same_version, arrivals_kept}
 
 -- ---- all readers
 

@@ -16,7 +16,8 @@ use Rattle.tss_control.specs.Members.{operand_among, IsWriterOn, NoWriterBetween
 use Rattle.tss_control.specs.Chains.{HasChains}
 use Rattle.tss_control.specs.Entries.{HasEntries}
 use Rattle.tss_names.proofs.NumberLemmas.{number_within}
-use Rattle.tss_control.proofs.rounds.EntriesNames.{name_decoded, decode_among, none_later, member_operand, no_version, no_open}
+use Rattle.tss_control.proofs.rounds.EntriesNames.{name_decoded, decode_among, none_later, member_operand, no_version}
+use Rattle.tss_control.proofs.rounds.EntriesNames.{no_open}
 use Rattle.tss_control.proofs.rounds.Facts.{Basis}
 
 module _ (m : Machine) (S : State) (basis : Basis m S) where

@@ -12,8 +12,10 @@ use Rattle.tss_base.specs.declared.marks.How.TheVariants.{Beside, Over}
 use Rattle.tss_protocol.specs.Names.{bank_of}
 use Rattle.tss_protocol.specs.Mail.{Home, Buffer, OpenContents, Message, Ack, Open, Use, Mail, posted, taken}
 use Rattle.tss_protocol.specs.State.{State, Entry}
-use Rattle.tss_protocol.specs.Renaming.{Wait, Retiring, live_wait, decode_wait, wait_or, fill_of, first_readers, live_entry, entry_after_decode, follows_latest, live_message, decode_message}
-use Rattle.tss_protocol.specs.UnitMachine.{IsEnabled, is_enabled, after_event, without, can_decode_message, decode_message_taken, tables_of}
+use Rattle.tss_protocol.specs.Renaming.{Wait, Retiring, live_wait, decode_wait, wait_or, fill_of, first_readers}
+use Rattle.tss_protocol.specs.Renaming.{live_entry, entry_after_decode, follows_latest, live_message, decode_message}
+use Rattle.tss_protocol.specs.UnitMachine.{IsEnabled, is_enabled, after_event, without, can_decode_message}
+use Rattle.tss_protocol.specs.UnitMachine.{decode_message_taken, tables_of}
 use Rattle.tss_protocol.proofs.TurnLemmas.{decode_finds_room}
 use Rattle.tss_phases.specs.Phase.{phase_of, is_decoded}
 use Rattle.tss_phases.specs.Orderly.{AreOrderly}
@@ -111,12 +113,12 @@ module _ (m : Machine) (S : State) (o : OpName) (p : Operand) (there : get S.mai
         ∙ ap (λ mode. insert S.entries p.object.base (live_entry o e mode)) is
 
     -- what an output's open says
-    abbrev pub beside_contents : OpenContents
+    abbrev beside_contents : OpenContents
     beside_contents =
         record { operand = p; storage = Some (Buffer o); follows = Some (follows_latest e Beside) }
 
     -- and an inout's
-    abbrev pub over_contents : OpenContents
+    abbrev over_contents : OpenContents
     over_contents = record { operand = p; storage = None; follows = Some (follows_latest e Over) }
 
     -- an output opens a version beside the latest
@@ -146,7 +148,6 @@ module _ (m : Machine) (S : State) (o : OpName) (p : Operand) (there : get S.mai
     }
 
   -- an entry that retires is waited for
-
   not_retiring : (e : Entry) (rest : Option Wait) (b : Bool) → is_none (wait_or b Retiring rest) ≡ true → b ≡ false
   not_retiring e rest true h = absurd (true≢false (sym h))
   not_retiring e rest false h = refl

@@ -1,5 +1,6 @@
 -- Entries after a decode that sends an open: the new version is the latest of its object, with its first readers.
-use Rattle.std.proofs.Common.{◌≡◌, ◌≢◌, ℕ, ◌+◌, ◌≤◌, ◌⊎◌, inl, inr, true, false, Option, Some, None, refl, sym, ap, ◌∙◌, subst, arith}
+use Rattle.std.proofs.Common.{◌≡◌, ◌≢◌, ℕ, ◌+◌, ◌≤◌, ◌⊎◌, inl, inr, true, false, Option, Some, None, refl, sym, ap, ◌∙◌}
+use Rattle.std.proofs.Common.{subst, arith}
 use Rattle.std.specs.FinMap.{get, insert}
 use Rattle.std.proofs.lemmas.Option.{none-some, same_Some}
 use Rattle.tss_base.specs.declared.range.Range.{Range}
@@ -17,11 +18,14 @@ use Rattle.tss_phases.specs.Orderly.{AreOrderly}
 use Rattle.tss_phases.proofs.Received.{other_name}
 use Rattle.tss_phases.proofs.Tests.{not_both}
 use Rattle.tss_control.proofs.rounds.EntryOf.{no_entry_at, entry_of_new, entry_of_still}
-use Rattle.tss_control.specs.Members.{operand_among, IsWriterOn, IsOpenOf, IsMember, registered_of, first_reader, opening_reader, uses_of, total}
+use Rattle.tss_control.specs.Members.{operand_among, IsWriterOn, IsOpenOf, IsMember, registered_of, first_reader}
+use Rattle.tss_control.specs.Members.{opening_reader, uses_of, total}
 use Rattle.tss_control.specs.Entries.{HasEntryOf, IsLeaving, IsUsed, IsAbsent, IsLive, IsRetiring, HasEntries}
 use Rattle.tss_control.specs.Chains.{HasChains}
-use Rattle.tss_control.proofs.rounds.EntriesLeaving.{SameLeaving, leaving_turned, version_back, going_back, leaving_back, last_version_still}
-use Rattle.tss_control.proofs.rounds.EntriesNames.{object_of_entry, decode_among, none_later, member_operand, no_version, no_open, no_use_of, no_latest}
+use Rattle.tss_control.proofs.rounds.EntriesLeaving.{SameLeaving, leaving_turned, version_back, going_back}
+use Rattle.tss_control.proofs.rounds.EntriesLeaving.{leaving_back, last_version_still}
+use Rattle.tss_control.proofs.rounds.EntriesNames.{object_of_entry, decode_among, none_later, member_operand}
+use Rattle.tss_control.proofs.rounds.EntriesNames.{no_version, no_open, no_use_of, no_latest}
 use Rattle.tss_control.proofs.rounds.Facts.{Basis}
 
 -- what a decode that sends an open leaves

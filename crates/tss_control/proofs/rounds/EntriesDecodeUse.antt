@@ -19,9 +19,11 @@ use Rattle.tss_phases.specs.Orderly.{AreOrderly}
 use Rattle.tss_phases.proofs.Received.{own_name, other_name}
 use Rattle.tss_phases.proofs.Tests.{not_both}
 use Rattle.tss_control.proofs.rounds.EntryOf.{entry_of_new, entry_of_still}
-use Rattle.tss_control.specs.Members.{operand_among, IsWriterOn, IsOpenOf, IsMember, registered_of, opening_reader, uses_of, total}
+use Rattle.tss_control.specs.Members.{operand_among, IsWriterOn, IsOpenOf, IsMember, registered_of, opening_reader}
+use Rattle.tss_control.specs.Members.{uses_of, total}
 use Rattle.tss_control.specs.Entries.{HasEntryOf, IsUsed, IsAbsent, IsLive, IsRetiring, HasEntries}
-use Rattle.tss_control.proofs.rounds.EntriesLeaving.{SameLeaving, leaving_turned, version_back, going_back, leaving_back, last_version_still}
+use Rattle.tss_control.proofs.rounds.EntriesLeaving.{SameLeaving, leaving_turned, version_back, going_back}
+use Rattle.tss_control.proofs.rounds.EntriesLeaving.{leaving_back, last_version_still}
 use Rattle.tss_control.proofs.rounds.EntriesNames.{decode_among, no_use, object_of_entry}
 use Rattle.tss_control.proofs.rounds.Facts.{Basis}
 

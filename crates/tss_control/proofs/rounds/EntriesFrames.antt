@@ -9,7 +9,8 @@ use Rattle.tss_protocol.specs.State.{State, Entry, Version}
 use Rattle.tss_phases.specs.Phase.{phase_of, is_decoded}
 use Rattle.tss_control.proofs.rounds.EntryOf.{entry_of_left}
 use Rattle.tss_control.specs.Members.{operand_among, IsVersionOf, IsOpenOf, IsMember, total}
-use Rattle.tss_control.specs.Entries.{IsGoingHome, IsLeaving, IsUsed, IsAbsent, IsLive, IsLastVersion, IsRetiring, HasEntries}
+use Rattle.tss_control.specs.Entries.{IsGoingHome, IsLeaving, IsUsed, IsAbsent, IsLive, IsLastVersion, IsRetiring}
+use Rattle.tss_control.specs.Entries.{HasEntries}
 
 -- ---- what an event has to leave
 
@@ -49,7 +50,7 @@ pub record KeepsEntries (ts : List Task) (S T : State) : Type 0 where
 
 module _ (ts : List Task) (S T : State) (m : HasNoMore ts S T) where
   -- an object without an entry still has none
-  pub absent_still : (x : Range) → IsAbsent ts S x → IsAbsent ts T x
+  absent_still : (x : Range) → IsAbsent ts S x → IsAbsent ts T x
   absent_still x a = record {
     members = λ v h. a.members v (m.members x v h);
     unused = λ u. a.unused (m.uses x u);
@@ -57,7 +58,7 @@ module _ (ts : List Task) (S T : State) (m : HasNoMore ts S T) where
   }
 
   -- a live entry is still right
-  pub live_still : (e : Entry) → KeepsLatest S T e → IsLive S e.object e → IsLive T e.object e
+  live_still : (e : Entry) → KeepsLatest S T e → IsLive S e.object e → IsLive T e.object e
   live_still e k l = record {
     member = k.member;
     latest = λ v h. l.latest v (m.members e.object v h);
@@ -66,7 +67,7 @@ module _ (ts : List Task) (S T : State) (m : HasNoMore ts S T) where
   }
 
   -- and so is one that retires
-  pub retiring_still : (e : Entry) → KeepsLeaving S T e → IsRetiring ts S e.object e → IsRetiring ts T e.object e
+  retiring_still : (e : Entry) → KeepsLeaving S T e → IsRetiring ts S e.object e → IsRetiring ts T e.object e
   retiring_still e k r = record {
     no_open = λ v h. r.no_open v (m.opens e.object v h);
     unused = λ u. r.unused (m.uses e.object u);
@@ -107,7 +108,7 @@ pub record SameObjects (S T : State) : Type 0 where
   pub gones : T.mail.gones ≡ S.mail.gones
 
 -- the other way round
-pub same_back : (S T : State) → SameObjects S T → SameObjects T S
+same_back : (S T : State) → SameObjects S T → SameObjects T S
 same_back S T s = record {
   versions = sym s.versions;
   copies = sym s.copies;
@@ -119,41 +120,41 @@ same_back S T s = record {
 
 module _ (S T : State) (s : SameObjects S T) where
   -- a version that is there afterwards was there before
-  pub same_version : (x : Range) (v : OpName) → IsVersionOf T x v → IsVersionOf S x v
+  same_version : (x : Range) (v : OpName) → IsVersionOf T x v → IsVersionOf S x v
   same_version x v h = (h.0, ap (λ m. get m v) (sym s.versions) ∙ h.1, h.2)
 
   -- and so was an open
-  pub same_open : (x : Range) (v : OpName) → IsOpenOf T x v → IsOpenOf S x v
+  same_open : (x : Range) (v : OpName) → IsOpenOf T x v → IsOpenOf S x v
   same_open x v h = (h.0, ap (λ m. get m v) (sym s.opens) ∙ h.1, h.2)
 
   -- either
-  pub same_member : (x : Range) (v : OpName) → IsMember T x v → IsMember S x v
+  same_member : (x : Range) (v : OpName) → IsMember T x v → IsMember S x v
   same_member x v (inl h) = inl (same_version x v h)
   same_member x v (inr h) = inr (same_open x v h)
 
   -- a use
-  pub same_use : (ts : List Task) (x : Range) → IsUsed ts T x → IsUsed ts S x
+  same_use : (ts : List Task) (x : Range) → IsUsed ts T x → IsUsed ts S x
   same_use ts x u = (u.0, u.1, u.2, ap (λ m. get m u.0) (sym s.uses) ∙ u.3, u.4, u.5)
 
   -- a version that goes home
-  pub same_going : (x : Range) (v : OpName) → IsGoingHome T x v → IsGoingHome S x v
+  same_going : (x : Range) (v : OpName) → IsGoingHome T x v → IsGoingHome S x v
   same_going x v (inl c) = inl (c.0, c.1, ap (λ m. get m c.0) (sym s.copies) ∙ c.2, c.3, c.4)
   same_going x v (inr g) = inr (g.0, ap (λ m. get m v) (sym s.gones) ∙ g.1, g.2, g.3)
 
   -- one that leaves
-  pub same_leaving : (x : Range) (v : OpName) → IsLeaving T x v → IsLeaving S x v
+  same_leaving : (x : Range) (v : OpName) → IsLeaving T x v → IsLeaving S x v
   same_leaving x v (inl r) = inl (ap (λ m. get m v) (sym s.retires) ∙ r.0, same_version x v r.1)
   same_leaving x v (inr g) = inr (same_going x v g)
 
   -- how many readers were directed to it
-  pub same_total : (v : OpName) → total T v ≡ total S v
+  same_total : (v : OpName) → total T v ≡ total S v
   same_total v = λ i. total (record S {
     versions = s.versions i;
     mail = record S.mail { opens = s.opens i; uses = s.uses i };
   }) v
 
   -- no more of all this
-  pub same_no_more : (ts : List Task) → HasNoMore ts S T
+  same_no_more : (ts : List Task) → HasNoMore ts S T
   same_no_more ts = record {
     members = same_member;
     opens = same_open;
@@ -162,7 +163,7 @@ module _ (S T : State) (s : SameObjects S T) where
   }
 
 -- where nothing is changed, entries are kept
-pub same_entries : (ts : List Task) (S T : State) → SameObjects S T → T.entries ≡ S.entries
+same_entries : (ts : List Task) (S T : State) → SameObjects S T → T.entries ≡ S.entries
     → DecodesNoMore ts S T → KeepsEntries ts S T
 same_entries ts S T s es decoded = record {
   entries = es;

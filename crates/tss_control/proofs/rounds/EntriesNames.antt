@@ -1,5 +1,6 @@
 -- What is known of the names of a round: their operands, their objects, and that they have been decoded.
-use Rattle.std.proofs.Common.{◌≡◌, ◌≢◌, ℕ, ◌<◌, ◌≤◌, ◌⊎◌, inl, inr, Bool, true, false, List, [], ◌∷◌, Option, Some, None, refl, sym, ap, ◌∙◌, subst, arith, true≢false}
+use Rattle.std.proofs.Common.{◌≡◌, ◌≢◌, ℕ, ◌<◌, ◌≤◌, ◌⊎◌, inl, inr, Bool, true, false, List, [], ◌∷◌, Option, Some}
+use Rattle.std.proofs.Common.{None, refl, sym, ap, ◌∙◌, subst, arith, true≢false}
 use Rattle.std.proofs.lemmas.Bool.Decides.{nat_tests}
 use Rattle.std.specs.Prelude.{slice_get, nat_lt, ◌||◌, ◌==◌}
 use Rattle.std.specs.FinMap.{get}
@@ -83,7 +84,7 @@ module _ (m : Machine) (all : List Task) (S : State) (numbers : HasTaskNumbers m
       || not_number t.number n (λ same. omega (arith, one, taken, newest, same)) i)
 
   -- a task that was taken isn't ahead
-  pub taken_ahead : (n : ℕ) → IsTaken S n → is_ahead S n ≡ false
+  taken_ahead : (n : ℕ) → IsTaken S n → is_ahead S n ≡ false
   taken_ahead n taken = taken_by_inbox n S.inbox refl taken.0 taken.1
 
   -- a name that is used is of an operand that has been decoded

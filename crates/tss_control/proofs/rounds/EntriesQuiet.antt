@@ -1,5 +1,6 @@
 -- Events that change no version, no copy, and no message of which entries speak: entries are as they were.
-use Rattle.std.proofs.Common.{◌≡◌, ◌≢◌, ℕ, suc, Bool, true, false, List, [], ◌∷◌, Option, Some, None, refl, sym, ap, ◌∙◌, true≢false}
+use Rattle.std.proofs.Common.{◌≡◌, ◌≢◌, ℕ, suc, Bool, true, false, List, [], ◌∷◌, Option, Some, None, refl, sym, ap}
+use Rattle.std.proofs.Common.{◌∙◌, true≢false}
 use Rattle.std.specs.FinMap.{get}
 use Rattle.tss_base.specs.declared.operand.OpName.{OpName}
 use Rattle.tss_base.specs.declared.operand.Operand.{Operand}
@@ -10,11 +11,16 @@ use Rattle.tss_base.specs.declared.event.Event.TheVariants as event
 use Rattle.tss_base.specs.declared.marks.Farewell.{Farewell}
 use Rattle.tss_base.specs.declared.marks.Farewell.TheVariants as farewell
 use Rattle.tss_model.specs.Access.{operands_of}
-use Rattle.tss_protocol.specs.Mail.{Source, Message, Decode, Ack, Open, Use, Ready, Link, Release, Bye, Idle, Nack, Retire, Gone, Mail, posted, posted_all}
+use Rattle.tss_protocol.specs.Mail.{Source, Message, Decode, Ack, Open, Use, Ready, Link, Release, Bye, Idle, Nack}
+use Rattle.tss_protocol.specs.Mail.{Retire, Gone, Mail, posted, posted_all}
 use Rattle.tss_protocol.specs.State.{State, OperandState, Flying, Busy}
 use Rattle.tss_protocol.specs.Gateway.{decodes_from}
-use Rattle.tss_protocol.specs.UnitMachine.{after_event, with_sent, without, after_take, ready_message_taken, link_message_taken, after_start, start_task, after_exec, after_finish, bye_message_taken}
-use Rattle.tss_phases.specs.Phase.{Phase, Ahead, Decoding, Sent, Waiting, Told, Ready, Releasing, Leaving, Promised, Left, LookUps, look_ups, where_there, absent_phase, record_phase, station_phase, phase_at, phase_of, is_ahead, is_decoded}
+use Rattle.tss_protocol.specs.UnitMachine.{after_event, with_sent, without, after_take, ready_message_taken}
+use Rattle.tss_protocol.specs.UnitMachine.{link_message_taken, after_start, start_task, after_exec, after_finish}
+use Rattle.tss_protocol.specs.UnitMachine.{bye_message_taken}
+use Rattle.tss_phases.specs.Phase.{Phase, Ahead, Decoding, Sent, Waiting, Told, Ready, Releasing, Leaving, Promised}
+use Rattle.tss_phases.specs.Phase.{Left, LookUps, look_ups, where_there, absent_phase, record_phase, station_phase}
+use Rattle.tss_phases.specs.Phase.{phase_at, phase_of, is_ahead, is_decoded}
 use Rattle.tss_phases.specs.Orderly.{FitsPhase, IsOrderly, AreOrderly}
 use Rattle.tss_phases.proofs.PhaseLemmas.{phase_decoding}
 use Rattle.tss_phases.proofs.Tests.{not_both}

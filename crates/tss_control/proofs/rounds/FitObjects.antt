@@ -1,5 +1,6 @@
 -- The objects of spawned tasks have bytes, and no more than an object may have.
-use Rattle.std.proofs.Common.{◌≡◌, ℕ, suc, ◌<◌, ◌≤◌, Bool, true, false, List, [], ◌∷◌, length, Option, Some, None, refl, subst}
+use Rattle.std.proofs.Common.{◌≡◌, ℕ, suc, ◌<◌, ◌≤◌, Bool, true, false, List, [], ◌∷◌, length, Option, Some, None, refl}
+use Rattle.std.proofs.Common.{subst}
 use Rattle.std.specs.Prelude.{◌==◌, cond, slice_get, Result, Ok, Err}
 use Rattle.std.proofs.lemmas.Option.{none-some, same_Some}
 use Rattle.tss_base.specs.declared.operand.Operand.{Operand}
@@ -18,7 +19,7 @@ use Rattle.tss_program_order.proofs.FlatEpoch.{spawn_of-spawned}
 use Rattle.tss_program_order.proofs.FlatOperands.{spawned-fit}
 
 -- a task whose objects have bytes, and not too many
-abbrev pub HasFitObjects : Limits → Task → Type 0
+abbrev HasFitObjects : Limits → Task → Type 0
 HasFitObjects limits t =
     (k : ℕ) (o : Operand)
     → slice_get (operands_of t) k ≡ Some o

@@ -1,5 +1,6 @@
 -- The messages under way and the ready queue stay within their sizes, where a state is controlled.
-use Rattle.std.proofs.Common.{◌≡◌, ℕ, zero, suc, ◌+◌, ◌*◌, ◌<◌, ◌≤◌, Bool, true, List, [], ◌∷◌, length, Some, sym, ap, ◌∙◌, arith, true≢false}
+use Rattle.std.proofs.Common.{◌≡◌, ℕ, zero, suc, ◌+◌, ◌*◌, ◌<◌, ◌≤◌, Bool, true, List, [], ◌∷◌, length, Some, sym, ap}
+use Rattle.std.proofs.Common.{◌∙◌, arith, true≢false}
 use Rattle.std.specs.Prelude.{◌==◌, ◌&&◌, nat_lt, is_some}
 use Rattle.std.specs.List.{list_any}
 use Rattle.std.specs.FinMap.{get, remove, len}
@@ -27,7 +28,8 @@ use Rattle.tss_phases.proofs.Records.{task_of_record}
 use Rattle.tss_names.specs.MessageCounts.{BoundsMessages}
 use Rattle.tss_control.specs.Runners.{AreApart}
 use Rattle.tss_names.proofs.MessageLemmas.{more_times}
-use Rattle.tss_names.proofs.NameCounts.{NameTest, IsMeasure, IsMeasure-map, IsMeasure-both, those_in, those_at, those_all, in_tasks, few_in_tasks}
+use Rattle.tss_names.proofs.NameCounts.{NameTest, IsMeasure, IsMeasure-map, IsMeasure-both, those_in, those_at}
+use Rattle.tss_names.proofs.NameCounts.{those_all, in_tasks, few_in_tasks}
 use Rattle.tss_control.proofs.rounds.Facts.{Facts}
 
 -- ---- numbers

@@ -1,5 +1,6 @@
 -- How many readers of a list have released their version.
-use Rattle.std.proofs.Common.{◌≡◌, ◌≢◌, ℕ, suc, ◌≤◌, inl, inr, Bool, true, false, cond, List, [], ◌∷◌, length, Some, None, refl, sym, ap, ◌∙◌, subst, arith}
+use Rattle.std.proofs.Common.{◌≡◌, ◌≢◌, ℕ, suc, ◌≤◌, inl, inr, Bool, true, false, cond, List, [], ◌∷◌, length, Some}
+use Rattle.std.proofs.Common.{None, refl, sym, ap, ◌∙◌, subst, arith}
 use Rattle.tss_base.specs.declared.operand.OpName.{OpName}
 use Rattle.tss_protocol.specs.State.{State}
 use Rattle.tss_phases.specs.Phase.{phase_of, has_released}

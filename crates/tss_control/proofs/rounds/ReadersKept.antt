@@ -7,11 +7,13 @@ use Rattle.tss_base.specs.declared.operand.Mode.TheVariants.{Input}
 use Rattle.tss_base.specs.declared.operand.Task.{Task}
 use Rattle.tss_protocol.specs.State.{State, OperandState, Version}
 use Rattle.tss_protocol.specs.Stations.{operand_at}
-use Rattle.tss_phases.specs.Phase.{Phase, Ahead, Decoding, Sent, Waiting, Told, Ready, Releasing, Leaving, Promised, Left, phase_of, has_released}
+use Rattle.tss_phases.specs.Phase.{Phase, Ahead, Decoding, Sent, Waiting, Told, Ready, Releasing, Leaving, Promised}
+use Rattle.tss_phases.specs.Phase.{Left, phase_of, has_released}
 use Rattle.tss_phases.specs.Openers.{is_waiting}
 use Rattle.tss_control.specs.Members.{IsOn, IsWriterOn}
 use Rattle.tss_control.specs.Readers.{Has, head_of, has_arrived, IsArrival, Holds, AreNeighbours, IsNewest, HasArrivals}
-use Rattle.tss_control.proofs.rounds.ReadersLists.{has_older, has_newer, has_oldest, has_newest, chained_at, chained_by, newest_at, newest_by}
+use Rattle.tss_control.proofs.rounds.ReadersLists.{has_older, has_newer, has_oldest, has_newest, chained_at, chained_by}
+use Rattle.tss_control.proofs.rounds.ReadersLists.{newest_at, newest_by}
 use Rattle.tss_control.proofs.rounds.ReadersCounts.{same_released, same_tail}
 
 -- ---- phases
@@ -72,7 +74,7 @@ pub still_waits : (p q : Phase) → is_waiting q ≡ is_waiting p → p ≡ Wait
 still_waits p q same e = waiting_from_test q (same ∙ ap is_waiting e)
 
 -- told before, where it is after
-pub was_told : (p q : Phase) → LooksAlike p q → q ≡ Told → p ≡ Told
+was_told : (p q : Phase) → LooksAlike p q → q ≡ Told → p ≡ Told
 was_told p q a e = told_from_test p (sym a.told ∙ ap is_told e)
 
 -- ---- readers
@@ -87,13 +89,13 @@ pub record SameReader (S T : State) (a : OpName) : Type 0 where
 
 module _ (S T : State) (a : OpName) (same : SameReader S T a) where
   -- it held what it holds
-  pub held_before : (c : OpName) → Holds T a c → Holds S a c
+  held_before : (c : OpName) → Holds T a c → Holds S a c
   held_before c h =
       let k = same.station h.0 h.1 in
       (k.0, k.1, sym k.2 ∙ h.2)
 
   -- the newest stays so
-  pub newest_kept : IsNewest S a → IsNewest T a
+  newest_kept : IsNewest S a → IsNewest T a
   newest_kept n = record {
     linking = λ c e. n.linking c (sym same.links ∙ e);
     record_link = λ r e. let k = same.station r e in k.2 ∙ n.record_link k.0 k.1;

@@ -19,7 +19,7 @@ IsNext a b (x ∷ []) = ⊥
 IsNext a b (x ∷ y ∷ ys) = ((x ≡ b) × (y ≡ a)) ⊎ IsNext a b (y ∷ ys)
 
 -- the older of two neighbours isn't the first of the list
-pub older_behind : (a b x : OpName) (xs : List OpName) → IsNext a b (x ∷ xs) → Has a xs
+older_behind : (a b x : OpName) (xs : List OpName) → IsNext a b (x ∷ xs) → Has a xs
 older_behind a b x [] h = absurd h
 older_behind a b x (y ∷ ys) (inl p) = inl p.1
 older_behind a b x (y ∷ ys) (inr h) = inr (older_behind a b y ys h)
@@ -87,18 +87,6 @@ newest_or_older a (x ∷ xs) (inl e) = inl (ap Some e)
 newest_or_older a (x ∷ []) (inr h) = absurd h
 newest_or_older a (x ∷ y ∷ ys) (inr h) = elim (newest_or_older a (y ∷ ys) h) [
   | inl e ↦ inr (x, inl (refl, same_Some y a e))
-  | inr k ↦ inr (k.0, inr k.1)
-]
-
--- a member is the oldest, or somebody has come right before it
-pub oldest_or_newer : (b : OpName) (xs : List OpName) → Has b xs
-    → (oldest_of xs ≡ Some b) ⊎ ((a : OpName) × IsNext a b xs)
-oldest_or_newer b [] h = absurd h
-oldest_or_newer b (x ∷ []) (inl e) = inl (ap Some e)
-oldest_or_newer b (x ∷ []) (inr h) = absurd h
-oldest_or_newer b (x ∷ y ∷ ys) (inl e) = inr (y, inl (e, refl))
-oldest_or_newer b (x ∷ y ∷ ys) (inr h) = elim (oldest_or_newer b (y ∷ ys) h) [
-  | inl e ↦ inl e
   | inr k ↦ inr (k.0, inr k.1)
 ]
 

@@ -34,7 +34,7 @@ module _ (ts : List Task) (xs : List OpName) (S : State) (v : OpName) (y : Versi
   ]
 
   -- and they hold none
-  pub no_held_left : (a b : OpName) → Has a xs → Holds S a b → ⊥
+  no_held_left : (a b : OpName) → Has a xs → Holds S a b → ⊥
   no_held_left a b k e = elim (newest_or_older a xs k) [
     | inl n ↦ nothing_held e.0.link b ((newest_at S xs h.newest a n).record_link e.0 e.1) e.2
     | inr n ↦ waits_for_none n.0 (has_newer a n.0 xs n.1) ((chained_at S xs h.chained a n.0 n.1).holding b e).1

@@ -1,5 +1,6 @@
 -- What is known of a release under way: its operand, and the version that it names.
-use Rattle.std.proofs.Common.{◌≡◌, ℕ, suc, ◌≤◌, ◌⊎◌, false, List, length, Some, sym, ap, ◌∙◌, subst, inl, inr, arith, true≢false}
+use Rattle.std.proofs.Common.{◌≡◌, ℕ, suc, ◌≤◌, ◌⊎◌, false, List, length, Some, sym, ap, ◌∙◌, subst, inl, inr, arith}
+use Rattle.std.proofs.Common.{true≢false}
 use Rattle.std.specs.FinMap.{get}
 use Rattle.tss_base.specs.declared.operand.OpName.{OpName}
 use Rattle.tss_base.specs.declared.operand.Operand.{Operand}
@@ -32,7 +33,7 @@ pub record Releases (ts : List Task) (g : Arrivals) (S : State) (o : OpName) (c 
   pub phase : phase_of S o ≡ Releasing
 
 -- an operand whose release is under way is letting go
-pub releasing_phase : (S : State) → AreOrderly S → (o : OpName) (c : ReleaseContents) → get S.mail.releases o ≡ Some c
+releasing_phase : (S : State) → AreOrderly S → (o : OpName) (c : ReleaseContents) → get S.mail.releases o ≡ Some c
     → phase_of S o ≡ Releasing
 releasing_phase S orderly o c e =
     let l = look_ups S o in

@@ -1,6 +1,7 @@
 -- The tasks that one of a round needs, by the names of operands: the last writer of an object before it, and the
 -- readers since.
-use Rattle.std.proofs.Common.{◌≡◌, ◌≢◌, ℕ, zero, suc, ◌<◌, Bool, true, false, List, [], ◌∷◌, Option, Some, None, refl, sym, ap, ◌∙◌, subst, arith, true≢false}
+use Rattle.std.proofs.Common.{◌≡◌, ◌≢◌, ℕ, zero, suc, ◌<◌, Bool, true, false, List, [], ◌∷◌, Option, Some, None, refl}
+use Rattle.std.proofs.Common.{sym, ap, ◌∙◌, subst, arith, true≢false}
 use Rattle.std.specs.Prelude.{◌&&◌, not, nat_lt, cond, option_to_list, slice_get}
 use Rattle.std.specs.List.{list_all}
 use Rattle.std.proofs.lemmas.Bool.{and_parts, and_from, lt-ltb, ltb-true, eq-eqb}
@@ -17,14 +18,16 @@ use Rattle.tss_model.specs.Access.{operands_of, writes}
 use Rattle.tss_model.specs.Spawn.{same_range}
 use Rattle.tss_protocol.specs.Names.{operand_name}
 use Rattle.tss_protocol.specs.State.{State}
-use Rattle.tss_protocol.specs.Needs.{Users, has_written, has_read, no_users, users_of, needs_by, earlier_in, needed_tasks}
+use Rattle.tss_protocol.specs.Needs.{Users, has_written, has_read, no_users, users_of, needs_by, earlier_in}
+use Rattle.tss_protocol.specs.Needs.{needed_tasks}
 use Rattle.tss_locality.specs.Agreement.{operand_in}
 use Rattle.tss_locality.proofs.Subjects.{arrival_task}
 use Rattle.tss_locality.proofs.RoundObjects.{arrival_operand}
 use Rattle.tss_control.specs.Members.{first_there, operand_among, IsOn, IsWriterOn, NoWriterBetween}
 use Rattle.tss_program_order.proofs.FlatNames.{same_range-equal, same_range-refl}
 use Rattle.tss_control.proofs.rounds.Rounds.{OperandFound, found_among}
-use Rattle.tss_names.proofs.ListLemmas.{any_at, from_any, all_given, in_filtered, from_filtered, AreRising, AreRising-filter, NoneWritesAfter, last_writer, last_reader}
+use Rattle.tss_names.proofs.ListLemmas.{any_at, from_any, all_given, in_filtered, from_filtered, AreRising}
+use Rattle.tss_names.proofs.ListLemmas.{AreRising-filter, NoneWritesAfter, last_writer, last_reader}
 use Rattle.tss_control.proofs.rounds.Facts.{Basis}
 
 -- no two tasks of a list have one number
@@ -33,7 +36,7 @@ AreNumbered ts =
     (j k : ℕ) (t u : Task) → slice_get ts j ≡ Some t → slice_get ts k ≡ Some u → t.number ≡ u.number → t ≡ u
 
 -- a task has the operands of its names
-pub own_operand : (t : Task) (j : ℕ) (p : Operand) → slice_get (operands_of t) j ≡ Some p
+own_operand : (t : Task) (j : ℕ) (p : Operand) → slice_get (operands_of t) j ≡ Some p
     → operand_in (Some t) (operand_name t.number j) ≡ Some p
 own_operand t j p at =
     ap (λ b. cond b (slice_get (operands_of t) j) None) (eq-eqb t.number t.number refl) ∙ at
@@ -71,7 +74,7 @@ module _ (m : Machine) (S : State) (basis : Basis m S) where
   -- ---- tasks that write or read an object
 
   -- one that writes it has an operand that does
-  pub writer_of : (x : Range) (k : ℕ) (t : Task) → slice_get ts k ≡ Some t → has_written x t ≡ true
+  writer_of : (x : Range) (k : ℕ) (t : Task) → slice_get ts k ≡ Some t → has_written x t ≡ true
       → (q : OpName) × IsWriterOn ts x q × (q.task ≡ t.number)
   writer_of x k t there wrote =
       let f = from_any (λ o. same_range o.object x && writes o.mode) (operands_of t) wrote in

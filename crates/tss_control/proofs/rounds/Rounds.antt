@@ -1,5 +1,6 @@
 -- The tasks of a round are among those spawned, and each of their operands is known by its object.
-use Rattle.std.proofs.Common.{◌≡◌, ℕ, suc, List, [], ◌∷◌, ◌++◌, append-nil, length, Option, Some, None, refl, sym, ap, ◌∙◌, subst, inl, inr}
+use Rattle.std.proofs.Common.{◌≡◌, ℕ, suc, List, [], ◌∷◌, ◌++◌, append-nil, length, Option, Some, None, refl, sym, ap}
+use Rattle.std.proofs.Common.{◌∙◌, subst, inl, inr}
 use Rattle.std.specs.Prelude.{option_to_list, slice_get, Result, Ok, Err}
 use Rattle.std.proofs.lemmas.Option.{none-some, same_Some}
 use Rattle.tss_base.specs.declared.operand.OpName.{OpName}
@@ -50,7 +51,7 @@ found_among (t ∷ ts) o p e = found_by t ts o p (found_among ts o p) (operand_i
 -- ---- a round
 
 -- each operand of a task is known by its object
-abbrev pub HasOwnObjects : Task → Type 0
+abbrev HasOwnObjects : Task → Type 0
 HasOwnObjects t =
     (j k : ℕ) (p q : Operand)
     → slice_get (operands_of t) j ≡ Some p
