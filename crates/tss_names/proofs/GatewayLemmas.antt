@@ -37,7 +37,7 @@ use Rattle.tss_names.proofs.NumberLemmas.{HasTaskNumbers-initial_state}
 
 -- the gateway has operands of a window of tasks that were taken, each with its decode or else its ack under way. Where
 -- one is to be decoded, so are those of later tasks that were taken, on objects of its bank
-record Acknowledges (sizes : Sizes) (ts : List Task) (f : Front) : Type 0 where
+pub record Acknowledges (sizes : Sizes) (ts : List Task) (f : Front) : Type 0 where
   pub few : length (held_tasks f.gateway) ≤ sizes.window
   pub last : (o : OpName) → get f.gateway o ≡ Some tt → o.task ≤ taken_by f.inbox f.spawned
   pub each : (o : OpName) → get f.gateway o ≡ Some tt → (x : Operand) × IsOperandOf ts o x

@@ -34,7 +34,7 @@ use Rattle.tss_names.proofs.OpeningFrames.{openings_finish, openings_release, op
 use Rattle.tss_names.proofs.OpeningFrames.{openings_retire, openings_copy, openings_gone}
 
 -- the facts, over the three maps
-record Opens (ts : List Task) (os : Named OpenContents) (us : Named OpName) (vs : Named Version) : Type 0 where
+pub record Opens (ts : List Task) (os : Named OpenContents) (us : Named OpName) (vs : Named Version) : Type 0 where
   pub opens : (o : OpName) (c : OpenContents) → get os o ≡ Some c
       → IsOperandOf ts o c.operand × (get us o ≡ None) × (get vs o ≡ None)
   pub uses : (o v : OpName) → get us o ≡ Some v

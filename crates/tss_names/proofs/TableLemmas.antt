@@ -47,7 +47,7 @@ use Rattle.tss_names.proofs.SlotLemmas.{slots_of_runs}
 use Rattle.tss_names.proofs.StageEvents.{stages_of_runs}
 
 -- in each bank
-record AreWithinBanks (sizes : Sizes) (t : Tables) : Type 0 where
+pub record AreWithinBanks (sizes : Sizes) (t : Tables) : Type 0 where
   pub entries : (bank : ℕ) → entries_in sizes bank t.entries ≤ sizes.entries
   pub places : (bank : ℕ) → places_in bank t.places ≤ sizes.versions
   pub buffers : (bank : ℕ) → buffers_in bank t.buffers ≤ sizes.buffers
