@@ -1,6 +1,7 @@
 #!/bin/sh
 # Makes each of the usual mistakes of docs/ANSWERS.md, and compares what the program says with what its table says.
-# It ends with 0 where all agree, 1 where one doesn't, and 2 where a package isn't there.
+# The last line is `N passed, M failed`. It ends with 0 where none failed, 1 where one did, and 2 where a package isn't
+# there.
 # The simulator is ../tss, or the program that TSS names.
 here=$(cd "$(dirname "$0")" && pwd) || exit 2
 tss=${TSS:-$here/../tss}
@@ -29,20 +30,21 @@ flags="-std=c11 -Os -fno-tree-loop-distribute-patterns -fno-pic -I$here"
 layout="-nostdlib -static -Wl,--build-id=none"
 script="-T $here/task.ld"
 
-wrong=0
+passed=0
+failed=0
 # agrees NAME SAID WANTED: the first line that was said is the table's; PC and WORD stand for eight digits.
 agrees() {
     pattern=$(echo "$3" | sed 's/PC/[0-9a-f]\\{8\\}/; s/WORD/[0-9a-f]\\{8\\}/')
-    if echo "$2" | grep -q "$pattern"; then
-        echo "$1: OK, $2"
-    else
+    if ! echo "$2" | grep -q "$pattern"; then
         echo "$1: '$2' in place of '$3'"
-        wrong=1
-    fi
-    grep -qF "$3" "$page" || {
+        failed=$((failed + 1))
+    elif ! grep -qF "$3" "$page"; then
         echo "$1: '$3' doesn't stand on the page"
-        wrong=1
-    }
+        failed=$((failed + 1))
+    else
+        echo "$1: OK, $2"
+        passed=$((passed + 1))
+    fi
 }
 # says IMAGE MACHINE: the first line of the answer
 says() {
@@ -72,4 +74,5 @@ $cc $usual $flags -ffreestanding -DTSS_PLAIN $layout $script -o write.elf "$here
 agrees "a Linux program's write" "$(says write.elf "$big")" ".. 10 00000040"
 agrees "no -ffreestanding" "$($cc $usual $flags $layout $script -o hosted.elf "$here/start.c" sums.c -lgcc 2>&1 | grep fatal)" \
     "stdint.h: No such file or directory"
-exit $wrong
+echo "$passed passed, $failed failed"
+[ $failed = 0 ]
