@@ -1,4 +1,3 @@
-pub mod PieceLemmas
 mod SizeLemmas
 mod PeakLemmas
 mod RowLemmas

@@ -7,7 +7,7 @@ use Rattle.tss_base.specs.declared.bounds.TheConstants.{MAX_OPERANDS}
 use Rattle.tss_base.specs.Machine.{AreSizes}
 use Rattle.tss_report.specs.declared.peaks.Count.{Count}
 use Rattle.tss_report.specs.declared.peaks.Count.TheVariants.{Messages, Slots, Ready, Workers, Entries, Versions, Buffers}
-use Rattle.tss_report.specs.Pieces.{joined}
+use Rattle.tss_text.specs.Pieces.{joined}
 
 -- the counts in the order of a report
 abbrev pub all_counts : List Count

@@ -1,8 +1,8 @@
 -- The report of a run: how it ended, its tasks, its output, and the rows of memory that have changed.
 use Rattle.std.specs.Prelude.{ℕ, List, [], ◌∷◌, ◌++◌, length, codes, Option, Some, None}
 use Rattle.std.specs.Fmt.{decimal}
-use Rattle.tss_report.specs.Digits.{hex_word}
-use Rattle.tss_report.specs.Pieces.{joined}
+use Rattle.tss_text.specs.Digits.{hex_word}
+use Rattle.tss_text.specs.Pieces.{joined}
 use Rattle.tss_report.specs.Rows.{changed_text}
 use Rattle.tss_report.specs.Peaks.{peaks_text}
 use Rattle.tss_base.specs.declared.ending.Ending.{Ending}

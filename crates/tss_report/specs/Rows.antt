@@ -5,8 +5,8 @@ use Rattle.hex.specs.Hex.{encode_lower}
 use Rattle.tss_base.specs.declared.range.Range.{Range}
 use Rattle.tss_model.specs.Memory.{MemoryRange, Memory, bytes_of}
 use Rattle.tss_report.specs.declared.rows.TheConstants.{ROW}
-use Rattle.tss_report.specs.Pieces.{joined}
-use Rattle.tss_report.specs.Digits.{hex_word}
+use Rattle.tss_text.specs.Pieces.{joined}
+use Rattle.tss_text.specs.Digits.{hex_word}
 
 -- how many bytes a row has, but for the last of a range
 abbrev pub row_len : ℕ

@@ -6,7 +6,7 @@ use Rattle.tss_base.specs.declared.ending.Ending.{Ending}
 use Rattle.tss_base.specs.declared.ending.Ending.TheVariants.{Exit, MainTrap, TaskTrap, Refused}
 use Rattle.tss_base.specs.declared.counts.Counts.{Counts}
 use Rattle.tss_base.specs.declared.counts.Peaks.{Peaks}
-use Rattle.tss_report.specs.Pieces.{joined}
+use Rattle.tss_text.specs.Pieces.{joined}
 use Rattle.tss_report.specs.Peaks.{peaks_text}
 use Rattle.tss_report.specs.Report.{summary_text}
 

@@ -1,13 +1,13 @@
 // The greatest counts of a run, each with its size.
 ghost use Rattle.std.specs.Prelude.{◌≡◌, ◌≤◌};
 ghost use Rattle.tss_protocol.specs.Counts.{sizes_of as sizes_for};
-ghost use Rattle.tss_report.specs.Pieces.{Emits};
+ghost use Rattle.tss_text.specs.Pieces.{Emits};
 ghost use Rattle.tss_report.specs.Peaks.{HasRanges, count_name, count_in, events_text, peak_text, counts_text, peaks_text};
 
-use crate::writer::PieceWriter;
 use itoa::Buffer;
 use tss_base::{Counts, Machine, Peaks};
 use tss_outside::{Failed, Sink};
+use tss_text::PieceWriter;
 
 /// A count of the unit machine.
 #[derive(Clone, Copy, Debug, PartialEq, Eq)]

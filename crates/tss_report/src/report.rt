@@ -3,17 +3,16 @@ ghost use Rattle.std.specs.Prelude.{◌≡◌, IsSome, option_map};
 ghost use Rattle.tss_model.specs.Memory.{loaded};
 ghost use Rattle.tss_protocol.specs.Counts.{sizes_of};
 ghost use Rattle.tss_report.specs.Peaks.{HasRanges};
-ghost use Rattle.tss_report.specs.Pieces.{Emits, Writes};
+ghost use Rattle.tss_text.specs.Pieces.{Emits, Writes};
 ghost use Rattle.tss_report.specs.Report.{ending_text, tasks_text, output_text, summary_text, memory_text, told_peaks, report_text};
 
-use crate::digits::hex_word;
 use crate::peaks::put_peaks;
 use crate::rows::put_changed;
-use crate::writer::PieceWriter;
 use itoa::Buffer;
 use tss_base::{Ending, Image, Machine, Peaks};
 use tss_memory::Space;
 use tss_outside::{Failed, Sink};
+use tss_text::{PieceWriter, hex_word};
 
 /// Puts the line that says how a run ended.
 pub fn put_ending<K: Sink>(to: &mut PieceWriter<'_, K>, ending: &Ending) -> Result<(), Failed>

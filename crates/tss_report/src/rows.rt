@@ -4,14 +4,13 @@ ghost use Rattle.tss_base.specs.Range.{end_of};
 ghost use Rattle.tss_model.specs.Memory.{MemoryRange, loaded};
 ghost use Rattle.tss_memory.specs.Ranges.{IsInside, memory_end};
 ghost use Rattle.tss_report.specs.declared.rows.TheConstants.{ROW};
-ghost use Rattle.tss_report.specs.Pieces.{Emits};
+ghost use Rattle.tss_text.specs.Pieces.{Emits};
 ghost use Rattle.tss_report.specs.Rows.{row_line, row_text, rows_text, range_text, changed_text};
 
-use crate::digits::{hex_word, write_hex};
-use crate::writer::PieceWriter;
 use tss_base::{Image, Range};
 use tss_memory::{Space, copy_as_loaded};
 use tss_outside::{Failed, Sink};
+use tss_text::{PieceWriter, hex_word, write_hex};
 
 /// How many bytes a row has, but for the last of a range.
 const ROW: u32 = 16;

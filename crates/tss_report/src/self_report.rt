@@ -2,16 +2,15 @@
 ghost use Rattle.std.specs.Prelude.{◌≡◌};
 ghost use Rattle.tss_protocol.specs.Counts.{sizes_of};
 ghost use Rattle.tss_report.specs.Peaks.{HasRanges};
-ghost use Rattle.tss_report.specs.Pieces.{Emits, Writes};
+ghost use Rattle.tss_text.specs.Pieces.{Emits, Writes};
 ghost use Rattle.tss_report.specs.SelfReport.{form_text, words_text, sum_line, sum_text, self_text};
 
-use crate::digits::write_hex;
 use crate::peaks::put_peaks;
 use crate::report::put_summary;
-use crate::writer::PieceWriter;
 use itoa::Buffer;
 use tss_base::{Ending, Machine, Peaks};
 use tss_outside::{Failed, Sink};
+use tss_text::{PieceWriter, write_hex};
 
 /// How many bytes a digest has.
 const DIGEST_LEN: usize = 32;

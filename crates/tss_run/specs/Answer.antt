@@ -6,7 +6,7 @@ use Rattle.tss_base.specs.declared.ending.Ending.TheVariants as ending
 use Rattle.tss_model.specs.InOrder.{in_order}
 use Rattle.tss_model.specs.Memory.{loaded}
 use Rattle.tss_protocol.specs.Counts.{sizes_of}
-use Rattle.tss_report.specs.Pieces.{joined}
+use Rattle.tss_text.specs.Pieces.{joined}
 use Rattle.tss_report.specs.Report.{report_text}
 use Rattle.tss_run.specs.declared.outcome.Input.{Input}
 use Rattle.tss_run.specs.declared.outcome.Input.TheVariants as input
@@ -18,7 +18,7 @@ use Rattle.tss_run.specs.declared.outcome.Report.TheVariants as report
 use Rattle.tss_run.specs.declared.statuses.TheConstants.{EXITED, TRAPPED, REFUSED, BAD_IMAGE, BAD_MACHINE, BAD_SCHEDULE, BAD_WORDS, READ_FAILED, WRITE_FAILED, NO_MEMORY}
 use Rattle.tss_run.specs.Work.{Outcome}
 use Rattle.tss_self.specs.SelfAnswer.{self_result, self_report}
-use Rattle.tss_state_lines.specs.StateText.{state_text}
+use Rattle.tss_state_text.specs.StateText.{state_text}
 use Rattle.tss_unit_runs.specs.Finished.{FinishedRunState}
 use Rattle.tss_unit_runs.specs.declared.faults.LineFault.{LineFault}
 use Rattle.tss_unit_runs.specs.declared.faults.LineFault.TheVariants as line

@@ -1,6 +1,6 @@
 // The text and the status of an outcome.
 ghost use Rattle.std.specs.Prelude.{◌≡◌, IfOk, option_map};
-ghost use Rattle.tss_report.specs.Pieces.{Emits, Writes};
+ghost use Rattle.tss_text.specs.Pieces.{Emits, Writes};
 ghost use Rattle.tss_run.specs.Answer.{ending_status, report_status, refusal_status, status_of, input_name, machine_line, refusal_text, fault_name, fault_line, schedule_line, finished_text, migrated_text, run_text, text_of_report, text_of};
 ghost use Rattle.tss_model.specs.Memory.{loaded};
 ghost use Rattle.tss_run.specs.Work.{IsSoundReport};
@@ -13,8 +13,9 @@ use crate::statuses::{
 use itoa::Buffer;
 use tss_base::Ending;
 use tss_outside::{Failed, Sink};
-use tss_report::{PieceWriter, write_report};
+use tss_report::write_report;
 use tss_state_text::write_state;
+use tss_text::PieceWriter;
 use tss_unit_runs::{FinishedRun, LineFault};
 
 /// The forms of the words.

@@ -1,6 +1,6 @@
 // A run of the workload, and its report.
 ghost use Rattle.std.specs.Prelude.{◌≡◌, ◌≤◌, IfOk};
-ghost use Rattle.tss_report.specs.Pieces.{Writes};
+ghost use Rattle.tss_text.specs.Pieces.{Writes};
 ghost use Rattle.tss_self.specs.SelfAnswer.{HasWholeRun, has_products, self_result, self_report};
 
 use crate::image::workload_image;

@@ -2,9 +2,9 @@
 use Rattle.std.proofs.Common.{ℕ, List, ◌++◌, IsErr, Result, Ok, Err, refl}
 use Rattle.tss_outside.specs.declared.files.Failed.{Failed}
 use Rattle.tss_outside.specs.declared.sink.Sink.{Ghosts}
-use Rattle.tss_report.specs.declared.writer.PieceWriter.{PieceWriter}
-use Rattle.tss_report.specs.Pieces.{Emits}
-use Rattle.tss_report.proofs.PieceLemmas.{none_put, more_put, last_put, failed_put}
+use Rattle.tss_text.specs.declared.writer.PieceWriter.{PieceWriter}
+use Rattle.tss_text.specs.Pieces.{Emits}
+use Rattle.tss_text.proofs.PieceLemmas.{none_put, more_put, last_put, failed_put}
 
 module _ {K : Type 0} {g : Ghosts K} {o p : PieceWriter K} where
   -- a text was put, and then the rest was, or failed

@@ -6,8 +6,8 @@ use Rattle.std.proofs.lemmas.Bool.Decides.{nat_tests}
 use Rattle.std.proofs.lemmas.List.{drop_more}
 use Rattle.hex.specs.Hex.{encode_with, encode_lower, lower_digits}
 use Rattle.tss_model.specs.Registers.{Registers, register_at}
-use Rattle.tss_report.specs.Digits.{hex_word}
-use Rattle.tss_report.specs.Pieces.{joined}
+use Rattle.tss_text.specs.Digits.{hex_word}
+use Rattle.tss_text.specs.Pieces.{joined}
 use Rattle.tss_state_lines.specs.Words.{spaced, line, register_words}
 
 -- ---- words

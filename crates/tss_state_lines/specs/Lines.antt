@@ -1,5 +1,6 @@
 -- The lines of the state text, one function for each kind.
 use Rattle.std.specs.Prelude.{ℕ, ◌==◌, Bool, true, false, if◌then◌else◌, List, [], ◌∷◌, ◌++◌, Option, Some, None, codes, decimal}
+use Rattle.std.specs.List.{list_all}
 use Rattle.hex.specs.Hex.{encode_lower}
 use Rattle.tss_base.specs.declared.addresses.TheConstants.{END_PC}
 use Rattle.tss_base.specs.declared.range.Range.{Range}
@@ -13,7 +14,7 @@ use Rattle.tss_protocol.specs.Mail.{Message, name_of}
 use Rattle.tss_protocol.specs.Mail as mail
 use Rattle.tss_protocol.specs.State.{OperandState, Entry, Version, HeldTrap}
 use Rattle.tss_protocol.specs.Text.{name_text, event_text}
-use Rattle.tss_report.specs.Digits.{hex_word}
+use Rattle.tss_text.specs.Digits.{hex_word}
 use Rattle.tss_state_lines.specs.Words.{line, optional, object_words, operand_words, storage_word, stage_word, source_words, link_word, farewell_word, follow_words, produced_word, retiring_word, ended_word, register_words}
 
 -- ---- main
@@ -78,6 +79,10 @@ worker_registers_line w r = line (codes "regs") (decimal w ∷ register_words r)
 -- a row of its scratch: the address and the bytes
 abbrev pub scratch_line : ℕ → ℕ → List ℕ → List ℕ
 scratch_line w at bytes = line (codes "scratch") (decimal w ∷ hex_word at ∷ encode_lower bytes ∷ [])
+
+-- a row of scratch that isn't all zero
+abbrev pub scratch_row : ℕ → ℕ → List ℕ → List ℕ
+scratch_row w at bytes = if list_all (λ b. b == 0) bytes then [] else scratch_line w at bytes
 
 -- ---- banks
 

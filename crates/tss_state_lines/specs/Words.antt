@@ -17,7 +17,7 @@ use Rattle.tss_base.specs.declared.marks.Follow.{Follow}
 use Rattle.tss_model.specs.Registers.{Registers, register_at}
 use Rattle.tss_protocol.specs.Mail.{StorageName, Home, Buffer, Source}
 use Rattle.tss_protocol.specs.Text.{name_text}
-use Rattle.tss_report.specs.Digits.{hex_word}
+use Rattle.tss_text.specs.Digits.{hex_word}
 
 -- ---- lines
 

@@ -1,7 +1,7 @@
 // The lines of what stands in a bank.
 ghost use Rattle.std.specs.Prelude.{◌≡◌, option_map};
 ghost use Rattle.tss_renaming.specs.Entries.{entry_of};
-ghost use Rattle.tss_report.specs.Pieces.{Emits};
+ghost use Rattle.tss_text.specs.Pieces.{Emits};
 ghost use Rattle.tss_state_lines.specs.Lines.{buffer_line, copy_line, entry_line, place_line, version_line};
 ghost use Rattle.tss_state_lines.specs.Shown.{version_of};
 
@@ -15,7 +15,7 @@ use crate::word::Word;
 use tss_base::OpName;
 use tss_outside::{Failed, Sink};
 use tss_renaming::EntryView;
-use tss_report::PieceWriter;
+use tss_text::PieceWriter;
 use tss_versions::VersionView;
 
 /// Puts the line of an entry of a bank.

@@ -1,13 +1,13 @@
 // Bytes in hexadecimal digits.
 ghost use Rattle.std.specs.Prelude.{◌≡◌, ◌++◌, ◌∷◌, []};
 ghost use Rattle.hex.specs.Hex.{encode_lower};
-ghost use Rattle.tss_report.specs.Pieces.{Emits};
+ghost use Rattle.tss_text.specs.Pieces.{Emits};
 ghost use Rattle.tss_state_lines.specs.Words.{line};
 
 use crate::line::put_words;
 use crate::word::Word;
 use tss_outside::{Failed, Sink};
-use tss_report::{PieceWriter, write_hex};
+use tss_text::{PieceWriter, write_hex};
 
 /// How many bytes are written as digits at once.
 const STRETCH: usize = 64;

@@ -9,7 +9,6 @@ mod line;
 mod main_lines;
 mod marks;
 mod message_lines;
-mod part;
 mod task_lines;
 #[cfg(test)]
 mod tests;
@@ -19,6 +18,5 @@ mod worker_lines;
 pub use bank_lines::{put_buffer, put_copy, put_entry, put_place, put_version};
 pub use main_lines::{put_enabled, put_main, put_main_registers, put_named, put_piece, put_trap};
 pub use message_lines::put_message;
-pub use part::{ALL_PARTS, Part};
 pub use task_lines::{put_held, put_inbox, put_operand, put_queued, put_task};
 pub use worker_lines::{put_busy, put_idle, put_scratch_row, put_worker_registers};

@@ -1,11 +1,11 @@
 // Lines of words.
 ghost use Rattle.std.specs.Prelude.{◌≡◌};
-ghost use Rattle.tss_report.specs.Pieces.{Emits};
+ghost use Rattle.tss_text.specs.Pieces.{Emits};
 ghost use Rattle.tss_state_lines.specs.Words.{line, spaced};
 
 use crate::word::Word;
 use tss_outside::{Failed, Sink};
-use tss_report::PieceWriter;
+use tss_text::PieceWriter;
 
 /// Puts words, each after a space.
 pub(crate) fn put_words<K: Sink>(to: &mut PieceWriter<'_, K>, words: &[Word]) -> Result<(), Failed>

@@ -1,6 +1,6 @@
 // The lines of main and of what is there once: the held trap, and how many events may happen.
 ghost use Rattle.std.specs.Prelude.{◌≡◌, ◌∷◌, codes};
-ghost use Rattle.tss_report.specs.Pieces.{Emits};
+ghost use Rattle.tss_text.specs.Pieces.{Emits};
 ghost use Rattle.tss_state_lines.specs.Words.{line, register_words, spaced};
 ghost use Rattle.tss_state_lines.specs.Lines.{enabled_line, epoch_line, main_line, main_registers_line, piece_line, trap_line};
 
@@ -11,7 +11,7 @@ use crate::word::Word;
 use tss_base::{Range, Trap};
 use tss_core::Regs;
 use tss_outside::{Failed, Sink};
-use tss_report::PieceWriter;
+use tss_text::PieceWriter;
 
 /// Puts the line of main: its pc, the instructions that it has completed, the tasks that it has spawned, and whether it
 /// has ended.

@@ -1,7 +1,7 @@
 // The lines of messages.
 ghost use Rattle.std.specs.Prelude.{◌≡◌, option_map};
 ghost use Rattle.tss_events.specs.Events.{message_of};
-ghost use Rattle.tss_report.specs.Pieces.{Emits};
+ghost use Rattle.tss_text.specs.Pieces.{Emits};
 ghost use Rattle.tss_protocol.specs.Text.{name_text};
 ghost use Rattle.tss_state_lines.specs.Words.{optional};
 ghost use Rattle.tss_state_lines.specs.Lines as lines;
@@ -14,7 +14,7 @@ use crate::word::Word;
 use tss_base::OpName;
 use tss_events::{HeldBuffer, Message};
 use tss_outside::{Failed, Sink};
-use tss_report::PieceWriter;
+use tss_text::PieceWriter;
 
 /// What a release says of the operand.
 fn producer_word(producer: bool) -> Word

@@ -1,6 +1,6 @@
 // The lines of tasks, from the inbox to the ready queue.
 ghost use Rattle.std.specs.Prelude.{◌≡◌};
-ghost use Rattle.tss_report.specs.Pieces.{Emits};
+ghost use Rattle.tss_text.specs.Pieces.{Emits};
 ghost use Rattle.tss_stations.specs.Views.{source_by, state_of};
 ghost use Rattle.tss_state_lines.specs.Words.{optional, source_words};
 ghost use Rattle.tss_state_lines.specs.Lines.{gateway_line, inbox_line, operand_line, queue_line, task_line};
@@ -10,8 +10,8 @@ use crate::marks::{farewell_word, link_word, mode_word, source_words, stage_word
 use crate::word::Word;
 use tss_base::{OpName, Stage, Task};
 use tss_outside::{Failed, Sink};
-use tss_report::PieceWriter;
 use tss_stations::OperandView;
+use tss_text::PieceWriter;
 
 /// Puts the line of the task in the inbox.
 pub fn put_inbox<K: Sink>(to: &mut PieceWriter<'_, K>, task: &Task) -> Result<(), Failed>

@@ -4,8 +4,8 @@ use std::alloc::Global;
 use std::test::Fail;
 use tss_base::{Farewell, Follow, How, LinkState, Mode, OpName, Operand, Range, Storage};
 use tss_outside::{Failed, MemSink};
-use tss_report::PieceWriter;
 use tss_stations::OperandView;
+use tss_text::PieceWriter;
 use tss_versions::VersionView;
 
 /// The name of an operand.

@@ -1,12 +1,12 @@
 // Words of a line.
 ghost use Rattle.std.specs.Prelude.{◌≡◌, ◌≤◌, ◌+◌, ◌++◌, [], length, decimal};
 ghost use Rattle.tss_protocol.specs.Text.{name_text};
-ghost use Rattle.tss_report.specs.Digits.{hex_word};
+ghost use Rattle.tss_text.specs.Digits.{hex_word};
 
 use itoa::Buffer;
 use std::marker::Model;
 use tss_base::OpName;
-use tss_report::hex_word;
+use tss_text::hex_word;
 
 /// How many bytes a word may have.
 const WORD_BYTES: usize = 32;

@@ -1,9 +1,8 @@
 // The lines of workers.
 ghost use Rattle.std.specs.Prelude.{◌≡◌, ◌==◌};
 ghost use Rattle.std.specs.List.{list_all};
-ghost use Rattle.tss_report.specs.Pieces.{Emits};
-ghost use Rattle.tss_state_lines.specs.Lines.{idle_line, running_word, worker_line, worker_registers_line};
-ghost use Rattle.tss_state_lines.specs.StateText.{scratch_row};
+ghost use Rattle.tss_text.specs.Pieces.{Emits};
+ghost use Rattle.tss_state_lines.specs.Lines.{idle_line, running_word, scratch_row, worker_line, worker_registers_line};
 
 use crate::bytes::put_hex_line;
 use crate::line::put_line;
@@ -12,7 +11,7 @@ use crate::word::Word;
 use tss_base::addresses::END_PC;
 use tss_core::Regs;
 use tss_outside::{Failed, Sink};
-use tss_report::PieceWriter;
+use tss_text::PieceWriter;
 
 /// Puts the line of a worker without a task.
 pub fn put_idle<K: Sink>(to: &mut PieceWriter<'_, K>, w: u32) -> Result<(), Failed>

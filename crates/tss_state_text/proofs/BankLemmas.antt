@@ -12,7 +12,7 @@ use Rattle.tss_banks.specs.Collected.{collected}
 use Rattle.tss_protocol.specs.Names.{bank_of}
 use Rattle.tss_protocol.specs.State.{Entry, Version}
 use Rattle.tss_pipeline.specs.BankParts.{value_if, value_at, entries_at, names_at, versions_at}
-use Rattle.tss_state_lines.specs.StateText.{kept_if, bank_entries, bank_names, bank_versions}
+use Rattle.tss_state_text.specs.StateText.{kept_if, bank_entries, bank_names, bank_versions}
 
 kept_same : {X : Type 0} (x : X) (b : Bool) → value_if x b ≡ kept_if x b
 kept_same x true = refl

@@ -11,7 +11,7 @@ use Rattle.tss_maps.specs.Ordered.{key_at}
 use Rattle.tss_maps.proofs.Keys.{name_order}
 use Rattle.tss_maps.proofs.OrderedLemmas.{some_key_at}
 use Rattle.tss_pipeline.specs.BankParts.{names_at}
-use Rattle.tss_state_lines.specs.StateText.{bank_names, first_of, first_for}
+use Rattle.tss_state_text.specs.StateText.{bank_names, first_of, first_for}
 use Rattle.tss_state_text.proofs.BankLemmas.{names_same, key_count}
 use Rattle.tss_state_text.proofs.ShownTexts.{name_place}
 

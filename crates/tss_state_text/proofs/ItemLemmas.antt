@@ -9,10 +9,10 @@ use Rattle.tss_model.specs.Memory.{Memory}
 use Rattle.tss_protocol.specs.Gateway.{held_tasks}
 use Rattle.tss_protocol.specs.Mail.{message_at, message_names}
 use Rattle.tss_protocol.specs.State.{State}
-use Rattle.tss_state_lines.specs.declared.part.Part.{Part}
-use Rattle.tss_state_lines.specs.declared.part.Part.TheVariants as part
+use Rattle.tss_state_text.specs.declared.part.Part.{Part}
+use Rattle.tss_state_text.specs.declared.part.Part.TheVariants as part
 use Rattle.tss_state_lines.specs.Lines.{epoch_line, gateway_line, queue_line, entry_line, place_line, message_line, piece_line}
-use Rattle.tss_state_lines.specs.StateText.{text_if, task_text, bank_entries, bank_names, buffer_text, part_text, all_parts, state_text}
+use Rattle.tss_state_text.specs.StateText.{text_if, task_text, bank_entries, bank_names, buffer_text, part_text, all_parts, state_text}
 use Rattle.tss_state_text.specs.declared.banks.Table.{Table}
 use Rattle.tss_state_text.specs.declared.banks.Table.TheVariants as table
 use Rattle.tss_state_text.specs.Items.{item_count, item_text, row_count, row_text, table_text}

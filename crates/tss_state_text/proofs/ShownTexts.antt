@@ -14,12 +14,12 @@ use Rattle.tss_outside.specs.declared.sink.Sink.{Ghosts}
 use Rattle.tss_protocol.specs.State.{Entry, CopyState}
 use Rattle.tss_renaming.specs.declared.entry_view.EntryView.{EntryView}
 use Rattle.tss_renaming.specs.Entries.{entry_of}
-use Rattle.tss_report.specs.declared.writer.PieceWriter.{PieceWriter}
-use Rattle.tss_report.specs.Pieces.{Emits}
-use Rattle.tss_report.proofs.PieceLemmas.{none_put, all_put}
+use Rattle.tss_text.specs.declared.writer.PieceWriter.{PieceWriter}
+use Rattle.tss_text.specs.Pieces.{Emits}
+use Rattle.tss_text.proofs.PieceLemmas.{none_put, all_put}
 use Rattle.tss_pipeline.specs.BankParts.{value_at, entries_at, names_at, contents_under, copy_shown, copy_told}
 use Rattle.tss_state_lines.specs.Lines.{entry_line, copy_line}
-use Rattle.tss_state_lines.specs.StateText.{text_if, bank_entries, bank_names, copy_text}
+use Rattle.tss_state_text.specs.StateText.{text_if, bank_entries, bank_names, copy_text}
 use Rattle.tss_state_text.proofs.BankLemmas.{entries_same, names_same, value_at-entries}
 
 -- nothing is put

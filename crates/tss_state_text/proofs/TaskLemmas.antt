@@ -16,7 +16,7 @@ use Rattle.tss_protocol.specs.Stations.{operand_at}
 use Rattle.tss_state_lines.proofs.Ranges.{texts_from, all_texts}
 use Rattle.tss_stations.specs.Reading.{shown, found_in}
 use Rattle.tss_state_lines.specs.Lines.{operand_line, task_line}
-use Rattle.tss_state_lines.specs.StateText.{operands_text, task_text, text_if}
+use Rattle.tss_state_text.specs.StateText.{operands_text, task_text, text_if}
 
 -- the operand at a place
 abbrev pub operand_text : Numbered Flying → ℕ → ℕ → List ℕ

@@ -10,10 +10,10 @@ use Rattle.tss_protocol.specs.State.{State}
 use Rattle.tss_protocol.specs.UnitMachine.{enabled_events}
 use Rattle.tss_report.specs.Report.{ending_text}
 use Rattle.tss_report.specs.Rows.{changed_text}
-use Rattle.tss_state_lines.specs.declared.part.Part.{Part}
-use Rattle.tss_state_lines.specs.declared.part.Part.TheVariants as part
+use Rattle.tss_state_text.specs.declared.part.Part.{Part}
+use Rattle.tss_state_text.specs.declared.part.Part.TheVariants as part
 use Rattle.tss_state_lines.specs.Lines.{main_line, main_registers_line, epoch_line, inbox_line, gateway_line, queue_line, entry_line, place_line, version_line, message_line, trap_line, piece_line, enabled_line}
-use Rattle.tss_state_lines.specs.StateText.{text_if, task_text, worker_text, bank_entries, bank_names, entries_text, places_text, buffers_text, buffer_text, copy_text}
+use Rattle.tss_state_text.specs.StateText.{text_if, task_text, worker_text, bank_entries, bank_names, entries_text, places_text, buffers_text, buffer_text, copy_text}
 use Rattle.tss_state_text.specs.declared.banks.Table.{Table}
 use Rattle.tss_state_text.specs.declared.banks.Table.TheVariants as table
 

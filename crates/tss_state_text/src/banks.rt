@@ -1,16 +1,16 @@
 // What stands in the banks: entries, held places and held buffers, and what a bank copies home.
 ghost use Rattle.std.specs.Prelude.{◌≡◌, slice_get};
 ghost use Rattle.std.specs.FinMap.{entries, keys};
-ghost use Rattle.tss_report.specs.Pieces.{Emits};
+ghost use Rattle.tss_text.specs.Pieces.{Emits};
 ghost use Rattle.tss_state_lines.specs.Lines.{entry_line, place_line};
-ghost use Rattle.tss_state_lines.specs.StateText.{bank_entries, bank_names, buffer_text, copy_text, text_if};
+ghost use Rattle.tss_state_text.specs.StateText.{bank_entries, bank_names, buffer_text, copy_text, text_if};
 ghost use Rattle.tss_state_text.specs.Items.{row_count as count_of, row_text, table_text};
 
 use crate::holders::shown_bytes;
 use tss_outside::{Failed, Sink};
 use tss_pipeline::Pipeline;
-use tss_report::PieceWriter;
 use tss_state_lines::{put_buffer, put_copy, put_entry, put_place};
+use tss_text::PieceWriter;
 
 /// A table of a bank.
 #[derive(Clone, Copy, Debug, PartialEq, Eq)]

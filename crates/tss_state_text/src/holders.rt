@@ -3,7 +3,7 @@ ghost use Rattle.std.specs.Prelude.{◌≡◌, None, Some, option_and_then, opti
 ghost use Rattle.std.specs.FinMap.{get, keys};
 ghost use Rattle.tss_events.specs.Events.{storage_name};
 ghost use Rattle.tss_pipeline.specs.BankParts.{contents_under, names_at};
-ghost use Rattle.tss_state_lines.specs.StateText as text;
+ghost use Rattle.tss_state_text.specs.StateText as text;
 
 use tss_base::{Event, OpName, Range, Storage};
 use tss_events::{HeldBuffer, Message};

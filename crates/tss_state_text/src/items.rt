@@ -5,25 +5,27 @@ ghost use Rattle.std.specs.FinMap.{get};
 ghost use Rattle.tss_model.specs.Memory.{loaded};
 ghost use Rattle.tss_protocol.specs.Gateway.{held_tasks};
 ghost use Rattle.std.specs.Prelude.{slice_get};
-ghost use Rattle.tss_report.specs.Pieces.{Emits};
+ghost use Rattle.tss_text.specs.Pieces.{Emits};
 ghost use Rattle.tss_report.specs.Report.{ending_text};
 ghost use Rattle.tss_state_lines.specs.Lines.{epoch_line, gateway_line, inbox_line, piece_line, queue_line, trap_line};
-ghost use Rattle.tss_state_lines.specs.StateText.{text_if};
+ghost use Rattle.tss_state_text.specs.StateText.{text_if};
 ghost use Rattle.tss_state_text.specs.Items.{item_count as count_of, item_text};
 
 use crate::banks::{Table, put_copying, put_table};
 use crate::messages::put_message_at;
+use crate::part::Part;
 use crate::tasks::put_task_at;
 use crate::versions::put_versions;
 use crate::workers::put_worker;
 use tss_base::Image;
 use tss_outside::{Failed, Sink};
 use tss_pipeline::Pipeline;
-use tss_report::{PieceWriter, put_changed, put_ending};
+use tss_report::{put_changed, put_ending};
 use tss_state_lines::{
-    Part, put_enabled, put_held, put_inbox, put_main, put_main_registers, put_named, put_piece,
+    put_enabled, put_held, put_inbox, put_main, put_main_registers, put_named, put_piece,
     put_queued, put_trap,
 };
+use tss_text::PieceWriter;
 
 /// How many items a part has.
 pub(crate) fn item_count(p: &Pipeline, part: Part) -> u32

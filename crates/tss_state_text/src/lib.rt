@@ -7,6 +7,7 @@ mod banks;
 mod holders;
 mod items;
 mod messages;
+mod part;
 mod tasks;
 mod text;
 mod versions;

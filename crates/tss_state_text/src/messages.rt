@@ -1,15 +1,15 @@
 // The messages under way.
 ghost use Rattle.std.specs.Prelude.{◌≡◌, slice_get};
 ghost use Rattle.tss_protocol.specs.Mail.{message_at, message_names};
-ghost use Rattle.tss_report.specs.Pieces.{Emits};
+ghost use Rattle.tss_text.specs.Pieces.{Emits};
 ghost use Rattle.tss_state_lines.specs.Lines.{message_line};
-ghost use Rattle.tss_state_lines.specs.StateText.{text_if};
+ghost use Rattle.tss_state_text.specs.StateText.{text_if};
 
 use tss_base::Event;
 use tss_outside::{Failed, Sink};
 use tss_pipeline::Pipeline;
-use tss_report::PieceWriter;
 use tss_state_lines::put_message;
+use tss_text::PieceWriter;
 
 /// Puts the line of the message of a name.
 fn put_message_of<K: Sink>(

@@ -1,17 +1,17 @@
 // The tasks in flight, with their operands.
 ghost use Rattle.std.specs.Prelude.{◌≡◌, Some, slice_get};
 ghost use Rattle.std.specs.FinMap.{entries, get};
-ghost use Rattle.tss_report.specs.Pieces.{Emits};
+ghost use Rattle.tss_text.specs.Pieces.{Emits};
 ghost use Rattle.tss_stations.specs.Reading.{found_in};
 ghost use Rattle.tss_protocol.specs.Stations.{operand_at};
 ghost use Rattle.tss_state_lines.specs.Lines.{operand_line};
-ghost use Rattle.tss_state_lines.specs.StateText.{operands_text, task_text, text_if};
+ghost use Rattle.tss_state_text.specs.StateText.{operands_text, task_text, text_if};
 
 use tss_base::{OpName, Stage, Task};
 use tss_outside::{Failed, Sink};
 use tss_pipeline::Pipeline;
-use tss_report::PieceWriter;
 use tss_state_lines::{put_operand, put_task};
+use tss_text::PieceWriter;
 
 /// Puts the line of an operand of a task in flight, by its place.
 fn put_operand_at<K: Sink>(

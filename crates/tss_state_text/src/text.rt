@@ -1,15 +1,15 @@
 // The whole text, part by part.
 ghost use Rattle.std.specs.Prelude.{◌≡◌};
 ghost use Rattle.tss_model.specs.Memory.{loaded};
-ghost use Rattle.tss_report.specs.Pieces.{Emits, Writes};
-ghost use Rattle.tss_state_lines.specs.StateText.{part_text, state_text};
+ghost use Rattle.tss_text.specs.Pieces.{Emits, Writes};
+ghost use Rattle.tss_state_text.specs.StateText.{part_text, state_text};
 
 use crate::items::{item_count, put_item};
+use crate::part::{ALL_PARTS, Part};
 use tss_base::Image;
 use tss_outside::{Failed, Sink};
 use tss_pipeline::Pipeline;
-use tss_report::PieceWriter;
-use tss_state_lines::{ALL_PARTS, Part};
+use tss_text::PieceWriter;
 
 /// Puts a part of the text, item by item.
 fn put_part<K: Sink>(

@@ -3,15 +3,15 @@ ghost use Rattle.std.specs.Prelude.{◌≡◌, option_map};
 ghost use Rattle.std.specs.FinMap.{entries};
 ghost use Rattle.std.specs.List.{flat_map};
 ghost use Rattle.tss_pipeline.specs.BankParts.{versions_at};
-ghost use Rattle.tss_report.specs.Pieces.{Emits};
+ghost use Rattle.tss_text.specs.Pieces.{Emits};
 ghost use Rattle.tss_state_lines.specs.Lines.{version_line};
 ghost use Rattle.tss_state_text.specs.Versions.{earlier as earlier_of, next_entry, shown};
 
 use tss_base::OpName;
 use tss_outside::{Failed, Sink};
 use tss_pipeline::Pipeline;
-use tss_report::PieceWriter;
 use tss_state_lines::put_version;
+use tss_text::PieceWriter;
 use tss_versions::VersionView;
 
 /// The first version of a bank above a name, or the first of all where there is no name.

@@ -2,15 +2,15 @@
 ghost use Rattle.std.specs.Prelude.{◌≡◌, ◌+◌, ◌*◌, ◌≤◌, drop, length, take};
 ghost use Rattle.std.specs.FinMap.{get};
 ghost use Rattle.tss_model.specs.Memory.{scratch_range};
-ghost use Rattle.tss_report.specs.Pieces.{Emits};
+ghost use Rattle.tss_text.specs.Pieces.{Emits};
 ghost use Rattle.tss_report.specs.Rows.{row_len};
-ghost use Rattle.tss_state_lines.specs.StateText.{scratch_text, worker_text};
+ghost use Rattle.tss_state_text.specs.StateText.{scratch_text, worker_text};
 
 use tss_base::addresses::SCRATCH;
 use tss_outside::{Failed, Sink};
 use tss_pipeline::Pipeline;
-use tss_report::PieceWriter;
 use tss_state_lines::{put_busy, put_idle, put_scratch_row, put_worker_registers};
+use tss_text::PieceWriter;
 
 /// How many bytes a row has.
 const ROW: u32 = 16;

@@ -1,7 +1,7 @@
 -- The peaks go out one after another.
 use Rattle.std.proofs.Common.{◌≡◌, ◌+◌, ap, ◌∙◌, arith}
 use Rattle.tss_report.specs.Peaks.{peak_text}
-use Rattle.tss_report.proofs.PieceLemmas.{none_put, more_put, failed_put, all_put}
+use Rattle.tss_text.proofs.PieceLemmas.{none_put, more_put, failed_put, all_put}
 use Rattle.tss_report.proofs.PeakLemmas.{counts_from, count_at, all_left, none_left, counts_next}
 use Rattle.tss_report.proofs.peaks.put_counts.Goals as goal
 

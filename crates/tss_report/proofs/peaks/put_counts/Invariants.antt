@@ -1,6 +1,6 @@
 -- The counts before this one were put.
 use Rattle.tss_report.specs.Peaks.{counts_text}
-use Rattle.tss_report.proofs.PieceLemmas.{HasPut}
+use Rattle.tss_text.proofs.PieceLemmas.{HasPut}
 use Rattle.tss_report.proofs.PeakLemmas.{counts_from}
 use Rattle.tss_report.proofs.peaks.put_counts.Given as goal
 

@@ -2,7 +2,7 @@
 use Rattle.std.proofs.Common.{refl, ap}
 use Rattle.tss_protocol.specs.Counts.{sizes_of}
 use Rattle.tss_report.specs.Peaks.{events_text, counts_text, peaks_text}
-use Rattle.tss_report.proofs.PieceLemmas.{none_put, more_put, failed_put, last_put, same_text}
+use Rattle.tss_text.proofs.PieceLemmas.{none_put, more_put, failed_put, last_put, same_text}
 use Rattle.tss_report.proofs.peaks.put_peaks.Goals as goal
 
 pub returns-in_err-put_events : goal.returns-in_err-put_events

@@ -1,9 +1,9 @@
 -- The parts of the line are those of the ending.
 use Rattle.std.proofs.Common.{[], ◌∷◌, sym, ap, ◌∙◌}
 use Rattle.std.specs.Prelude.{codes}
-use Rattle.tss_report.specs.Pieces.{joined}
+use Rattle.tss_text.specs.Pieces.{joined}
 use Rattle.tss_report.specs.Report.{ending_text}
-use Rattle.tss_report.proofs.PieceLemmas.{same_text}
+use Rattle.tss_text.proofs.PieceLemmas.{same_text}
 use Rattle.tss_report.proofs.report.put_ending.Goals as goal
 
 pub returns-in-MainTrap : goal.returns-in-MainTrap

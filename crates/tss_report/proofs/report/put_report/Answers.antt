@@ -4,7 +4,7 @@ use Rattle.std.specs.Prelude.{option_map}
 use Rattle.tss_model.specs.Memory.{loaded}
 use Rattle.tss_protocol.specs.Counts.{sizes_of}
 use Rattle.tss_report.specs.Report.{summary_text, memory_text, told_peaks}
-use Rattle.tss_report.proofs.PieceLemmas.{none_put, more_put, failed_put, last_put}
+use Rattle.tss_text.proofs.PieceLemmas.{none_put, more_put, failed_put, last_put}
 use Rattle.tss_report.proofs.report.put_report.Goals as goal
 
 pub returns-in_err-put_summary : goal.returns-in_err-put_summary

@@ -1,7 +1,7 @@
 -- Each part goes out after those before it.
 use Rattle.std.proofs.Common.{◌++◌, refl}
 use Rattle.tss_report.specs.Report.{ending_text, tasks_text, output_text, summary_text}
-use Rattle.tss_report.proofs.PieceLemmas.{none_put, more_put, failed_put, last_put}
+use Rattle.tss_text.proofs.PieceLemmas.{none_put, more_put, failed_put, last_put}
 use Rattle.tss_report.proofs.report.put_summary.Goals as goal
 
 pub returns-in_err-put_ending : goal.returns-in_err-put_ending

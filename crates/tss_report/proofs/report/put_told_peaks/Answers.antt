@@ -3,7 +3,7 @@ use Rattle.std.proofs.Common.{sym, ap}
 use Rattle.std.specs.Prelude.{option_map}
 use Rattle.tss_protocol.specs.Counts.{sizes_of}
 use Rattle.tss_report.specs.Report.{told_peaks}
-use Rattle.tss_report.proofs.PieceLemmas.{same_text}
+use Rattle.tss_text.proofs.PieceLemmas.{same_text}
 use Rattle.tss_report.proofs.report.put_told_peaks.Goals as goal
 
 pub returns-in-Some : goal.returns-in-Some

@@ -3,9 +3,9 @@ use Rattle.std.proofs.Common.{◌≡◌, subst, rules}
 use Rattle.std.specs.Prelude.{option_map}
 use Rattle.tss_model.specs.Memory.{loaded}
 use Rattle.tss_protocol.specs.Counts.{sizes_of}
-use Rattle.tss_report.specs.Pieces.{Writes}
+use Rattle.tss_text.specs.Pieces.{Writes}
 use Rattle.tss_report.specs.Report.{report_text}
-use Rattle.tss_report.proofs.PieceLemmas.{part_put, whole_put}
+use Rattle.tss_text.proofs.PieceLemmas.{part_put, whole_put}
 use Rattle.tss_report.proofs.report.write_report.Goals as goal
 
 pub returns-in_err-put_report : goal.returns-in_err-put_report

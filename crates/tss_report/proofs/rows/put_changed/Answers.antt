@@ -3,7 +3,7 @@ use Rattle.std.proofs.Common.{◌+◌, true, length, get_or, ap, ◌∙◌, arit
 use Rattle.std.proofs.lemmas.Option.{slice_get-get_or}
 use Rattle.tss_model.specs.Memory.{MemoryRange, loaded, stack_range}
 use Rattle.tss_report.specs.Rows.{range_text}
-use Rattle.tss_report.proofs.PieceLemmas.{none_put, more_put, failed_put, all_put}
+use Rattle.tss_text.proofs.PieceLemmas.{none_put, more_put, failed_put, all_put}
 use Rattle.tss_report.proofs.RowLemmas.{ranges_from, all_ranges, no_ranges, ranges_next, range_count}
 use Rattle.tss_report.proofs.rows.put_changed.Goals as goal
 

@@ -1,7 +1,7 @@
 -- The ranges of memory before this one were put.
 use Rattle.tss_model.specs.Memory.{loaded}
 use Rattle.tss_report.specs.Rows.{changed_text}
-use Rattle.tss_report.proofs.PieceLemmas.{HasPut}
+use Rattle.tss_text.proofs.PieceLemmas.{HasPut}
 use Rattle.tss_report.proofs.RowLemmas.{ranges_from}
 use Rattle.tss_report.proofs.rows.put_changed.Given as goal
 

@@ -2,7 +2,7 @@
 use Rattle.std.proofs.Common.{sym, ◌∙◌}
 use Rattle.tss_memory.proofs.RangeLemmas.{readable_inside}
 use Rattle.tss_model.specs.Memory.{loaded}
-use Rattle.tss_report.proofs.PieceLemmas.{same_text}
+use Rattle.tss_text.proofs.PieceLemmas.{same_text}
 use Rattle.tss_report.proofs.RowLemmas.{row_changed}
 use Rattle.tss_report.proofs.rows.put_row.Goals as goal
 

@@ -2,7 +2,7 @@
 use Rattle.std.proofs.Common.{◌+◌, ◌*◌, arith}
 use Rattle.tss_model.specs.Memory.{loaded}
 use Rattle.tss_report.specs.Rows.{row_len, row_text}
-use Rattle.tss_report.proofs.PieceLemmas.{none_put, more_put, failed_put, all_put}
+use Rattle.tss_text.proofs.PieceLemmas.{none_put, more_put, failed_put, all_put}
 use Rattle.tss_report.proofs.RowLemmas.{rows_from, all_rows, no_rows, rows_next}
 use Rattle.tss_report.proofs.rows.put_rows.Goals as goal
 

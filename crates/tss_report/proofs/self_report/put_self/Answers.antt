@@ -4,7 +4,7 @@ use Rattle.tss_protocol.specs.Counts.{sizes_of}
 use Rattle.tss_report.specs.Peaks.{peaks_text}
 use Rattle.tss_report.specs.Report.{summary_text}
 use Rattle.tss_report.specs.SelfReport.{words_text, sum_text}
-use Rattle.tss_report.proofs.PieceLemmas.{none_put, more_put, failed_put, last_put}
+use Rattle.tss_text.proofs.PieceLemmas.{none_put, more_put, failed_put, last_put}
 use Rattle.tss_report.proofs.self_report.put_self.Goals as goal
 
 pub returns-in_err-put_words : goal.returns-in_err-put_words

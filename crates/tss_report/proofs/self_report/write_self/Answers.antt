@@ -1,9 +1,9 @@
 -- The report is put into a writer that keeps nothing yet, and then what is kept is written.
 use Rattle.std.proofs.Common.{◌≡◌, subst, rules}
 use Rattle.tss_protocol.specs.Counts.{sizes_of}
-use Rattle.tss_report.specs.Pieces.{Writes}
+use Rattle.tss_text.specs.Pieces.{Writes}
 use Rattle.tss_report.specs.SelfReport.{self_text}
-use Rattle.tss_report.proofs.PieceLemmas.{part_put, whole_put}
+use Rattle.tss_text.proofs.PieceLemmas.{part_put, whole_put}
 use Rattle.tss_report.proofs.self_report.write_self.Goals as goal
 
 pub returns-in_err-put_self : goal.returns-in_err-put_self

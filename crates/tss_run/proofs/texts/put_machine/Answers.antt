@@ -1,7 +1,7 @@
 -- A machine's check with its key.
 use Rattle.std.proofs.Common.{[], ◌∷◌, codes, option_map, sym, ◌∙◌}
-use Rattle.tss_report.specs.Pieces.{joined}
-use Rattle.tss_report.proofs.PieceLemmas.{same_text}
+use Rattle.tss_text.specs.Pieces.{joined}
+use Rattle.tss_text.proofs.PieceLemmas.{same_text}
 use Rattle.tss_run.specs.Answer.{machine_line}
 use Rattle.tss_run.proofs.texts.put_machine.Goals as goal
 

@@ -1,8 +1,8 @@
 -- Each text is that of its refusal.
 use Rattle.std.proofs.Common.{[], ◌∷◌, sym, ap, ◌∙◌}
 use Rattle.std.specs.Prelude.{codes}
-use Rattle.tss_report.specs.Pieces.{joined}
-use Rattle.tss_report.proofs.PieceLemmas.{same_text}
+use Rattle.tss_text.specs.Pieces.{joined}
+use Rattle.tss_text.proofs.PieceLemmas.{same_text}
 use Rattle.tss_run.specs.Answer.{refusal_text}
 use Rattle.tss_run.proofs.texts.put_refusal.Goals as goal
 

@@ -5,7 +5,7 @@ use Rattle.tss_model.specs.Memory.{loaded}
 use Rattle.tss_protocol.specs.Counts.{sizes_of}
 use Rattle.tss_report.specs.Peaks.{HasRanges}
 use Rattle.tss_report.specs.Report.{report_text}
-use Rattle.tss_report.proofs.PieceLemmas.{same_written}
+use Rattle.tss_text.proofs.PieceLemmas.{same_written}
 use Rattle.tss_run.proofs.ReportLemmas.{has_ranges, same_report}
 use Rattle.tss_run.proofs.texts.write_finished.Goals as goal
 

@@ -1,7 +1,7 @@
 -- The text is put into a writer that keeps nothing yet, and then what is kept is written.
 use Rattle.std.proofs.Common.{◌≡◌, subst, rules}
-use Rattle.tss_report.specs.Pieces.{Writes}
-use Rattle.tss_report.proofs.PieceLemmas.{part_put, whole_put}
+use Rattle.tss_text.specs.Pieces.{Writes}
+use Rattle.tss_text.proofs.PieceLemmas.{part_put, whole_put}
 use Rattle.tss_run.specs.Answer.{migrated_text}
 use Rattle.tss_run.proofs.texts.write_migrated.Goals as goal
 

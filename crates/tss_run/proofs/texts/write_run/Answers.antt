@@ -3,7 +3,7 @@ use Rattle.std.proofs.Common.{None}
 use Rattle.tss_model.specs.Memory.{loaded}
 use Rattle.tss_protocol.specs.Counts.{sizes_of}
 use Rattle.tss_report.specs.Report.{report_text}
-use Rattle.tss_report.proofs.PieceLemmas.{same_written}
+use Rattle.tss_text.proofs.PieceLemmas.{same_written}
 use Rattle.tss_run.proofs.texts.write_run.Goals as goal
 
 pub returns : goal.returns

@@ -1,6 +1,6 @@
 -- The report is that of its run.
 use Rattle.std.proofs.Common.{rules, sym, ap}
-use Rattle.tss_report.proofs.PieceLemmas.{same_written}
+use Rattle.tss_text.proofs.PieceLemmas.{same_written}
 use Rattle.tss_run.specs.Answer.{text_of_report}
 use Rattle.tss_run.proofs.texts.write_text_of_report.Goals as goal
 

@@ -2,7 +2,7 @@
 use Rattle.std.proofs.Common.{◌++◌, [], ◌∷◌, sym, ap, ◌∙◌}
 use Rattle.std.specs.Prelude.{codes, decimal, option_map}
 use Rattle.hex.specs.Hex.{encode_lower}
-use Rattle.tss_report.proofs.PieceLemmas.{same_text}
+use Rattle.tss_text.proofs.PieceLemmas.{same_text}
 use Rattle.tss_state_lines.specs.Words.{line}
 use Rattle.tss_state_lines.specs.Lines.{buffer_line}
 use Rattle.tss_state_lines.proofs.bank_lines.put_buffer.Goals as goal

@@ -1,7 +1,7 @@
 -- The words are those of the version.
 use Rattle.std.proofs.Common.{[], ◌∷◌, ap, ◌∙◌}
 use Rattle.std.specs.Prelude.{codes, decimal}
-use Rattle.tss_report.proofs.PieceLemmas.{same_text}
+use Rattle.tss_text.proofs.PieceLemmas.{same_text}
 use Rattle.tss_state_lines.specs.Words.{line}
 use Rattle.tss_state_lines.proofs.bank_lines.put_version.Goals as goal
 

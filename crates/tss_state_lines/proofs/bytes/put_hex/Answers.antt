@@ -2,7 +2,7 @@
 use Rattle.std.proofs.Common.{◌≡◌, ◌++◌, ℕ, List, refl, sym, ap, ◌∙◌, take, drop}
 use Rattle.std.proofs.lemmas.List.{take-append-drop}
 use Rattle.hex.specs.Hex.{encode_lower}
-use Rattle.tss_report.proofs.PieceLemmas.{none_put, more_put, failed_put, all_put, same_text}
+use Rattle.tss_text.proofs.PieceLemmas.{none_put, more_put, failed_put, all_put, same_text}
 use Rattle.tss_state_lines.proofs.WordLemmas.{encode-append, no_digits}
 use Rattle.tss_state_lines.proofs.bytes.put_hex.Goals as goal
 

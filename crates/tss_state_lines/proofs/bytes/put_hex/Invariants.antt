@@ -1,7 +1,7 @@
 -- The digits of the bytes before the rest were put.
 use Rattle.std.proofs.Common.{length}
 use Rattle.hex.specs.Hex.{encode_lower}
-use Rattle.tss_report.proofs.PieceLemmas.{HasPut}
+use Rattle.tss_text.proofs.PieceLemmas.{HasPut}
 use Rattle.tss_state_lines.proofs.bytes.put_hex.Given as goal
 
 abbrev pub invariant-loop-rest : goal.invariant-loop-rest

@@ -2,7 +2,7 @@
 use Rattle.std.proofs.Common.{◌++◌}
 use Rattle.std.specs.Prelude.{codes}
 use Rattle.hex.specs.Hex.{encode_lower}
-use Rattle.tss_report.proofs.PieceLemmas.{same_text}
+use Rattle.tss_text.proofs.PieceLemmas.{same_text}
 use Rattle.tss_state_lines.specs.Words.{spaced}
 use Rattle.tss_state_lines.proofs.Sequences.{then_put, first_failed}
 use Rattle.tss_state_lines.proofs.WordLemmas.{line_with}

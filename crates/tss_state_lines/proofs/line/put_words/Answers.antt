@@ -1,8 +1,8 @@
 -- The words go out one after another.
 use Rattle.std.proofs.Common.{[], ◌∷◌, refl, ◌∙◌}
 use Rattle.std.specs.Prelude.{codes}
-use Rattle.tss_report.specs.Pieces.{joined}
-use Rattle.tss_report.proofs.PieceLemmas.{none_put, more_put, failed_put, same_text}
+use Rattle.tss_text.specs.Pieces.{joined}
+use Rattle.tss_text.proofs.PieceLemmas.{none_put, more_put, failed_put, same_text}
 use Rattle.tss_state_lines.proofs.WordLemmas.{spaced_from}
 use Rattle.tss_state_lines.proofs.line.put_words.Goals as goal
 

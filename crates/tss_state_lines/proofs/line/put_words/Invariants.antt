@@ -1,6 +1,6 @@
 -- The words before this one were put.
 use Rattle.std.proofs.Common.{drop}
-use Rattle.tss_report.proofs.PieceLemmas.{HasPut}
+use Rattle.tss_text.proofs.PieceLemmas.{HasPut}
 use Rattle.tss_state_lines.specs.Words.{spaced}
 use Rattle.tss_state_lines.proofs.line.put_words.Given as goal
 

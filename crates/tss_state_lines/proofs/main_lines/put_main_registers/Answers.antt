@@ -1,7 +1,7 @@
 -- The registers are main's.
 use Rattle.std.proofs.Common.{◌∷◌}
 use Rattle.std.specs.Prelude.{codes}
-use Rattle.tss_report.proofs.PieceLemmas.{same_text}
+use Rattle.tss_text.proofs.PieceLemmas.{same_text}
 use Rattle.tss_state_lines.specs.Words.{line, register_words}
 use Rattle.tss_state_lines.proofs.main_lines.put_main_registers.Goals as goal
 

@@ -1,7 +1,7 @@
 -- Each part of the line goes out after those before it.
 use Rattle.std.proofs.Common.{◌++◌, [], ◌∷◌}
 use Rattle.std.specs.Prelude.{codes}
-use Rattle.tss_report.proofs.PieceLemmas.{same_text}
+use Rattle.tss_text.proofs.PieceLemmas.{same_text}
 use Rattle.tss_state_lines.specs.Words.{spaced, register_words}
 use Rattle.tss_state_lines.proofs.Sequences.{then_put, first_failed}
 use Rattle.tss_state_lines.proofs.WordLemmas.{line_from}

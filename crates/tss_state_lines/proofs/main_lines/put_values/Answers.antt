@@ -2,8 +2,8 @@
 use Rattle.std.proofs.Common.{ℕ, List, ◌++◌, ◌+◌, ap, ◌∙◌, append-nil, arith}
 use Rattle.std.specs.Prelude.{codes}
 use Rattle.tss_model.specs.Registers.{Registers, register_at}
-use Rattle.tss_report.specs.Digits.{hex_word}
-use Rattle.tss_report.proofs.PieceLemmas.{none_put, more_put, failed_put, all_put, same_text}
+use Rattle.tss_text.specs.Digits.{hex_word}
+use Rattle.tss_text.proofs.PieceLemmas.{none_put, more_put, failed_put, all_put, same_text}
 use Rattle.tss_state_lines.proofs.Ranges.{texts_from, all_texts, no_texts, texts_next}
 use Rattle.tss_state_lines.proofs.WordLemmas.{registers_spaced}
 use Rattle.tss_state_lines.proofs.main_lines.put_values.Goals as goal

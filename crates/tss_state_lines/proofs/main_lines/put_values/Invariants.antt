@@ -1,8 +1,8 @@
 -- The registers before this one were put.
 use Rattle.std.specs.Prelude.{codes, ◌++◌}
 use Rattle.tss_model.specs.Registers.{register_at}
-use Rattle.tss_report.specs.Digits.{hex_word}
-use Rattle.tss_report.proofs.PieceLemmas.{HasPut}
+use Rattle.tss_text.specs.Digits.{hex_word}
+use Rattle.tss_text.proofs.PieceLemmas.{HasPut}
 use Rattle.tss_state_lines.specs.Words.{spaced, register_words}
 use Rattle.tss_state_lines.proofs.Ranges.{texts_from}
 use Rattle.tss_state_lines.proofs.main_lines.put_values.Given as goal

@@ -2,7 +2,7 @@
 use Rattle.std.proofs.Common.{[], ◌∷◌, sym, ap, ◌∙◌}
 use Rattle.std.specs.Prelude.{codes, decimal}
 use Rattle.tss_events.specs.Events.{message_of}
-use Rattle.tss_report.proofs.PieceLemmas.{same_text}
+use Rattle.tss_text.proofs.PieceLemmas.{same_text}
 use Rattle.tss_state_lines.specs.Words.{line}
 use Rattle.tss_state_lines.specs.Lines.{message_line}
 use Rattle.tss_state_lines.proofs.EventTexts.{decode_event, ack_event, open_event, use_event, ready_event, link_event, release_event, bye_event, idle_event, nack_event, retire_event, gone_event}

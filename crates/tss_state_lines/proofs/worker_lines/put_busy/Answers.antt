@@ -1,8 +1,8 @@
 -- The words are those of the worker.
 use Rattle.std.proofs.Common.{[], ◌∷◌, ap, ◌∙◌}
 use Rattle.std.specs.Prelude.{codes, decimal}
-use Rattle.tss_report.specs.Digits.{hex_word}
-use Rattle.tss_report.proofs.PieceLemmas.{same_text}
+use Rattle.tss_text.specs.Digits.{hex_word}
+use Rattle.tss_text.proofs.PieceLemmas.{same_text}
 use Rattle.tss_state_lines.specs.Words.{line}
 use Rattle.tss_state_lines.specs.Lines as lines
 use Rattle.tss_state_lines.proofs.worker_lines.put_busy.Goals as goal

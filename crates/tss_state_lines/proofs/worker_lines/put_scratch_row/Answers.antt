@@ -2,7 +2,7 @@
 use Rattle.std.proofs.Common.{◌++◌, [], ◌∷◌, refl, sym, ap, ◌∙◌}
 use Rattle.std.specs.Prelude.{cond, codes, decimal}
 use Rattle.hex.specs.Hex.{encode_lower}
-use Rattle.tss_report.proofs.PieceLemmas.{none_put, all_put, same_text}
+use Rattle.tss_text.proofs.PieceLemmas.{none_put, all_put, same_text}
 use Rattle.tss_state_lines.specs.Words.{line}
 use Rattle.tss_state_lines.specs.Lines.{scratch_line}
 use Rattle.tss_state_lines.proofs.worker_lines.put_scratch_row.Goals as goal

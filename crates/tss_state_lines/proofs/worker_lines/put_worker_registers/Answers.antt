@@ -1,7 +1,7 @@
 -- The registers are the worker's.
 use Rattle.std.proofs.Common.{◌∷◌, ap, ◌∙◌}
 use Rattle.std.specs.Prelude.{codes, decimal}
-use Rattle.tss_report.proofs.PieceLemmas.{same_text}
+use Rattle.tss_text.proofs.PieceLemmas.{same_text}
 use Rattle.tss_state_lines.specs.Words.{line, register_words}
 use Rattle.tss_state_lines.proofs.worker_lines.put_worker_registers.Goals as goal
 

@@ -2,9 +2,9 @@
 use Rattle.std.proofs.Common.{ℕ, sym, ap, ◌∙◌}
 use Rattle.std.specs.Prelude.{option_map}
 use Rattle.tss_base.specs.declared.operand.OpName.{OpName}
-use Rattle.tss_report.proofs.PieceLemmas.{same_text}
+use Rattle.tss_text.proofs.PieceLemmas.{same_text}
 use Rattle.tss_state_lines.specs.Lines.{buffer_line}
-use Rattle.tss_state_lines.specs.StateText.{text_if, buffer_object, buffer_text, object_bytes}
+use Rattle.tss_state_text.specs.StateText.{text_if, buffer_object, buffer_text, object_bytes}
 use Rattle.tss_state_text.proofs.ShownTexts.{contents_there, name_place, nothing_put}
 use Rattle.tss_state_text.proofs.banks.put_buffer_at.Goals as goal
 

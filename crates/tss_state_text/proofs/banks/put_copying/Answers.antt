@@ -2,7 +2,7 @@
 use Rattle.std.proofs.Common.{sym, ap, ◌∙◌}
 use Rattle.std.specs.Prelude.{option_map}
 use Rattle.tss_pipeline.specs.BankParts.{copy_shown}
-use Rattle.tss_report.proofs.PieceLemmas.{same_text}
+use Rattle.tss_text.proofs.PieceLemmas.{same_text}
 use Rattle.tss_state_text.proofs.ShownTexts.{copy_line_of}
 use Rattle.tss_state_text.proofs.banks.put_copying.Goals as goal
 

@@ -2,9 +2,9 @@
 use Rattle.std.proofs.Common.{sym, ap, ◌∙◌}
 use Rattle.std.specs.Prelude.{option_map}
 use Rattle.tss_renaming.specs.Entries.{entry_of}
-use Rattle.tss_report.proofs.PieceLemmas.{same_text}
+use Rattle.tss_text.proofs.PieceLemmas.{same_text}
 use Rattle.tss_state_lines.specs.Lines.{entry_line}
-use Rattle.tss_state_lines.specs.StateText.{text_if}
+use Rattle.tss_state_text.specs.StateText.{text_if}
 use Rattle.tss_state_text.proofs.ShownTexts.{entry_text_at, nothing_put}
 use Rattle.tss_state_text.proofs.banks.put_entry_at.Goals as goal
 

@@ -1,8 +1,8 @@
 -- The name is the one that is shown.
 use Rattle.std.proofs.Common.{sym, ap, ◌∙◌}
-use Rattle.tss_report.proofs.PieceLemmas.{same_text}
+use Rattle.tss_text.proofs.PieceLemmas.{same_text}
 use Rattle.tss_state_lines.specs.Lines.{place_line}
-use Rattle.tss_state_lines.specs.StateText.{text_if}
+use Rattle.tss_state_text.specs.StateText.{text_if}
 use Rattle.tss_state_text.proofs.ShownTexts.{name_place, nothing_put}
 use Rattle.tss_state_text.proofs.banks.put_place_at.Goals as goal
 

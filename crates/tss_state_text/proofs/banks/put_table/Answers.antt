@@ -1,6 +1,6 @@
 -- The rows go out one after another.
 use Rattle.std.proofs.Common.{◌+◌, ◌∙◌, arith}
-use Rattle.tss_report.proofs.PieceLemmas.{none_put, more_put, failed_put, all_put}
+use Rattle.tss_text.proofs.PieceLemmas.{none_put, more_put, failed_put, all_put}
 use Rattle.tss_state_lines.proofs.Ranges.{texts_from, all_texts, no_texts, texts_next}
 use Rattle.tss_state_text.specs.Items.{row_count, row_text}
 use Rattle.tss_state_text.proofs.ItemLemmas.{table_rows}

@@ -1,5 +1,5 @@
 -- The rows before this one were put.
-use Rattle.tss_report.proofs.PieceLemmas.{HasPut}
+use Rattle.tss_text.proofs.PieceLemmas.{HasPut}
 use Rattle.tss_state_lines.proofs.Ranges.{texts_from}
 use Rattle.tss_state_text.specs.Items.{row_count, row_text, table_text}
 use Rattle.tss_state_text.proofs.banks.put_table.Given as goal

@@ -2,7 +2,7 @@
 use Rattle.std.proofs.Common.{sym, ap, ◌∙◌}
 use Rattle.std.specs.FinMap.{len, len-entries}
 use Rattle.tss_state_text.specs.Items.{row_count}
-use Rattle.tss_state_lines.specs.StateText.{bank_entries, bank_names}
+use Rattle.tss_state_text.specs.StateText.{bank_entries, bank_names}
 use Rattle.tss_state_text.proofs.BankLemmas.{entries_same, names_same, key_count}
 use Rattle.tss_state_text.proofs.banks.row_count.Goals as goal
 

@@ -1,6 +1,6 @@
 -- The names are asked one after another.
 use Rattle.std.proofs.Common.{refl, sym, ◌∙◌, arith}
-use Rattle.tss_state_lines.specs.StateText.{object_of}
+use Rattle.tss_state_text.specs.StateText.{object_of}
 use Rattle.tss_state_text.proofs.FirstObjects.{none_there, next_names, first_here, no_names, name_there}
 use Rattle.tss_state_text.proofs.holders.first_object.Goals as goal
 use Rattle.tss_state_text.proofs.holders.first_object.Goals.{in-Some+else-is_some, in_default}

@@ -3,9 +3,9 @@ use Rattle.std.proofs.Common.{ℕ, sym, ap, ◌∙◌}
 use Rattle.std.specs.Prelude.{slice_get}
 use Rattle.tss_gateway.specs.Seen.{told}
 use Rattle.tss_protocol.specs.Gateway.{held_tasks}
-use Rattle.tss_report.proofs.PieceLemmas.{same_text}
+use Rattle.tss_text.proofs.PieceLemmas.{same_text}
 use Rattle.tss_state_lines.specs.Lines.{gateway_line}
-use Rattle.tss_state_lines.specs.StateText.{text_if}
+use Rattle.tss_state_text.specs.StateText.{text_if}
 use Rattle.tss_state_text.proofs.ShownTexts.{text_of_map}
 use Rattle.tss_state_text.proofs.items.put_held_at.Goals as goal
 

@@ -3,9 +3,9 @@ use Rattle.std.proofs.Common.{ℕ, sym, ap, ◌∙◌}
 use Rattle.std.specs.Prelude.{option_map}
 use Rattle.tss_base.specs.declared.ending.Trap.{Trap}
 use Rattle.tss_protocol.specs.State.{HeldTrap}
-use Rattle.tss_report.proofs.PieceLemmas.{same_text}
+use Rattle.tss_text.proofs.PieceLemmas.{same_text}
 use Rattle.tss_state_lines.specs.Lines.{trap_line}
-use Rattle.tss_state_lines.specs.StateText.{text_if}
+use Rattle.tss_state_text.specs.StateText.{text_if}
 use Rattle.tss_state_text.proofs.items.put_held_trap.Goals as goal
 
 -- what is shown, as the definitions have it

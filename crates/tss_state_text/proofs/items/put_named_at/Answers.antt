@@ -1,8 +1,8 @@
 -- The object is the one that is shown.
 use Rattle.std.proofs.Common.{sym, ap, ◌∙◌}
-use Rattle.tss_report.proofs.PieceLemmas.{same_text}
+use Rattle.tss_text.proofs.PieceLemmas.{same_text}
 use Rattle.tss_state_lines.specs.Lines.{epoch_line}
-use Rattle.tss_state_lines.specs.StateText.{text_if}
+use Rattle.tss_state_text.specs.StateText.{text_if}
 use Rattle.tss_state_text.proofs.items.put_named_at.Goals as goal
 
 pub returns-in-Some : goal.returns-in-Some

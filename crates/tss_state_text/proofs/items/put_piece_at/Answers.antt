@@ -2,9 +2,9 @@
 use Rattle.std.proofs.Common.{ℕ, List, Bor, sym, ap, ◌∙◌}
 use Rattle.std.specs.Prelude.{option_map}
 use Rattle.tss_model.specs.MainStep.{Piece}
-use Rattle.tss_report.proofs.PieceLemmas.{same_text}
+use Rattle.tss_text.proofs.PieceLemmas.{same_text}
 use Rattle.tss_state_lines.specs.Lines.{piece_line}
-use Rattle.tss_state_lines.specs.StateText.{text_if}
+use Rattle.tss_state_text.specs.StateText.{text_if}
 use Rattle.tss_state_text.proofs.items.put_piece_at.Goals as goal
 
 -- what is shown, as the definitions have it

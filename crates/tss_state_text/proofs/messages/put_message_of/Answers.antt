@@ -3,9 +3,9 @@ use Rattle.std.proofs.Common.{Bor, sym, ap, ◌∙◌}
 use Rattle.std.specs.Prelude.{option_map}
 use Rattle.tss_events.specs.declared.message.Message.{Message}
 use Rattle.tss_events.specs.Events.{message_of}
-use Rattle.tss_report.proofs.PieceLemmas.{same_text}
+use Rattle.tss_text.proofs.PieceLemmas.{same_text}
 use Rattle.tss_state_lines.specs.Lines.{message_line}
-use Rattle.tss_state_lines.specs.StateText.{text_if}
+use Rattle.tss_state_text.specs.StateText.{text_if}
 use Rattle.tss_state_text.proofs.messages.put_message_of.Goals as goal
 
 pub returns-in-Some : goal.returns-in-Some

@@ -1,8 +1,8 @@
 -- The operands go out after their task.
 use Rattle.std.specs.FinMap.{get}
-use Rattle.tss_report.proofs.PieceLemmas.{same_text}
+use Rattle.tss_text.proofs.PieceLemmas.{same_text}
 use Rattle.tss_state_lines.specs.Lines.{task_line}
-use Rattle.tss_state_lines.specs.StateText.{operands_text, text_if}
+use Rattle.tss_state_text.specs.StateText.{operands_text, text_if}
 use Rattle.tss_state_lines.proofs.Sequences.{then_put, first_failed}
 use Rattle.tss_state_text.proofs.TaskLemmas.{flying_text}
 use Rattle.tss_state_text.proofs.tasks.put_flying.Goals as goal

@@ -1,10 +1,10 @@
 -- The operand is the one that is shown.
 use Rattle.std.proofs.Common.{sym, ap, ◌∙◌}
 use Rattle.std.specs.Prelude.{option_map}
-use Rattle.tss_report.proofs.PieceLemmas.{same_text}
+use Rattle.tss_text.proofs.PieceLemmas.{same_text}
 use Rattle.tss_stations.specs.Views.{state_of}
 use Rattle.tss_state_lines.specs.Lines.{operand_line}
-use Rattle.tss_state_lines.specs.StateText.{text_if}
+use Rattle.tss_state_text.specs.StateText.{text_if}
 use Rattle.tss_state_text.proofs.tasks.put_operand_at.Goals as goal
 
 pub returns-in-Some : goal.returns-in-Some

@@ -1,6 +1,6 @@
 -- The operands go out one after another.
 use Rattle.std.proofs.Common.{◌+◌, sym, ◌∙◌, arith}
-use Rattle.tss_report.proofs.PieceLemmas.{none_put, more_put, failed_put, all_put}
+use Rattle.tss_text.proofs.PieceLemmas.{none_put, more_put, failed_put, all_put}
 use Rattle.tss_state_lines.proofs.Ranges.{texts_from, no_texts, texts_next}
 use Rattle.tss_state_text.proofs.TaskLemmas.{operand_text, operands_placed}
 use Rattle.tss_state_text.proofs.tasks.put_operands.Goals as goal

@@ -1,7 +1,7 @@
 -- The operands before this one were put.
 use Rattle.std.specs.FinMap.{get}
-use Rattle.tss_report.proofs.PieceLemmas.{HasPut}
-use Rattle.tss_state_lines.specs.StateText.{operands_text, text_if}
+use Rattle.tss_text.proofs.PieceLemmas.{HasPut}
+use Rattle.tss_state_text.specs.StateText.{operands_text, text_if}
 use Rattle.tss_state_lines.proofs.Ranges.{texts_from}
 use Rattle.tss_state_text.proofs.TaskLemmas.{operand_text}
 use Rattle.tss_state_text.proofs.tasks.put_operands.Given as goal

@@ -4,7 +4,7 @@ use Rattle.std.specs.Prelude.{option_and_then, option_map}
 use Rattle.tss_base.specs.declared.operand.Task.{Task}
 use Rattle.tss_base.specs.declared.marks.Stage.{Stage}
 use Rattle.tss_stations.specs.Reading.{found_in}
-use Rattle.tss_report.proofs.PieceLemmas.{same_text}
+use Rattle.tss_text.proofs.PieceLemmas.{same_text}
 use Rattle.tss_state_text.proofs.ShownTexts.{nothing_put}
 use Rattle.tss_state_text.proofs.TaskLemmas.{task_text_at, no_task_at}
 use Rattle.tss_state_text.proofs.tasks.put_task_at.Goals as goal

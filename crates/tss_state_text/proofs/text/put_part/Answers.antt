@@ -1,7 +1,7 @@
 -- The items go out one after another.
 use Rattle.std.proofs.Common.{◌+◌, ◌∙◌, arith}
 use Rattle.tss_model.specs.Memory.{loaded}
-use Rattle.tss_report.proofs.PieceLemmas.{none_put, more_put, failed_put, all_put}
+use Rattle.tss_text.proofs.PieceLemmas.{none_put, more_put, failed_put, all_put}
 use Rattle.tss_state_lines.proofs.Ranges.{texts_from, all_texts, no_texts, texts_next}
 use Rattle.tss_state_text.specs.Items.{item_count, item_text}
 use Rattle.tss_state_text.proofs.ItemLemmas.{part_items}

@@ -1,7 +1,7 @@
 -- The items before this one were put.
 use Rattle.tss_model.specs.Memory.{loaded}
-use Rattle.tss_report.proofs.PieceLemmas.{HasPut}
-use Rattle.tss_state_lines.specs.StateText.{part_text}
+use Rattle.tss_text.proofs.PieceLemmas.{HasPut}
+use Rattle.tss_state_text.specs.StateText.{part_text}
 use Rattle.tss_state_lines.proofs.Ranges.{texts_from}
 use Rattle.tss_state_text.specs.Items.{item_count, item_text}
 use Rattle.tss_state_text.proofs.text.put_part.Given as goal

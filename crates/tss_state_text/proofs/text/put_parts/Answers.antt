@@ -1,8 +1,8 @@
 -- The parts go out one after another.
 use Rattle.std.proofs.Common.{◌≡◌, ◌+◌, ap, ◌∙◌, arith}
 use Rattle.tss_model.specs.Memory.{loaded}
-use Rattle.tss_report.proofs.PieceLemmas.{none_put, more_put, failed_put, all_put}
-use Rattle.tss_state_lines.specs.StateText.{part_text}
+use Rattle.tss_text.proofs.PieceLemmas.{none_put, more_put, failed_put, all_put}
+use Rattle.tss_state_text.specs.StateText.{part_text}
 use Rattle.tss_state_text.proofs.ItemLemmas.{parts_from, part_at, all_left, none_left, parts_next}
 use Rattle.tss_state_text.proofs.text.put_parts.Goals as goal
 

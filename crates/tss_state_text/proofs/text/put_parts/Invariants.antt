@@ -1,7 +1,7 @@
 -- The parts before this one were put.
 use Rattle.tss_model.specs.Memory.{loaded}
-use Rattle.tss_report.proofs.PieceLemmas.{HasPut}
-use Rattle.tss_state_lines.specs.StateText.{state_text}
+use Rattle.tss_text.proofs.PieceLemmas.{HasPut}
+use Rattle.tss_state_text.specs.StateText.{state_text}
 use Rattle.tss_state_text.proofs.ItemLemmas.{parts_from}
 use Rattle.tss_state_text.proofs.text.put_parts.Given as goal
 

@@ -1,9 +1,9 @@
 -- The text is put into a writer that keeps nothing yet, and then what is kept is written.
 use Rattle.std.proofs.Common.{◌≡◌, subst, rules}
 use Rattle.tss_model.specs.Memory.{loaded}
-use Rattle.tss_report.specs.Pieces.{Writes}
-use Rattle.tss_report.proofs.PieceLemmas.{part_put, whole_put}
-use Rattle.tss_state_lines.specs.StateText.{state_text}
+use Rattle.tss_text.specs.Pieces.{Writes}
+use Rattle.tss_text.proofs.PieceLemmas.{part_put, whole_put}
+use Rattle.tss_state_text.specs.StateText.{state_text}
 use Rattle.tss_state_text.proofs.text.write_state.Goals as goal
 
 pub returns-in_err-put_parts : goal.returns-in_err-put_parts

@@ -1,6 +1,6 @@
 -- The versions go out one after another.
 use Rattle.std.specs.Prelude.{Some, None, flat_map, option_map}
-use Rattle.tss_report.proofs.PieceLemmas.{none_put, more_put, failed_put, all_put}
+use Rattle.tss_text.proofs.PieceLemmas.{none_put, more_put, failed_put, all_put}
 use Rattle.tss_state_lines.specs.Lines.{version_line}
 use Rattle.tss_state_lines.specs.Shown.{version_of}
 use Rattle.tss_state_text.specs.Versions.{next_entry}

@@ -4,7 +4,7 @@ use Rattle.std.specs.Prelude.{Some, option_map}
 use Rattle.std.specs.List.{flat_map}
 use Rattle.std.specs.FinMap.{entries, get}
 use Rattle.tss_versions.specs.declared.version_view.VersionView.{VersionView}
-use Rattle.tss_report.proofs.PieceLemmas.{HasPut}
+use Rattle.tss_text.proofs.PieceLemmas.{HasPut}
 use Rattle.tss_state_lines.specs.Lines.{version_line}
 use Rattle.tss_state_lines.specs.Shown.{version_of}
 use Rattle.tss_state_text.proofs.NextEntries.{left_of}

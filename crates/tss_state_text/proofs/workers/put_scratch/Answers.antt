@@ -3,8 +3,9 @@ use Rattle.std.proofs.Common.{◌≡◌, ◌+◌, length, ap, arith}
 use Rattle.std.specs.Prelude.{◌/◌, ◌*◌}
 use Rattle.tss_model.specs.Memory.{scratch_range}
 use Rattle.tss_report.specs.Rows.{row_len}
-use Rattle.tss_report.proofs.PieceLemmas.{none_put, more_put, failed_put, all_put, same_text}
-use Rattle.tss_state_lines.specs.StateText.{scratch_row, scratch_row_at}
+use Rattle.tss_text.proofs.PieceLemmas.{none_put, more_put, failed_put, all_put, same_text}
+use Rattle.tss_state_lines.specs.Lines.{scratch_row}
+use Rattle.tss_state_text.specs.StateText.{scratch_row_at}
 use Rattle.tss_state_lines.proofs.Ranges.{texts_from, all_texts, no_texts, texts_next}
 use Rattle.tss_state_text.proofs.workers.put_scratch.Goals as goal
 

@@ -1,8 +1,8 @@
 -- The rows before this one were put.
 use Rattle.std.specs.Prelude.{◌/◌, length}
 use Rattle.tss_report.specs.Rows.{row_len}
-use Rattle.tss_report.proofs.PieceLemmas.{HasPut}
-use Rattle.tss_state_lines.specs.StateText.{scratch_row_at, scratch_text}
+use Rattle.tss_text.proofs.PieceLemmas.{HasPut}
+use Rattle.tss_state_text.specs.StateText.{scratch_row_at, scratch_text}
 use Rattle.tss_state_lines.proofs.Ranges.{texts_from}
 use Rattle.tss_state_text.proofs.workers.put_scratch.Given as goal
 

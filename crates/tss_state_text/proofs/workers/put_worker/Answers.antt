@@ -4,9 +4,9 @@ use Rattle.std.specs.Prelude.{is_some}
 use Rattle.std.specs.FinMap.{get}
 use Rattle.tss_base.specs.declared.ending.Trap.{Trap}
 use Rattle.tss_protocol.specs.State.{Busy}
-use Rattle.tss_report.proofs.PieceLemmas.{same_text}
+use Rattle.tss_text.proofs.PieceLemmas.{same_text}
 use Rattle.tss_state_lines.specs.Lines.{worker_line, worker_registers_line}
-use Rattle.tss_state_lines.specs.StateText.{scratch_text, worker_text}
+use Rattle.tss_state_text.specs.StateText.{scratch_text, worker_text}
 use Rattle.tss_state_lines.proofs.Sequences.{then_put, first_failed}
 use Rattle.tss_state_text.proofs.WorkerLemmas.{busy_there, part_there}
 use Rattle.tss_state_text.proofs.workers.put_worker.Goals as goal

@@ -1,9 +1,9 @@
 -- What the run tells is what the report has.
 use Rattle.std.proofs.Common.{sym, subst}
 use Rattle.tss_self.specs.SelfAnswer.{SelfWork, self_report}
-use Rattle.tss_report.proofs.PieceLemmas.{same_written}
+use Rattle.tss_text.proofs.PieceLemmas.{same_written}
 use Rattle.tss_report.specs.Peaks.{HasRanges}
-use Rattle.tss_report.specs.Pieces.{Writes}
+use Rattle.tss_text.specs.Pieces.{Writes}
 use Rattle.tss_self.proofs.ReportLemmas.{has_ranges, report_is}
 use Rattle.tss_self.proofs.run.SelfRun.write.Goals as goal
 

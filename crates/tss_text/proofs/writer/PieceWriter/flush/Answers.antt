@@ -1,7 +1,7 @@
 -- What was kept is written.
 use Rattle.std.proofs.Common.{refl}
-use Rattle.tss_report.proofs.PieceLemmas.{rest_put}
-use Rattle.tss_report.proofs.writer.PieceWriter.flush.Goals as goal
+use Rattle.tss_text.proofs.PieceLemmas.{rest_put}
+use Rattle.tss_text.proofs.writer.PieceWriter.flush.Goals as goal
 
 pub returns : goal.returns
 returns g c =

@@ -1,8 +1,8 @@
 -- Each full piece goes out with the bytes that were put before.
 use Rattle.std.proofs.Common.{◌≡◌, ◌++◌, ℕ, List, refl, sym, ◌∙◌, take, drop}
 use Rattle.std.proofs.lemmas.List.{take-append-drop}
-use Rattle.tss_report.proofs.PieceLemmas.{none_put, more_put, last_put, failed_put, kept_put, piece_put}
-use Rattle.tss_report.proofs.writer.PieceWriter.put.Goals as goal
+use Rattle.tss_text.proofs.PieceLemmas.{none_put, more_put, last_put, failed_put, kept_put, piece_put}
+use Rattle.tss_text.proofs.writer.PieceWriter.put.Goals as goal
 
 -- a list is its two parts
 parted : (k : ℕ) (xs front back : List ℕ) → front ≡ take k xs → back ≡ drop k xs → xs ≡ front ++ back

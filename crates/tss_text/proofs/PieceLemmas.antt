@@ -5,8 +5,8 @@ use Rattle.std.proofs.lemmas.Result.{IfOk-from_err}
 use Rattle.tss_outside.specs.declared.files.Failed.{Failed}
 use Rattle.tss_outside.specs.declared.sink.Sink.{Ghosts}
 use Rattle.tss_outside.specs.Outside.{risen, Rose, PutsPrefix, AppendsWhereTold}
-use Rattle.tss_report.specs.declared.writer.PieceWriter.{PieceWriter}
-use Rattle.tss_report.specs.Pieces.{joined, Output, Carries, Puts, output_of, Emits, Writes}
+use Rattle.tss_text.specs.declared.writer.PieceWriter.{PieceWriter}
+use Rattle.tss_text.specs.Pieces.{joined, Output, Carries, Puts, output_of, Emits, Writes}
 
 none_some : {X : Type 0} {x : X} → None ≡ Some x → ⊥
 none_some e = cc

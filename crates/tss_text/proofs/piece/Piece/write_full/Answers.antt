@@ -1,8 +1,8 @@
 -- A prefix of the full piece was put.
 use Rattle.std.proofs.Common.{◌++◌, ap, ◌∙◌, subst}
 use Rattle.tss_outside.specs.Outside.{PutsPrefix}
-use Rattle.tss_report.proofs.PieceLemmas.{on_any_err}
-use Rattle.tss_report.proofs.piece.Piece.write_full.Goals as goal
+use Rattle.tss_text.proofs.PieceLemmas.{on_any_err}
+use Rattle.tss_text.proofs.piece.Piece.write_full.Goals as goal
 
 pub returns-in_err-write_piece-clause-err : goal.returns-in_err-write_piece-clause-err
 returns-in_err-write_piece-clause-err g c =

@@ -1,6 +1,6 @@
 -- The state text: which lines it has, from the machine's description and the state alone, and their order.
-use Rattle.std.specs.Prelude.{ℕ, suc, ◌+◌, ◌*◌, ◌/◌, ◌==◌, Bool, true, false, if◌then◌else◌, List, [], ◌∷◌, ◌++◌, length, take, drop, Option, Some, None, is_some, option_map, option_and_then}
-use Rattle.std.specs.List.{flat_map, list_all, range_with_len}
+use Rattle.std.specs.Prelude.{ℕ, suc, ◌+◌, ◌*◌, ◌/◌, Bool, true, false, if◌then◌else◌, List, [], ◌∷◌, ◌++◌, length, take, drop, Option, Some, None, is_some, option_map, option_and_then}
+use Rattle.std.specs.List.{flat_map, range_with_len}
 use Rattle.std.specs.FinMap.{get, entries, keys}
 use Rattle.tss_base.specs.declared.range.Range.{Range}
 use Rattle.tss_base.specs.declared.operand.OpName.{OpName}
@@ -17,9 +17,9 @@ use Rattle.tss_protocol.specs.State.{State, OperandState, Flying, Busy, Entry, V
 use Rattle.tss_protocol.specs.UnitMachine.{enabled_events}
 use Rattle.tss_report.specs.Report.{ending_text}
 use Rattle.tss_report.specs.Rows.{changed_text, row_len}
-use Rattle.tss_state_lines.specs.declared.part.Part.{Part}
-use Rattle.tss_state_lines.specs.declared.part.Part.TheVariants as part
-use Rattle.tss_state_lines.specs.Lines.{main_line, main_registers_line, epoch_line, inbox_line, gateway_line, task_line, operand_line, queue_line, idle_line, worker_line, worker_registers_line, scratch_line, entry_line, place_line, buffer_line, version_line, copy_line, message_line, trap_line, piece_line, enabled_line}
+use Rattle.tss_state_text.specs.declared.part.Part.{Part}
+use Rattle.tss_state_text.specs.declared.part.Part.TheVariants as part
+use Rattle.tss_state_lines.specs.Lines.{main_line, main_registers_line, epoch_line, inbox_line, gateway_line, task_line, operand_line, queue_line, idle_line, worker_line, worker_registers_line, scratch_row, entry_line, place_line, buffer_line, version_line, copy_line, message_line, trap_line, piece_line, enabled_line}
 
 -- the text of what is there
 abbrev pub text_if : {X : Type 0} → (X → List ℕ) → Option X → List ℕ
@@ -38,10 +38,6 @@ abbrev pub task_text : ℕ × Flying → List ℕ
 task_text e = task_line e.1.task e.1.stage ++ operands_text e.0 0 e.1.operands
 
 -- ---- workers
-
--- a row of scratch that isn't all zero
-abbrev pub scratch_row : ℕ → ℕ → List ℕ → List ℕ
-scratch_row w at bytes = if list_all (λ b. b == 0) bytes then [] else scratch_line w at bytes
 
 -- the row at a place of a worker's scratch
 abbrev pub scratch_row_at : ℕ → List ℕ → ℕ → List ℕ

@@ -1,7 +1,7 @@
 // Hexadecimal digits.
 ghost use Rattle.std.specs.Prelude.{◌≡◌, ◌*◌, length};
 ghost use Rattle.hex.specs.Hex.{encode_lower};
-ghost use Rattle.tss_report.specs.Digits.{hex_word as hex_word_of};
+ghost use Rattle.tss_text.specs.Digits.{hex_word as hex_word_of};
 
 /// Eight lower-case hexadecimal digits.
 pub fn hex_word(n: u32) -> [u8; 8]

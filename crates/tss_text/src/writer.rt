@@ -1,6 +1,6 @@
 // A sink that gets a text in pieces of one size.
 ghost use Rattle.std.specs.Prelude.{◌≡◌, [], OnOk, map};
-ghost use Rattle.tss_report.specs.Pieces.{Emits, joined};
+ghost use Rattle.tss_text.specs.Pieces.{Emits, joined};
 
 use crate::piece::Piece;
 use tss_outside::{Failed, Sink};

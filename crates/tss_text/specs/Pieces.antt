@@ -3,8 +3,8 @@ use Rattle.std.specs.Prelude.{◌≡◌, ℕ, ◌≤◌, List, [], ◌∷◌, �
 use Rattle.tss_outside.specs.declared.files.Failed.{Failed}
 use Rattle.tss_outside.specs.declared.sink.Sink.{Ghosts}
 use Rattle.tss_outside.specs.Outside.{Rose, AppendsWhereTold, PutsPrefix}
-use Rattle.tss_report.specs.declared.piece.TheConstants.{PIECE}
-use Rattle.tss_report.specs.declared.writer.PieceWriter.{PieceWriter}
+use Rattle.tss_text.specs.declared.piece.TheConstants.{PIECE}
+use Rattle.tss_text.specs.declared.writer.PieceWriter.{PieceWriter}
 
 -- how many bytes a piece has, but for the last
 abbrev pub piece_len : ℕ

@@ -1,8 +1,8 @@
 -- The parts before this one were put.
 use Rattle.std.proofs.Common.{map, drop}
-use Rattle.tss_report.specs.Pieces.{joined}
-use Rattle.tss_report.proofs.PieceLemmas.{HasPut}
-use Rattle.tss_report.proofs.writer.PieceWriter.put_all.Given as goal
+use Rattle.tss_text.specs.Pieces.{joined}
+use Rattle.tss_text.proofs.PieceLemmas.{HasPut}
+use Rattle.tss_text.proofs.writer.PieceWriter.put_all.Given as goal
 
 abbrev pub invariant-loop-part : goal.invariant-loop-part
 invariant-loop-part g l =

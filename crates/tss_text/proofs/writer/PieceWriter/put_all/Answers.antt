@@ -1,7 +1,7 @@
 -- The parts go out one after another.
 use Rattle.std.proofs.Common.{refl}
-use Rattle.tss_report.proofs.PieceLemmas.{none_put, more_put, failed_put, joined_from}
-use Rattle.tss_report.proofs.writer.PieceWriter.put_all.Goals as goal
+use Rattle.tss_text.proofs.PieceLemmas.{none_put, more_put, failed_put, joined_from}
+use Rattle.tss_text.proofs.writer.PieceWriter.put_all.Goals as goal
 
 pub loop-part-init : goal.loop-part-init
 loop-part-init g c = none_put g.K.Sink c.args.self.now _ _ refl

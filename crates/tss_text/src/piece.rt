@@ -1,7 +1,7 @@
 // What is kept for the next piece of a text.
 ghost use Rattle.std.specs.Prelude.{◌≡◌, ◌≤◌, ◌<◌, ◌+◌, ◌++◌, [], OnOk, OnErr, length, take};
 ghost use Rattle.tss_outside.specs.Outside.{Rose, AppendsWhereTold, PutsPrefix};
-ghost use Rattle.tss_report.specs.declared.piece.TheConstants.{PIECE};
+ghost use Rattle.tss_text.specs.declared.piece.TheConstants.{PIECE};
 
 use std::marker::Model;
 use tss_outside::{Failed, Sink};
@@ -18,7 +18,7 @@ pub struct Piece {
 
 impl Model for Piece {
     ghost use Rattle.std.specs.Prelude.{ℕ, List, take, ◌<◌};
-    ghost use Rattle.tss_report.specs.declared.piece.TheConstants.{PIECE};
+    ghost use Rattle.tss_text.specs.declared.piece.TheConstants.{PIECE};
 
     ghost Value = { List ℕ };
 
