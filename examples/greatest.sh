@@ -37,8 +37,8 @@ first_line() {
     head -n 1 "$1" | tr -d '\0'
 }
 
-# answers NAME STATUS WORDS..: runs the program. What it says must be the file `expected`, but for the lines of events and
-# peaks. It stands in the file `said`.
+# answers NAME STATUS WORDS..: runs the program. What it says must be the file `expected`, but for the lines of events
+# and peaks. It stands in the file `said`.
 answers() {
     local name=$1 wanted=$2 status problem=
     shift 2
@@ -292,7 +292,7 @@ numbers_report() {
     }')
     printf 'end exit 0\ntasks 65536\noutput 1048576\n'
     printf '%b' "$numbers" "$numbers" "$numbers" "$numbers"
-    printf '\nrow %08x %s%s%s%s\n' $data_at "$(digits $((words_at + 4 * 65535)))" "$(digits 4)" "$(digits 2)" "$(digits 0)"
+    printf '\nrow %08x %s\n' $data_at "$(digits $((words_at + 4 * 65535)))$(digits 4)$(digits 2)$(digits 0)"
     awk -v at=$words_at 'BEGIN {
         for (n = 1; n <= 65536; n++) {
             if (n % 4 == 1) printf "row %08x ", at + 4 * (n - 1)

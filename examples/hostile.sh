@@ -33,7 +33,7 @@ trap 'chmod -R u+rwx "$work"; rm -rf "$work"' EXIT
 cp "$tss" "$work/tss_run" || exit 2
 cc -O2 -shared -fPIC -o "$work/failing.so" "$here/hostile/failing.c" || exit 2
 cd "$work" || exit 2
-chmod 755 .
+chmod 755 . tss_run
 mkdir plain
 
 # ---- rows of the table
@@ -79,7 +79,8 @@ log_is() {
     esac
 }
 
-# text_is TEXT: what was said is this line, or nothing where it is empty, or `whole` or `part` of what is said without faults.
+# text_is TEXT: what was said is this line, or nothing where it is empty. It may be the `whole` text, as it is without
+# faults, or a `part` of it.
 text_is() {
     case $1 in
     whole) cmp -s said plain/said ;;
@@ -212,12 +213,12 @@ text_for() {
     esac
 }
 
-# expect_failure TRY NAME: judges the answer to a call on this file that fails. Reading comes before all that is written.
+# expect_failure TRY NAME: judges the answer to a call on this file that fails. All is read before a byte is written.
 expect_failure() {
     case $2 in
     output) expect "$1" 8 part whole ;;
     new | "writes new") expect "$1" 8 "write log" part ;;
-    *) expect "$1" 7 "$(text_for "${2#reads }")" none ;;
+    *) expect "$1" 7 "$(text_for "${2#* }")" none ;;
     esac
 }
 
@@ -298,10 +299,10 @@ output_rows() {
     done
     row "$1" "the output is full, closed, left by its reader"
 
+    rm -f new
     timeout 30 env LD_PRELOAD=./failing.so FAILING_CALL=memory FAILING_FIRST="$requests" FAILING_LAST="$requests" \
         ./tss_run "${words[@]}" >/dev/full 2>errors </dev/null
     status=$?
-    rm -f new
     : >said
     expect "the last request" 8 "" none
     row "$1" "memory is refused, and the output is full"
@@ -330,7 +331,7 @@ files() {
     chmod 444 image machine log old half
 }
 
-# form_rows MOST BLOCKS KIND: the rows of all forms, with so many requests for memory refused. The kind ends their names.
+# form_rows MOST BLOCKS KIND: the rows of all forms, with so many requests for memory refused. The kind ends each name.
 form_rows() {
     local form line
     while IFS='|' read -r form line; do
@@ -393,7 +394,7 @@ read_name_rows() {
         row "$place" "no file, a folder, a name that can't be"
         plain_words $place
         words_with $place pipe
-        cat "$(file_for $place)" >pipe &
+        timeout 40 dd if="$(file_for $place)" of=pipe status=none &
         run env
         wait $!
         expect_whole "pipe"
@@ -423,7 +424,7 @@ written_name_rows() {
         try_name $place /dev/null "$plain_status" whole none
         row "$place" "a device that keeps nothing"
         words_with $place pipe
-        cat pipe >got &
+        timeout 40 cat pipe >got &
         run env
         wait $!
         mv got new
@@ -477,7 +478,8 @@ plainly() {
     fi
 }
 
-# run_plain FILE..: runs the program as that user, in a folder that may be written and has this file, if any, as `new`.
+# run_in_folder FILE..: runs the program as that user. Its log is in a folder that may be written, and that has
+# this file, if any, as the log.
 run_in_folder() {
     rm -rf free
     mkdir -m 777 free
@@ -486,7 +488,7 @@ run_in_folder() {
     plainly timeout 30 ./tss_run "${words[@]}" >said 2>errors </dev/null
     status=$?
     rm -f new
-    [ ! -e free/new ] || mv free/new new
+    [ ! -e free/new ] || { mv free/new new && chmod 644 new; }
 }
 
 right_rows() {
