@@ -7,8 +7,6 @@ mod decoding;
 mod encoding;
 mod fields;
 mod instr;
-#[cfg(test)]
-mod tests;
 
 pub use decoding::decode;
 pub use encoding::{encode, fits};

@@ -1,5 +1,5 @@
 // Words of a foreign assembler, and words that mean nothing.
-use crate::{ImmOp, Instr, LoadKind, RegOp, StoreKind, Test, decode, encode, fits};
+use tss_isa::{ImmOp, Instr, LoadKind, RegOp, StoreKind, Test, decode, encode, fits};
 
 fn lui(rd: u8, imm: u32) -> Instr {
     Instr::Lui { rd, imm }

@@ -1,0 +1,5 @@
+//! Tests of the calls of `tss_isa`.
+#![tactic(auto)]
+
+#[cfg(test)]
+mod tests;
