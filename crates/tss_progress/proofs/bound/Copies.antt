@@ -12,12 +12,15 @@ use Rattle.tss_maps.proofs.Sums.{sum_inserted, sum_written, sum_removed}
 use Rattle.tss_protocol.specs.Names.{bank_of}
 use Rattle.tss_protocol.specs.Mail.{StorageName, Home, Buffer, taken}
 use Rattle.tss_protocol.specs.State.{State, Version, CopyState}
-use Rattle.tss_protocol.specs.Buffers.{can_retire_from, copies_after_retire, sent_by_retire, new_copy, piece_len, is_last_piece, copies_after_copy, sent_by_copy}
+use Rattle.tss_protocol.specs.Buffers.{can_retire_from, copies_after_retire, sent_by_retire, new_copy, piece_len}
+use Rattle.tss_protocol.specs.Buffers.{is_last_piece, copies_after_copy, sent_by_copy}
 use Rattle.tss_protocol.specs.Counts.{pieces_of_object}
-use Rattle.tss_protocol.specs.UnitMachine.{IsEnabled, is_enabled, after_event, without, can_retire, retire_version, after_copy}
+use Rattle.tss_protocol.specs.UnitMachine.{IsEnabled, is_enabled, after_event, without, can_retire, retire_version}
+use Rattle.tss_protocol.specs.UnitMachine.{after_copy}
 use Rattle.tss_control.specs.Chains.{HasChains}
 use Rattle.tss_control.specs.Control.{KnowsRound}
-use Rattle.tss_progress.proofs.bound.Measure.{messages_left, left_posted_all, copy_left, copies_left, took_retire, IsLowered}
+use Rattle.tss_progress.proofs.bound.Measure.{messages_left, left_posted_all, copy_left, copies_left, took_retire}
+use Rattle.tss_progress.proofs.bound.Measure.{IsLowered}
 use Rattle.tss_progress.proofs.bound.Settle.{left_drop}
 use Rattle.tss_control.proofs.rounds.FitObjects.{HaveFitObjects}
 

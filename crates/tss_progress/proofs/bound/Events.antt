@@ -8,8 +8,10 @@ use Rattle.tss_protocol.specs.UnitMachine.{IsEnabled, after_event}
 use Rattle.tss_progress.proofs.bound.Measure.{IsLowered}
 use Rattle.tss_progress.proofs.bound.Main.{lowered_main}
 use Rattle.tss_progress.proofs.bound.Exec.{lowered_exec}
-use Rattle.tss_progress.proofs.bound.Tables.{lowered_decode, lowered_ack, lowered_open, lowered_use, lowered_release, lowered_idle, lowered_nack, lowered_gone}
-use Rattle.tss_progress.proofs.bound.Stations.{lowered_take, lowered_ready, lowered_link, lowered_start, lowered_finish, lowered_bye}
+use Rattle.tss_progress.proofs.bound.Tables.{lowered_decode, lowered_ack, lowered_open, lowered_use, lowered_release}
+use Rattle.tss_progress.proofs.bound.Tables.{lowered_idle, lowered_nack, lowered_gone}
+use Rattle.tss_progress.proofs.bound.Stations.{lowered_take, lowered_ready, lowered_link, lowered_start, lowered_finish}
+use Rattle.tss_progress.proofs.bound.Stations.{lowered_bye}
 use Rattle.tss_control.proofs.rounds.FitObjects.{HaveFitObjects}
 use Rattle.tss_progress.proofs.bound.Copies.{lowered_retire, lowered_copy}
 use Rattle.tss_control.proofs.rounds.Facts.{Facts}

@@ -1,5 +1,6 @@
 -- A worker's stretch lowers the measure: each of its steps completes an instruction, or traps, until its task is over.
-use Rattle.std.proofs.Common.{◌≡◌, ℕ, zero, suc, ◌+◌, ◌<◌, ◌≤◌, Bool, true, false, List, Option, Some, None, refl, sym, ap, subst, arith}
+use Rattle.std.proofs.Common.{◌≡◌, ℕ, zero, suc, ◌+◌, ◌<◌, ◌≤◌, Bool, true, false, List, Option, Some, None, refl, sym}
+use Rattle.std.proofs.Common.{ap, subst, arith}
 use Rattle.std.specs.Prelude.{cond, ◌-◌, ◌==◌, not, is_some, nat_le}
 use Rattle.std.specs.FinMap.{get}
 use Rattle.std.proofs.lemmas.Bool.{both_ways, or_parts, leb-false}
@@ -15,11 +16,13 @@ use Rattle.tss_maps.proofs.Keys.{nat_order}
 use Rattle.tss_maps.proofs.Sums.{sum_written}
 use Rattle.tss_model.specs.Memory.{MemoryRange, range_of, scratch_range, covers, code_word, list_put}
 use Rattle.tss_base.specs.declared.addresses.TheConstants.{END_PC}
-use Rattle.tss_model.specs.Access.{TaskActor, Purpose, Touch, Granted, Denied, operands_of, task_access, task_may_within}
+use Rattle.tss_model.specs.Access.{TaskActor, Purpose, Touch, Granted, Denied, operands_of, task_access}
+use Rattle.tss_model.specs.Access.{task_may_within}
 use Rattle.tss_model.specs.Core.{Write, Stepped, Executed, Called, Ended, Trapped, Touched, core_step}
 use Rattle.tss_model.specs.TaskRun.{TaskState, repeated, is_over, task_byte, task_write, task_on, task_step}
 use Rattle.tss_protocol.specs.State.{State, Busy}
-use Rattle.tss_protocol.specs.Workers.{placed_in, worker_byte, worker_write, can_exec, has_ended, task_state_of, busy_after, exec_stretch}
+use Rattle.tss_protocol.specs.Workers.{placed_in, worker_byte, worker_write, can_exec, has_ended, task_state_of}
+use Rattle.tss_protocol.specs.Workers.{busy_after, exec_stretch}
 use Rattle.tss_protocol.specs.UnitMachine.{IsEnabled, is_enabled, after_event, after_exec, stores_of}
 use Rattle.tss_program_order.proofs.FlatCore.{IsStep, core_step-step}
 use Rattle.tss_program_order.proofs.FlatTaskAlike.{task_step-over, task_step-spent, task_step-core}
@@ -126,7 +129,7 @@ module _ {M : Type 0} (byte : M → ℕ → ℕ) (write : M → Write → M) (bu
       let rest = stretch_most n (step s) in let one = step_most s in omega (arith, rest, one)
 
   -- a stretch leaves less
-  pub stretch_less : (n : ℕ) (s : TaskState M) → 1 ≤ n → is_over s ≡ false
+  stretch_less : (n : ℕ) (s : TaskState M) → 1 ≤ n → is_over s ≡ false
       → LeavesLess s (repeated (task_step byte write budget code (TaskActor ranges operands)) n s)
   unfolding repeated
   stretch_less zero s some on = absurd (omega (arith, some))

@@ -1,5 +1,6 @@
 -- What is left of tasks in flight, where one of them changes, is queued, runs, finishes or leaves.
-use Rattle.std.proofs.Common.{◌≡◌, ℕ, zero, suc, ◌+◌, ◌*◌, ◌≤◌, Bool, true, false, List, [], ◌∷◌, length, map, Option, Some, None, refl, sym, ap, ◌∙◌, arith}
+use Rattle.std.proofs.Common.{◌≡◌, ℕ, zero, suc, ◌+◌, ◌*◌, ◌≤◌, Bool, true, false, List, [], ◌∷◌, length, map, Option}
+use Rattle.std.proofs.Common.{Some, None, refl, sym, ap, ◌∙◌, arith}
 use Rattle.std.specs.Prelude.{cond, slice_get, slice_set}
 use Rattle.std.specs.FinMap.{get, insert, remove}
 use Rattle.tss_base.specs.declared.operand.OpName.{OpName}
@@ -12,8 +13,10 @@ use Rattle.tss_maps.proofs.Sums.{sum_inserted, sum_written, sum_removed}
 use Rattle.tss_protocol.specs.Names.{operand_name}
 use Rattle.tss_protocol.specs.Mail.{Source}
 use Rattle.tss_protocol.specs.State.{OperandState, Flying}
-use Rattle.tss_protocol.specs.Stations.{has_finished, is_gone, is_complete, remaining_tasks, new_operand, first_stage, release_of, releases_from, awaited}
-use Rattle.tss_progress.proofs.bound.Measure.{messages_left, left_append, record_left, records_left, stage_left, told_left, flying_left, flight_left}
+use Rattle.tss_protocol.specs.Stations.{has_finished, is_gone, is_complete, remaining_tasks, new_operand, first_stage}
+use Rattle.tss_protocol.specs.Stations.{release_of, releases_from, awaited}
+use Rattle.tss_progress.proofs.bound.Measure.{messages_left, left_append, record_left, records_left, stage_left}
+use Rattle.tss_progress.proofs.bound.Measure.{told_left, flying_left, flight_left}
 
 module _ (budget : ℕ) where
   -- a task that is written anew
@@ -52,7 +55,7 @@ left_record finished (x ∷ rs) (suc i) r s e =
 -- ---- take
 
 -- a record that was told nothing weighs 4
-pub left_new_operands : (os : List Operand) → records_left false (map new_operand os) ≡ length os * 4
+left_new_operands : (os : List Operand) → records_left false (map new_operand os) ≡ length os * 4
 left_new_operands [] = refl
 left_new_operands (o ∷ os) = let rest = left_new_operands os in omega (arith, rest)
 

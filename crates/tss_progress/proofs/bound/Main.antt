@@ -1,6 +1,7 @@
 -- Main's event lowers the measure: it completes an instruction, or it ends main. A spawn moves one task's share to the
 -- inbox.
-use Rattle.std.proofs.Common.{◌≡◌, ℕ, zero, suc, ◌+◌, ◌*◌, ◌<◌, ◌≤◌, Bool, true, false, List, length, Option, Some, None, refl, sym, ap, subst, ◌∙◌, arith}
+use Rattle.std.proofs.Common.{◌≡◌, ℕ, zero, suc, ◌+◌, ◌*◌, ◌<◌, ◌≤◌, Bool, true, false, List, length, Option, Some}
+use Rattle.std.proofs.Common.{None, refl, sym, ap, subst, ◌∙◌, arith}
 use Rattle.std.specs.Prelude.{cond, ◌-◌, ◌==◌, ◌&&◌, is_none, is_some, nat_lt, Result, Ok, Err}
 use Rattle.std.proofs.lemmas.Bool.{and_parts, leb-false}
 use Rattle.std.proofs.lemmas.Option.{none-some}
@@ -21,7 +22,10 @@ use Rattle.tss_model.specs.Access.{MainActor, touches}
 use Rattle.tss_model.specs.Core.{Stepped, Executed, Called, Ended, Trapped, Touched}
 use Rattle.tss_model.specs.Spawn.{spawn_of}
 use Rattle.tss_model.specs.TaskRun.{repeated}
-use Rattle.tss_model.specs.MainStep.{MainState, Flat, Call, ExitCall, Spawn, Barrier, Print, Await, Unknown, has_spent, called_by, main_core, main_on, main_refused, main_step, main_stretch, main_trapped, next_call, output_of, print_done, print_range, print_some, print_call, call_done, spawn_call, spawn_on, awaited_object, await_on}
+use Rattle.tss_model.specs.MainStep.{MainState, Flat, Call, ExitCall, Spawn, Barrier, Print, Await, Unknown, has_spent}
+use Rattle.tss_model.specs.MainStep.{called_by, main_core, main_on, main_refused, main_step, main_stretch, main_trapped}
+use Rattle.tss_model.specs.MainStep.{next_call, output_of, print_done, print_range, print_some, print_call, call_done}
+use Rattle.tss_model.specs.MainStep.{spawn_call, spawn_on, awaited_object, await_on}
 use Rattle.tss_protocol.specs.State.{State}
 use Rattle.tss_protocol.specs.Counts.{task_events}
 use Rattle.tss_protocol.specs.MainEvent.{flat_of, call_next, may_call, main_by, after_call}
@@ -29,7 +33,8 @@ use Rattle.tss_protocol.specs.UnitMachine.{IsEnabled, is_enabled, after_event}
 use Rattle.tss_names.proofs.PlainLemmas.{none_from_test}
 use Rattle.tss_program_order.proofs.FlatCore.{IsStep}
 use Rattle.tss_program_order.proofs.FlatMain.{main_core-step, main_stretch-leaves}
-use Rattle.tss_program_order.proofs.FlatSteps.{main_step-ended, main_step-spent, main_step-core, next_call-core, next_call-spent}
+use Rattle.tss_program_order.proofs.FlatSteps.{main_step-ended, main_step-spent, main_step-core, next_call-core}
+use Rattle.tss_program_order.proofs.FlatSteps.{next_call-spent}
 use Rattle.tss_names.proofs.SpawnLemmas.{IsNext-spawn_of}
 use Rattle.tss_progress.proofs.bound.Measure.{ending_left, main_left, inbox_left, tasks_left, front_left, IsLowered}
 
@@ -104,7 +109,7 @@ module _ (code : List SegmentState) (limits : Limits) where
       let rest = stretch_most n (main_step code limits f) in let one = step_most f in omega (arith, rest, one)
 
   -- a stretch leaves less
-  pub stretch_less : (n : ℕ) (f : Flat) → 1 ≤ n → next_call code limits f ≡ None → is_some f.main.ending ≡ false
+  stretch_less : (n : ℕ) (f : Flat) → 1 ≤ n → next_call code limits f ≡ None → is_some f.main.ending ≡ false
       → LeavesLess f (main_stretch code limits n f)
   unfolding repeated
   stretch_less zero f some none on = absurd (omega (arith, some))

@@ -1,6 +1,7 @@
 -- The measure of a state: how many events are still to come at most, as main, the tasks, the operands, the versions,
 -- the messages and the copies have them.
-use Rattle.std.proofs.Common.{◌≡◌, ℕ, suc, ◌+◌, ◌*◌, ◌≤◌, Bool, true, false, List, [], ◌∷◌, ◌++◌, Option, Some, None, arith}
+use Rattle.std.proofs.Common.{◌≡◌, ℕ, suc, ◌+◌, ◌*◌, ◌≤◌, Bool, true, false, List, [], ◌∷◌, ◌++◌, Option, Some, None}
+use Rattle.std.proofs.Common.{arith}
 use Rattle.std.specs.Prelude.{cond, ◌-◌, ◌/◌}
 use Rattle.std.specs.FinMap.{get}
 use Rattle.tss_base.specs.declared.operand.OpName.{OpName}
@@ -19,7 +20,9 @@ use Rattle.tss_maps.specs.Sums.{sum_of}
 use Rattle.tss_maps.proofs.Keys.{name_order}
 use Rattle.tss_maps.proofs.Sums.{sum_inserted, sum_removed}
 use Rattle.tss_model.specs.MainStep.{MainState}
-use Rattle.tss_protocol.specs.Mail.{Source, OpenContents, ReleaseContents, IdleContents, GoneContents, Message, Decode, Ack, Open, Use, Ready, Link, Release, Bye, Idle, Nack, Retire, Gone, Mail, posted, posted_all, taken}
+use Rattle.tss_protocol.specs.Mail.{Source, OpenContents, ReleaseContents, IdleContents, GoneContents, Message, Decode}
+use Rattle.tss_protocol.specs.Mail.{Ack, Open, Use, Ready, Link, Release, Bye, Idle, Nack, Retire, Gone, Mail, posted}
+use Rattle.tss_protocol.specs.Mail.{posted_all, taken}
 use Rattle.tss_protocol.specs.State.{State, OperandState, Flying, Busy, Version, CopyState}
 use Rattle.tss_protocol.specs.Stations.{has_finished}
 use Rattle.tss_protocol.specs.Versions.{is_count}
@@ -52,7 +55,7 @@ abbrev pub each_left : (X : Type 0) → ℕ → OpName → X → ℕ
 each_left X n o x = n
 
 -- those before the start of a task
-abbrev pub early_left : ℕ → Mail → ℕ
+abbrev early_left : ℕ → Mail → ℕ
 early_left c m =
     sum_of (each_left Operand (6 + c)) m.decodes
     + sum_of (each_left (Unit {0}) 1) m.acks
@@ -60,7 +63,7 @@ early_left c m =
     + sum_of (each_left OpName 3) m.uses
 
 -- those after its finish
-abbrev pub late_left : Mail → ℕ
+abbrev late_left : Mail → ℕ
 late_left m =
     sum_of (each_left ReleaseContents 2) m.releases
     + sum_of (each_left Bool 1) m.byes
@@ -75,7 +78,7 @@ mail_left c m = early_left c m + late_left m
 
 module _ (c : ℕ) where
   -- a message that is sent adds no more than its own
-  pub left_posted : (m : Mail) (x : Message) → mail_left c (posted m x) ≤ mail_left c m + message_left c x
+  left_posted : (m : Mail) (x : Message) → mail_left c (posted m x) ≤ mail_left c m + message_left c x
   left_posted m (Decode o x) =
       let i = sum_inserted name_order (each_left Operand (6 + c)) m.decodes o x in omega (arith, i)
   left_posted m (Ack o) =
@@ -170,7 +173,7 @@ link_left (link.Held next) = 0
 link_left link.Passed = 0
 
 -- what it is to be told, and to let go again, until its task has finished
-abbrev pub source_left : Option Source → ℕ
+abbrev source_left : Option Source → ℕ
 source_left None = 3
 source_left (Some s) = 2
 
@@ -215,7 +218,7 @@ abbrev pub busy_left : ℕ → ℕ → Busy → ℕ
 busy_left budget w b = (budget - b.registers.done) + trap_left b.trap + 1
 
 -- all of them
-abbrev pub workers_left : ℕ → Numbered Busy → ℕ
+abbrev workers_left : ℕ → Numbered Busy → ℕ
 workers_left budget workers = sum_of (busy_left budget) workers
 
 -- the number of readers for which a version asked last
@@ -271,11 +274,11 @@ front_left m main inbox =
 -- ---- the whole
 
 -- the stations and the workers
-abbrev pub stations_left : ℕ → State → ℕ
+abbrev stations_left : ℕ → State → ℕ
 stations_left budget S = flight_left budget S.flight + workers_left budget S.workers
 
 -- the tables for versioning, the messages and the copies
-abbrev pub tables_left : ℕ → State → ℕ
+abbrev tables_left : ℕ → State → ℕ
 tables_left c S = versions_left c S.versions + mail_left c S.mail + copies_left S.copies
 
 -- the measure

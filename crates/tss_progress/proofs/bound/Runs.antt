@@ -1,5 +1,6 @@
 -- No run has more events than the bound: each lowers the measure, which is the bound at first.
-use Rattle.std.proofs.Common.{◌≡◌, ℕ, ◌+◌, ◌*◌, ◌≤◌, Bool, true, false, cond, List, [], ◌∷◌, length, Some, None, refl, ap, arith}
+use Rattle.std.proofs.Common.{◌≡◌, ℕ, ◌+◌, ◌*◌, ◌≤◌, Bool, true, false, cond, List, [], ◌∷◌, length, Some, None, refl}
+use Rattle.std.proofs.Common.{ap, arith}
 use Rattle.std.specs.Prelude.{◌-◌}
 use Rattle.std.proofs.lemmas.Option.{none-some, same_Some}
 use Rattle.tss_base.specs.declared.operand.OpName.{OpName}
@@ -22,11 +23,13 @@ use Rattle.tss_names.specs.Tasks.{spawned_after_event}
 use Rattle.tss_control.specs.Readers.{Arrivals, arrivals_after_event, no_arrivals}
 use Rattle.tss_control.specs.Control.{IsControlled}
 use Rattle.tss_progress.specs.Bound.{EventsLaw}
-use Rattle.tss_control.proofs.GroundworkRuns.{IsGrounded, IsGrounded-after_event, IsGrounded-initial_state, has_groundwork}
+use Rattle.tss_control.proofs.GroundworkRuns.{IsGrounded, IsGrounded-after_event, IsGrounded-initial_state}
+use Rattle.tss_control.proofs.GroundworkRuns.{has_groundwork}
 use Rattle.tss_control.proofs.GroundworkEmpty.{IsControlled-bare, IsBare-initial_state}
 use Rattle.tss_control.proofs.GroundworkJoin.{AreGroupsKept, IsControlled-event}
 use Rattle.tss_control.proofs.GroundworkControl.{keeps_groups}
-use Rattle.tss_progress.proofs.bound.Measure.{each_left, mail_left, flying_left, busy_left, version_left, copy_left, measure}
+use Rattle.tss_progress.proofs.bound.Measure.{each_left, mail_left, flying_left, busy_left, version_left, copy_left}
+use Rattle.tss_progress.proofs.bound.Measure.{measure}
 use Rattle.tss_control.proofs.rounds.FitObjects.{HaveFitObjects, no_objects, HaveFitObjects-after_event}
 use Rattle.tss_progress.proofs.bound.Events.{lowered_event}
 use Rattle.tss_control.proofs.rounds.Facts.{facts_of}
@@ -64,7 +67,7 @@ measure_at_first m i =
 -- ---- every run
 
 -- a controlled state with what is proved of every run
-pub record IsMeasured (m : Machine) (all ts : List Task) (g : Arrivals) (S : State) : Type 0 where
+record IsMeasured (m : Machine) (all ts : List Task) (g : Arrivals) (S : State) : Type 0 where
   pub ground : IsGrounded m all ts S
   pub control : IsControlled ts g S
   pub fit : HaveFitObjects m.limits all
@@ -107,7 +110,7 @@ module _ (kept : (e : Event) → AreGroupsKept e) (m : Machine) (admissible : Is
       by false off rest go = absurd (none-some T rest)
 
 -- where each event keeps the control, no run has more events than the bound
-pub bounded_of_runs : ((e : Event) → AreGroupsKept e) → EventsLaw
+bounded_of_runs : ((e : Event) → AreGroupsKept e) → EventsLaw
 bounded_of_runs kept m i es S accepted admissible run =
     let most = bounded_after kept m admissible es [] [] no_arrivals (initial_state i) S (record {
       ground = IsGrounded-initial_state m i;

@@ -1,6 +1,7 @@
 -- What a settle leaves of the measure: no more than before, for a version that gives way pays for its gone message, and
 -- one that asks can't ask again for as many readers.
-use Rattle.std.proofs.Common.{◌≡◌, ℕ, zero, suc, ◌+◌, ◌≤◌, Bool, true, false, cond, ◌∷◌, Option, Some, None, refl, arith}
+use Rattle.std.proofs.Common.{◌≡◌, ℕ, zero, suc, ◌+◌, ◌≤◌, Bool, true, false, cond, ◌∷◌, Option, Some, None, refl}
+use Rattle.std.proofs.Common.{arith}
 use Rattle.std.specs.Prelude.{◌==◌, ◌&&◌, not, is_none}
 use Rattle.std.proofs.lemmas.Bool.{and_parts}
 use Rattle.std.proofs.lemmas.Bool.Decides.{nat_tests}
@@ -14,8 +15,12 @@ use Rattle.tss_maps.proofs.Keys.{name_order}
 use Rattle.tss_maps.proofs.Sums.{sum_inserted, sum_written, sum_removed}
 use Rattle.tss_protocol.specs.Mail.{StorageName}
 use Rattle.tss_protocol.specs.State.{Version}
-use Rattle.tss_protocol.specs.Versions.{Settling, Versioned, sending, put_version, drop_version, version_changed, change_version, change_named, ready_with, died, may_die, may_ask, is_count, followed_by, unlinked, settle_asking, settle_how, settle_by, settle_at, settle, settled, unchanged}
-use Rattle.tss_progress.proofs.bound.Measure.{messages_left, left_append, last_asked, asking_left, version_left, versions_left}
+use Rattle.tss_protocol.specs.Versions.{Settling, Versioned, sending, put_version, drop_version, version_changed}
+use Rattle.tss_protocol.specs.Versions.{change_version, change_named, ready_with, died, may_die, may_ask, is_count}
+use Rattle.tss_protocol.specs.Versions.{followed_by, unlinked, settle_asking, settle_how, settle_by, settle_at, settle}
+use Rattle.tss_protocol.specs.Versions.{settled, unchanged}
+use Rattle.tss_progress.proofs.bound.Measure.{messages_left, left_append, last_asked, asking_left, version_left}
+use Rattle.tss_progress.proofs.bound.Measure.{versions_left}
 
 -- an outcome: versions and messages
 abbrev pub outcome_left : ℕ → Versioned → ℕ

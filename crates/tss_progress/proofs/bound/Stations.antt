@@ -1,5 +1,6 @@
 -- Events of the stations and the workers lower the measure: take, ready, link, start, finish and bye.
-use Rattle.std.proofs.Common.{◌≡◌, ℕ, zero, suc, ◌+◌, ◌*◌, ◌≤◌, Bool, true, false, List, [], ◌∷◌, length, Option, Some, None, refl, sym, ap, subst, ◌∙◌, arith}
+use Rattle.std.proofs.Common.{◌≡◌, ℕ, zero, suc, ◌+◌, ◌*◌, ◌≤◌, Bool, true, false, List, [], ◌∷◌, length, Option, Some}
+use Rattle.std.proofs.Common.{None, refl, sym, ap, subst, ◌∙◌, arith}
 use Rattle.std.specs.Prelude.{◌==◌, is_some, slice_get}
 use Rattle.std.specs.List.{list_any}
 use Rattle.std.specs.FinMap.{get, remove}
@@ -20,9 +21,15 @@ use Rattle.tss_protocol.specs.Mail.{Source, taken}
 use Rattle.tss_protocol.specs.State.{State, OperandState, Flying, Busy}
 use Rattle.tss_protocol.specs.Gateway.{decodes_from, sent_by_take}
 use Rattle.tss_protocol.specs.Counts.{pieces_of_object, task_events}
-use Rattle.tss_protocol.specs.Stations.{has_finished, first_stage, entered, operand_at, with_operand, awaited, link_after_ready, operand_after_ready, sent_by_ready, task_after_ready, woken_by, woken_in, link_after_link, operand_after_link, sent_by_link, linked_by, linked_in, operand_after_bye, parted_by, parted_in, releases_from, finished_in}
+use Rattle.tss_protocol.specs.Stations.{has_finished, first_stage, entered, operand_at, with_operand, awaited}
+use Rattle.tss_protocol.specs.Stations.{link_after_ready, operand_after_ready, sent_by_ready, task_after_ready}
+use Rattle.tss_protocol.specs.Stations.{woken_by, woken_in, link_after_link, operand_after_link, sent_by_link}
+use Rattle.tss_protocol.specs.Stations.{linked_by, linked_in, operand_after_bye, parted_by, parted_in, releases_from}
+use Rattle.tss_protocol.specs.Stations.{finished_in}
 use Rattle.tss_protocol.specs.Workers.{can_start, busy_at_start, can_finish, trap_after_finish}
-use Rattle.tss_protocol.specs.UnitMachine.{IsEnabled, is_enabled, after_event, without, can_take, after_take, with_woken, ready_message_taken, with_flight, link_message_taken, bye_message_taken, start_task, after_start, after_finish}
+use Rattle.tss_protocol.specs.UnitMachine.{IsEnabled, is_enabled, after_event, without, can_take, after_take}
+use Rattle.tss_protocol.specs.UnitMachine.{with_woken, ready_message_taken, with_flight, link_message_taken}
+use Rattle.tss_protocol.specs.UnitMachine.{bye_message_taken, start_task, after_start, after_finish}
 use Rattle.tss_phases.specs.Phase.{look_ups}
 use Rattle.tss_phases.specs.Orderly.{AreOrderly}
 use Rattle.tss_phases.proofs.OrderlyLemmas.{telling_stands}
@@ -32,8 +39,10 @@ use Rattle.tss_names.specs.Stages.{HasStages}
 use Rattle.tss_control.specs.Readers.{Arrivals}
 use Rattle.tss_control.specs.Runners.{HasRunners}
 use Rattle.tss_control.specs.Control.{IsControlled}
-use Rattle.tss_progress.proofs.bound.Measure.{messages_left, left_posted_all, link_left, told_left, records_left, stage_left, flight_left, busy_left, inbox_left, took_bye, IsLowered}
-use Rattle.tss_progress.proofs.bound.Flight.{left_flying, left_entering, left_remaining, left_record, left_entered, left_awaited, left_releases}
+use Rattle.tss_progress.proofs.bound.Measure.{messages_left, left_posted_all, link_left, told_left, records_left}
+use Rattle.tss_progress.proofs.bound.Measure.{stage_left, flight_left, busy_left, inbox_left, took_bye, IsLowered}
+use Rattle.tss_progress.proofs.bound.Flight.{left_flying, left_entering, left_remaining, left_record, left_entered}
+use Rattle.tss_progress.proofs.bound.Flight.{left_awaited, left_releases}
 use Rattle.tss_names.proofs.UnreadyTasks.{unready}
 
 -- what is looked up is there

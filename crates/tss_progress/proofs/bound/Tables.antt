@@ -1,5 +1,6 @@
 -- Events of the tables lower the measure: decode, ack, open, use, release, idle, nack, copy and gone.
-use Rattle.std.proofs.Common.{◌≡◌, ℕ, suc, ◌+◌, ◌≤◌, Bool, true, false, List, [], ◌∷◌, ◌++◌, Option, Some, None, refl, sym, ap, ◌∙◌, arith}
+use Rattle.std.proofs.Common.{◌≡◌, ℕ, suc, ◌+◌, ◌≤◌, Bool, true, false, List, [], ◌∷◌, ◌++◌, Option, Some, None, refl}
+use Rattle.std.proofs.Common.{sym, ap, ◌∙◌, arith}
 use Rattle.std.specs.Prelude.{cond, is_some}
 use Rattle.std.specs.FinMap.{get}
 use Rattle.std.proofs.lemmas.Option.{same_Some}
@@ -18,12 +19,22 @@ use Rattle.tss_base.specs.Names.{Named}
 use Rattle.tss_protocol.specs.Mail.{StorageName, OpenContents, ReleaseContents, IdleContents, GoneContents, Bye, taken}
 use Rattle.tss_protocol.specs.State.{State, Entry, Version}
 use Rattle.tss_protocol.specs.Renaming.{live_message, decode_message, sent_by_decode, idle_by, after_idle, may_retire}
-use Rattle.tss_protocol.specs.Versions.{is_count, put_version, settled, ready_with, first_version, new_version, followed, opened_how, opened_by, after_open, enlisted, used_alone, used_behind, used_at, after_use, head_ready, produced_now, released_once, released_by, released_at, after_release, refused_once, nacked_at, after_nack}
+use Rattle.tss_protocol.specs.Versions.{is_count, put_version, settled, ready_with, first_version, new_version}
+use Rattle.tss_protocol.specs.Versions.{followed, opened_how, opened_by, after_open, enlisted, used_alone, used_behind}
+use Rattle.tss_protocol.specs.Versions.{used_at, after_use, head_ready, produced_now, released_once, released_by}
+use Rattle.tss_protocol.specs.Versions.{released_at, after_release, refused_once, nacked_at, after_nack}
 use Rattle.tss_protocol.specs.Counts.{pieces_of_object}
-use Rattle.tss_protocol.specs.UnitMachine.{IsEnabled, is_enabled, after_event, without, can_decode_message, decode_message_taken, can_open_message, open_message_taken, can_use_message, use_message_taken, release_message_taken, idle_message_taken, gone_message_taken}
+use Rattle.tss_protocol.specs.UnitMachine.{IsEnabled, is_enabled, after_event, without, can_decode_message}
+use Rattle.tss_protocol.specs.UnitMachine.{decode_message_taken, can_open_message, open_message_taken, can_use_message}
+use Rattle.tss_protocol.specs.UnitMachine.{use_message_taken, release_message_taken, idle_message_taken}
+use Rattle.tss_protocol.specs.UnitMachine.{gone_message_taken}
 use Rattle.tss_names.specs.Asking.{HasAsking, AsksFor}
-use Rattle.tss_progress.proofs.bound.Measure.{message_left, messages_left, left_posted_all, left_append, last_asked, asking_left, version_left, versions_left, took_decode, took_ack, took_open, took_use, took_release, took_idle, took_nack, took_gone, IsLowered}
-use Rattle.tss_progress.proofs.bound.Settle.{outcome_left, left_sending, left_ready_with, left_put, left_new, left_change, left_settled}
+use Rattle.tss_progress.proofs.bound.Measure.{message_left, messages_left, left_posted_all, left_append, last_asked}
+use Rattle.tss_progress.proofs.bound.Measure.{asking_left, version_left, versions_left, took_decode, took_ack}
+use Rattle.tss_progress.proofs.bound.Measure.{took_open, took_use, took_release, took_idle, took_nack, took_gone}
+use Rattle.tss_progress.proofs.bound.Measure.{IsLowered}
+use Rattle.tss_progress.proofs.bound.Settle.{outcome_left, left_sending, left_ready_with, left_put, left_new}
+use Rattle.tss_progress.proofs.bound.Settle.{left_change, left_settled}
 
 -- ---- decode
 

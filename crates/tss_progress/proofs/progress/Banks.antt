@@ -1,6 +1,7 @@
 -- The bank of a decode of the oldest task in flight in a quiet state: each of its entries has an operand of that task
 -- that is ready, and one version.
-use Rattle.std.proofs.Common.{◌≡◌, ℕ, zero, suc, ◌<◌, ◌≤◌, ◌⊎◌, Bool, true, false, List, [], ◌∷◌, Option, Some, None, refl, sym, ap, ◌∙◌, subst, inl, inr, arith, true≢false}
+use Rattle.std.proofs.Common.{◌≡◌, ℕ, zero, suc, ◌<◌, ◌≤◌, ◌⊎◌, Bool, true, false, List, [], ◌∷◌, Option, Some, None}
+use Rattle.std.proofs.Common.{refl, sym, ap, ◌∙◌, subst, inl, inr, arith, true≢false}
 use Rattle.std.specs.Prelude.{◌&&◌, slice_get}
 use Rattle.std.specs.FinMap.{get}
 use Rattle.std.proofs.lemmas.Bool.{cases_lt, and_parts, and_from}
@@ -16,7 +17,8 @@ use Rattle.tss_protocol.specs.Names.{bank_of}
 use Rattle.tss_protocol.specs.State.{State, OperandState, Flying, Entry, Version}
 use Rattle.tss_protocol.specs.Stations.{is_ready}
 use Rattle.tss_locality.proofs.Flights.{from_mapped}
-use Rattle.tss_phases.specs.Phase.{Phase, Ahead, Decoding, Sent, Waiting, Told, Ready, Releasing, Leaving, Promised, Left, phase_of, is_decoded}
+use Rattle.tss_phases.specs.Phase.{Phase, Ahead, Decoding, Sent, Waiting, Told, Ready, Releasing, Leaving, Promised}
+use Rattle.tss_phases.specs.Phase.{Left, phase_of, is_decoded}
 use Rattle.tss_names.specs.Tasks.{task_at}
 use Rattle.tss_control.specs.Members.{operand_among}
 use Rattle.tss_control.specs.Readers.{has_arrived}
@@ -26,11 +28,12 @@ use Rattle.tss_progress.proofs.progress.CalmStates.{flying_operand}
 use Rattle.tss_progress.proofs.progress.Stuck.{IsQuiet, calm_of}
 use Rattle.tss_progress.proofs.progress.Versions.{none_alone, nothing_retires, latest_version}
 use Rattle.tss_progress.proofs.progress.Phases.{HasLetGo}
-use Rattle.tss_progress.proofs.progress.Oldest.{produced_when_left, past, none_followed, none_follows, own_record, decodes_or_ready, ready_told}
+use Rattle.tss_progress.proofs.progress.Oldest.{produced_when_left, past, none_followed, none_follows, own_record}
+use Rattle.tss_progress.proofs.progress.Oldest.{decodes_or_ready, ready_told}
 use Rattle.tss_control.proofs.rounds.Facts.{Facts}
 
 -- some of a list passes a test, or none does
-pub passes_or_none : {X : Type 0} (t : X → Bool) (xs : List X)
+passes_or_none : {X : Type 0} (t : X → Bool) (xs : List X)
     → ((k : ℕ) × (x : X) × (slice_get xs k ≡ Some x) × (t x ≡ true))
     ⊎ ((k : ℕ) (x : X) → slice_get xs k ≡ Some x → t x ≡ false)
 passes_or_none t [] = inr (λ k x at. absurd (none-some x at))
@@ -107,7 +110,7 @@ module _ (m : Machine) (S : State) (facts : Facts m S) (quiet : IsQuiet S) (gone
 
   module _ (o : OpName) (p : Operand) (own : o.task ≡ n) (decode : get S.mail.decodes o ≡ Some p) where
     -- an object of the bank
-    abbrev pub IsHere : Range → Type 0
+    abbrev IsHere : Range → Type 0
     IsHere z = bank_of m.sizes z ≡ bank_of m.sizes p.object
 
     -- what has been decoded of the bank is of no later task

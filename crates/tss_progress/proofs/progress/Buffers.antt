@@ -1,6 +1,7 @@
 -- Each held buffer is that of an open under way, of a version, of one that is gone with its message under way, or of
 -- one that is copied home. Every event keeps this.
-use Rattle.std.proofs.Common.{◌≡◌, ℕ, ◌+◌, Bool, true, false, Option, Some, None, refl, sym, ap, ◌∙◌, inl, inr, true≢false}
+use Rattle.std.proofs.Common.{◌≡◌, ℕ, ◌+◌, Bool, true, false, Option, Some, None, refl, sym, ap, ◌∙◌, inl, inr}
+use Rattle.std.proofs.Common.{true≢false}
 use Rattle.std.specs.Prelude.{is_some}
 use Rattle.std.specs.FinMap.{get, remove, get-empty}
 use Rattle.std.proofs.lemmas.Bool.{and_parts}
@@ -18,13 +19,17 @@ use Rattle.tss_protocol.specs.Mail.{StorageName, Home, Buffer, GoneContents, pos
 use Rattle.tss_protocol.specs.State.{State, Version, CopyState, initial_state}
 use Rattle.tss_protocol.specs.Renaming.{buffers_after_gone}
 use Rattle.tss_protocol.specs.Versions.{retired}
-use Rattle.tss_protocol.specs.Buffers.{can_retire_from, sent_by_retire, new_copy, copies_after_retire, is_last_piece, piece_len, copies_after_copy, sent_by_copy}
+use Rattle.tss_protocol.specs.Buffers.{can_retire_from, sent_by_retire, new_copy, copies_after_retire, is_last_piece}
+use Rattle.tss_protocol.specs.Buffers.{piece_len, copies_after_copy, sent_by_copy}
 use Rattle.tss_protocol.specs.MainEvent.{call_next}
-use Rattle.tss_protocol.specs.UnitMachine.{IsEnabled, is_enabled, after_event, without, can_retire, retire_version, after_copy, gone_message_taken}
+use Rattle.tss_protocol.specs.UnitMachine.{IsEnabled, is_enabled, after_event, without, can_retire, retire_version}
+use Rattle.tss_protocol.specs.UnitMachine.{after_copy, gone_message_taken}
 use Rattle.tss_names.proofs.PlainLemmas.{name_apart, none_from_test}
 use Rattle.tss_progress.proofs.progress.Drained.{HaveHolders}
 use Rattle.tss_progress.proofs.progress.Holders.{Holder, Held, same_buffer, no_home}
-use Rattle.tss_progress.proofs.progress.TableBuffers.{buffers_main, buffers_take, buffers_ready, buffers_link, buffers_bye, buffers_start, buffers_exec, buffers_finish, buffers_idle, buffers_decode}
+use Rattle.tss_progress.proofs.progress.TableBuffers.{buffers_main, buffers_take, buffers_ready, buffers_link}
+use Rattle.tss_progress.proofs.progress.TableBuffers.{buffers_bye, buffers_start, buffers_exec, buffers_finish}
+use Rattle.tss_progress.proofs.progress.TableBuffers.{buffers_idle, buffers_decode}
 use Rattle.tss_progress.proofs.progress.VersionBuffers.{buffers_open, buffers_use, buffers_release, nacked_holder}
 use Rattle.tss_control.proofs.rounds.Facts.{Facts}
 

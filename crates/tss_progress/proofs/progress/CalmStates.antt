@@ -1,6 +1,7 @@
 -- A state with no message but decodes, acks and gones: no reader of a produced version waits, and a produced version
 -- with a successor has a reader that hasn't released it.
-use Rattle.std.proofs.Common.{◌≡◌, ℕ, suc, ◌+◌, Bool, true, false, List, [], ◌∷◌, length, Option, Some, None, refl, sym, ap, ◌∙◌, inl, inr, arith, true≢false}
+use Rattle.std.proofs.Common.{◌≡◌, ℕ, suc, ◌+◌, Bool, true, false, List, [], ◌∷◌, length, Option, Some, None, refl, sym}
+use Rattle.std.proofs.Common.{ap, ◌∙◌, inl, inr, arith, true≢false}
 use Rattle.std.specs.Prelude.{◌==◌, ◌&&◌, cond, is_none}
 use Rattle.std.specs.FinMap.{get}
 use Rattle.std.proofs.lemmas.Bool.{and_from, eq-eqb}
@@ -18,7 +19,8 @@ use Rattle.tss_protocol.specs.Names.{same_name}
 use Rattle.tss_protocol.specs.Mail.{Source}
 use Rattle.tss_protocol.specs.State.{State, OperandState, Version}
 use Rattle.tss_protocol.specs.Stations.{operand_at}
-use Rattle.tss_phases.specs.Phase.{Phase, Ahead, Decoding, Sent, Waiting, Told, Ready, Releasing, Leaving, Promised, Left, is_ahead, record_phase, station_phase, look_ups, phase_of, has_released}
+use Rattle.tss_phases.specs.Phase.{Phase, Ahead, Decoding, Sent, Waiting, Told, Ready, Releasing, Leaving, Promised}
+use Rattle.tss_phases.specs.Phase.{Left, is_ahead, record_phase, station_phase, look_ups, phase_of, has_released}
 use Rattle.tss_phases.proofs.PhaseLemmas.{phase_decoding, phase_silent}
 use Rattle.tss_control.specs.Members.{operand_among, registered_of, opening_reader, uses_of, total}
 use Rattle.tss_control.specs.Readers.{Has, oldest_of, released_among, Holds, AreChained}

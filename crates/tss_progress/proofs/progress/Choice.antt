@@ -1,5 +1,6 @@
 -- Some event of a state is enabled, or none is.
-use Rattle.std.proofs.Common.{◌≡◌, ℕ, zero, suc, ◌<◌, ◌≤◌, ◌⊎◌, Bool, true, false, List, [], ◌∷◌, Option, Some, None, refl, ap, ◌∙◌, subst, inl, inr, arith}
+use Rattle.std.proofs.Common.{◌≡◌, ℕ, zero, suc, ◌<◌, ◌≤◌, ◌⊎◌, Bool, true, false, List, [], ◌∷◌, Option, Some, None}
+use Rattle.std.proofs.Common.{refl, ap, ◌∙◌, subst, inl, inr, arith}
 use Rattle.std.specs.Prelude.{◌&&◌, is_some, is_none, nat_lt}
 use Rattle.std.specs.declared.cmp.Ordering.{Ordering}
 use Rattle.std.specs.FinMap.{FinMap, get}
@@ -12,7 +13,8 @@ use Rattle.tss_maps.proofs.Changes.{decide_get}
 use Rattle.tss_maps.proofs.Entries.{decide_entry}
 use Rattle.tss_protocol.specs.State.{State, Busy}
 use Rattle.tss_protocol.specs.Workers.{can_start, can_exec, can_finish}
-use Rattle.tss_protocol.specs.UnitMachine.{is_enabled, IsEnabled, can_decode_message, can_open_message, can_use_message, can_retire}
+use Rattle.tss_protocol.specs.UnitMachine.{is_enabled, IsEnabled, can_decode_message, can_open_message, can_use_message}
+use Rattle.tss_protocol.specs.UnitMachine.{can_retire}
 
 -- no event is enabled
 abbrev pub IsStuck : Machine → State → Type 0

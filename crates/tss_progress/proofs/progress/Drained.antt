@@ -1,5 +1,6 @@
 -- A quiet state without a task in flight: nothing is in any table, and where no event is enabled the state is finished.
-use Rattle.std.proofs.Common.{◌≡◌, ℕ, ◌⊎◌, Bool, true, false, length, Option, Some, None, refl, sym, ap, ◌∙◌, inl, inr, arith, true≢false}
+use Rattle.std.proofs.Common.{◌≡◌, ℕ, ◌⊎◌, Bool, true, false, length, Option, Some, None, refl, sym, ap, ◌∙◌, inl, inr}
+use Rattle.std.proofs.Common.{arith, true≢false}
 use Rattle.std.specs.Prelude.{◌==◌, ◌&&◌, ◌||◌, not, is_none, is_some}
 use Rattle.std.specs.declared.cmp.Ordering.{Ordering}
 use Rattle.std.specs.FinMap.{FinMap, get, len}
@@ -25,7 +26,8 @@ use Rattle.tss_protocol.specs.State.{State, Entry, Version, CopyState}
 use Rattle.tss_protocol.specs.Stations.{operand_at, tasks_in, has_slot}
 use Rattle.tss_protocol.specs.Gateway.{has_window, is_idle}
 use Rattle.tss_protocol.proofs.WindowLemmas.{window_when_idle}
-use Rattle.tss_protocol.specs.MainEvent.{has_no_task, has_no_object, is_drained, call_next, may_call, is_entry_of, is_operand_on, is_arriving, has_no_decode, is_at_home, may_await}
+use Rattle.tss_protocol.specs.MainEvent.{has_no_task, has_no_object, is_drained, call_next, may_call, is_entry_of}
+use Rattle.tss_protocol.specs.MainEvent.{is_operand_on, is_arriving, has_no_decode, is_at_home, may_await}
 use Rattle.tss_protocol.specs.Result.{is_finished}
 use Rattle.tss_protocol.specs.UnitMachine.{is_enabled, can_take}
 use Rattle.tss_locality.proofs.Flights.{record_in}
@@ -43,7 +45,7 @@ use Rattle.tss_control.proofs.rounds.Facts.{Facts}
 -- ---- buffers
 
 -- a buffer is that of an open under way, of a version, of a version that is gone, or of one that is copied
-abbrev pub HoldsBuffer : State → OpName → Type 0
+abbrev HoldsBuffer : State → OpName → Type 0
 HoldsBuffer S n =
     ((v : OpName) × (c : OpenContents) × (get S.mail.opens v ≡ Some c) × (c.storage ≡ Some (Buffer n)))
     ⊎ (((v : OpName) × (y : Version) × (get S.versions v ≡ Some y) × (y.storage ≡ Some (Buffer n)))
@@ -60,7 +62,7 @@ zero_test : (n : ℕ) → n ≡ 0 → (n == 0) ≡ true
 zero_test n e = grind (arith, nat_tests)
 
 -- a map in which nothing stands is empty
-pub empty_if : {K X : Type 0} {R : K → K → Ordering} (order : IsKeyOrder R) (m : FinMap R X)
+empty_if : {K X : Type 0} {R : K → K → Ordering} (order : IsKeyOrder R) (m : FinMap R X)
     → ((k : K) (x : X) → get m k ≡ Some x → ⊥) → len m ≡ 0
 empty_if order m none = elim (some_entry order m) [
   | inl empty ↦ empty

@@ -12,7 +12,8 @@ use Rattle.tss_protocol.specs.State.{State}
 use Rattle.tss_protocol.specs.MainEvent.{is_drained, call_next, may_call}
 use Rattle.tss_protocol.specs.Result.{IsFinished}
 use Rattle.tss_protocol.specs.Workers.{can_start, can_exec, can_finish}
-use Rattle.tss_protocol.specs.UnitMachine.{is_enabled, can_take, can_decode_message, can_open_message, can_use_message, can_retire}
+use Rattle.tss_protocol.specs.UnitMachine.{is_enabled, can_take, can_decode_message, can_open_message, can_use_message}
+use Rattle.tss_protocol.specs.UnitMachine.{can_retire}
 use Rattle.tss_progress.specs.Progress.{FinishedLaw}
 use Rattle.tss_protocol.proofs.DrainedStates.{nothing_drained, has_none}
 use Rattle.tss_control.proofs.GroundworkEmpty.{IsBare, IsBare-drained}
@@ -51,7 +52,7 @@ main_over a b c e = elim (or_cases a b e) [
 ]
 
 -- no event is enabled
-pub nothing_enabled : (m : Machine) (S : State) → IsFinished S → (e : Event) → is_enabled m S e ≡ false
+nothing_enabled : (m : Machine) (S : State) → IsFinished S → (e : Event) → is_enabled m S e ≡ false
 unfolding is_enabled
 nothing_enabled m S finished e =
     let parts = and_parts (is_drained S) (is_some S.main.ending || is_some S.trap) finished in

@@ -17,11 +17,11 @@ use Rattle.tss_progress.proofs.progress.Settled.{VersionHolds, GoneHolds, HoldsI
 -- ---- who holds a buffer
 
 -- an open does
-abbrev pub OpenHolds : Named OpenContents → OpName → Type 0
+abbrev OpenHolds : Named OpenContents → OpName → Type 0
 OpenHolds os n = (v : OpName) × (c : OpenContents) × (get os v ≡ Some c) × (c.storage ≡ Some (Buffer n))
 
 -- a copy does
-abbrev pub CopyHolds : Numbered CopyState → OpName → Type 0
+abbrev CopyHolds : Numbered CopyState → OpName → Type 0
 CopyHolds cs n = (b : ℕ) × (c : CopyState) × (get cs b ≡ Some c) × (c.buffer ≡ n)
 
 -- one of the four

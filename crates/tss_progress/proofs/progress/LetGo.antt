@@ -1,7 +1,8 @@
 -- The operands of a finished task have let go, whatever event happens.
-use Rattle.std.proofs.Common.{◌≡◌, ℕ, Bool, true, false, List, [], ◌∷◌, Option, Some, None, refl, sym, ap, ◌∙◌, subst, inl, inr, true≢false}
+use Rattle.std.proofs.Common.{◌≡◌, ◌≢◌, ℕ, Bool, true, false, List, [], ◌∷◌, Option, Some, None, refl, sym, ap, ◌∙◌}
+use Rattle.std.proofs.Common.{subst, inl, inr, true≢false}
 use Rattle.std.specs.Prelude.{slice_get, if◌then◌else◌}
-use Rattle.std.specs.FinMap.{get, insert}
+use Rattle.std.specs.FinMap.{get, insert, remove}
 use Rattle.tss_base.specs.declared.operand.OpName.{OpName}
 use Rattle.tss_base.specs.declared.operand.Operand.{Operand}
 use Rattle.tss_base.specs.declared.operand.Task.{Task}
@@ -11,16 +12,19 @@ use Rattle.tss_base.specs.declared.event.Event.TheVariants as event
 use Rattle.tss_base.specs.declared.marks.Stage.TheVariants as stage
 use Rattle.tss_base.specs.Names.{Numbered}
 use Rattle.tss_maps.proofs.Keys.{nat_order, decide_key}
-use Rattle.tss_maps.proofs.Changes.{from_inserted}
+use Rattle.tss_maps.proofs.Changes.{from_inserted, beside_inserted, beside_removed}
 use Rattle.tss_model.specs.Access.{operands_of}
 use Rattle.tss_protocol.specs.Mail.{Source}
 use Rattle.tss_protocol.specs.State.{State, OperandState, Flying, Busy}
-use Rattle.tss_protocol.specs.Stations.{operand_at, first_stage, entered, flight_after_take, is_complete, awaited, task_after_ready, woken_by, woken_in}
-use Rattle.tss_protocol.specs.UnitMachine.{without, can_take, is_enabled, IsEnabled, ready_message_taken, after_take, start_task, after_start, after_event}
+use Rattle.tss_protocol.specs.Stations.{operand_at, first_stage, entered, flight_after_take, is_complete, awaited}
+use Rattle.tss_protocol.specs.Stations.{is_gone, remaining_tasks, task_after_ready, woken_by, woken_in}
+use Rattle.tss_protocol.specs.UnitMachine.{without, can_take, is_enabled, IsEnabled, ready_message_taken, after_take}
+use Rattle.tss_protocol.specs.UnitMachine.{start_task, after_start, after_event}
 use Rattle.tss_protocol.specs.Workers.{can_finish}
 use Rattle.tss_locality.proofs.KeptStages.{ChangesNoStage, StagesKept-after_event}
 use Rattle.tss_locality.proofs.LeftFields.{Leaves-after_event}
-use Rattle.tss_phases.specs.Phase.{Phase, Ahead, Decoding, Sent, Waiting, Told, Ready, Releasing, Leaving, Promised, Left, phase_of}
+use Rattle.tss_phases.specs.Phase.{Phase, Ahead, Decoding, Sent, Waiting, Told, Ready, Releasing, Leaving, Promised}
+use Rattle.tss_phases.specs.Phase.{Left, phase_of}
 use Rattle.tss_phases.specs.Forward.{may_follow}
 use Rattle.tss_phases.specs.Orderly.{AreOrderly, KeepsOrder}
 use Rattle.tss_phases.proofs.ForwardPhases.{GoesOnFrom}
@@ -30,10 +34,18 @@ use Rattle.tss_phases.proofs.Records.{record_beside_put}
 use Rattle.tss_phases.proofs.Tests.{something}
 use Rattle.tss_control.specs.Runners.{is_late}
 use Rattle.tss_protocol.proofs.FrontLemmas.{ComeFrom, all_come, KeepsFront, KeepsFront-after_event}
-use Rattle.tss_names.proofs.PlaceLemmas.{beside_remaining}
 use Rattle.tss_names.proofs.StageLemmas.{waiting≢finished, queued≢finished, running≢finished}
 use Rattle.tss_control.proofs.holders.Late.{record_came}
 use Rattle.tss_progress.proofs.progress.Phases.{HasLetGo}
+
+-- another task stays as it is
+beside_remaining : (m : Numbered Flying) (n : ℕ) (y : Flying) (q : ℕ) → q ≢ n
+    → get (remaining_tasks m n y) q ≡ get m q
+beside_remaining m n y q other =
+    elim (is_gone y) as (λ b. get (if b then remove m n else insert m n y) q ≡ get m q) [
+      | true ↦ beside_removed nat_order m n q other
+      | false ↦ beside_inserted nat_order m n y q other
+    ]
 
 -- ---- phases
 
@@ -89,7 +101,7 @@ still_late Left Left late goes = refl
 -- ---- stages
 
 -- a task that has finished had finished before
-abbrev pub FinishedBefore : Numbered Flying → Numbered Flying → Type 0
+abbrev FinishedBefore : Numbered Flying → Numbered Flying → Type 0
 FinishedBefore f k =
     (n : ℕ) (y : Flying) → get k n ≡ Some y → y.stage ≡ stage.Finished
     → (x : Flying) × (get f n ≡ Some x) × (x.stage ≡ stage.Finished)

@@ -1,6 +1,7 @@
 -- Operands in a quiet state: each task in flight waits, and each of its operands is to be decoded, waits or is ready.
 -- No reader of a produced version waits.
-use Rattle.std.proofs.Common.{◌≡◌, ℕ, suc, ◌<◌, ◌≤◌, ◌⊎◌, Bool, true, false, List, [], ◌∷◌, Option, Some, None, refl, sym, ap, ◌∙◌, inl, inr, arith, true≢false}
+use Rattle.std.proofs.Common.{◌≡◌, ℕ, suc, ◌<◌, ◌≤◌, ◌⊎◌, Bool, true, false, List, [], ◌∷◌, Option, Some, None, refl}
+use Rattle.std.proofs.Common.{sym, ap, ◌∙◌, inl, inr, arith, true≢false}
 use Rattle.std.specs.Prelude.{◌==◌, nat_lt, slice_get}
 use Rattle.std.specs.List.{list_all, list_any}
 use Rattle.std.specs.FinMap.{get}
@@ -16,7 +17,8 @@ use Rattle.tss_protocol.specs.Names.{operand_name}
 use Rattle.tss_protocol.specs.State.{State, OperandState, Flying}
 use Rattle.tss_protocol.specs.Stations.{operand_at, has_left, has_finished}
 use Rattle.tss_locality.proofs.Flights.{record_in}
-use Rattle.tss_phases.specs.Phase.{Phase, Ahead, Decoding, Sent, Waiting, Told, Ready, Releasing, Leaving, Promised, Left, inbox_has, look_ups, phase_of}
+use Rattle.tss_phases.specs.Phase.{Phase, Ahead, Decoding, Sent, Waiting, Told, Ready, Releasing, Leaving, Promised}
+use Rattle.tss_phases.specs.Phase.{Left, inbox_has, look_ups, phase_of}
 use Rattle.tss_phases.proofs.Shown.{left_shows, ahead_shows}
 use Rattle.tss_phases.proofs.OrderlyLemmas.{left_by_absence}
 use Rattle.tss_control.specs.Runners.{IsAtStage, is_late}
@@ -45,7 +47,7 @@ calm_late Promised c l = inl refl
 calm_late Left c l = inr refl
 
 -- an operand in flight whose task waits
-abbrev pub Stands : Phase → Type 0
+abbrev Stands : Phase → Type 0
 Stands p = (p ≡ Decoding) ⊎ ((p ≡ Waiting) ⊎ (p ≡ Ready))
 
 stands_by : (p : Phase) → is_calm p ≡ true → (p ≡ Ahead → ⊥) → (is_late p ≡ true → ⊥) → Stands p
@@ -99,7 +101,7 @@ module _ (m : Machine) (S : State) (facts : Facts m S) (quiet : IsQuiet S) where
       none-some next.0 (sym (quiet.links o) ∙ next.1)
 
   -- none has finished
-  pub none_finished : HasLetGo S → (n : ℕ) (x : Flying) → get S.flight n ≡ Some x → x.stage ≡ stage.Finished → ⊥
+  none_finished : HasLetGo S → (n : ℕ) (x : Flying) → get S.flight n ≡ Some x → x.stage ≡ stage.Finished → ⊥
   none_finished gone n x there finished =
       elim (and_cases (has_finished x.stage) (list_all (λ r. has_left r.farewell) x.operands)
       (ground.stages.staying n x there)) [

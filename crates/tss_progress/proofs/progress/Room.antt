@@ -1,6 +1,7 @@
 -- A decode of the oldest task in flight of a quiet state finds room: the entries and places of its bank go to other
 -- operands of the task, no two to one.
-use Rattle.std.proofs.Common.{◌≡◌, ◌≢◌, ℕ, ◌+◌, ◌≤◌, Bool, true, false, length, Some, None, refl, sym, ap, ◌∙◌, subst, inl, inr, arith, true≢false}
+use Rattle.std.proofs.Common.{◌≡◌, ◌≢◌, ℕ, ◌+◌, ◌≤◌, Bool, true, false, length, Some, None, refl, sym, ap, ◌∙◌, subst}
+use Rattle.std.proofs.Common.{inl, inr, arith, true≢false}
 use Rattle.std.specs.Prelude.{◌==◌, slice_get, is_some, is_none}
 use Rattle.std.specs.declared.cmp.Ordering.{Ordering}
 use Rattle.std.specs.Ordering.{nat_cmp}
@@ -23,7 +24,8 @@ use Rattle.tss_maps.proofs.Entries.{get-all_below, len-all_below, len_removed, m
 use Rattle.tss_maps.proofs.Sums.{sum_empty, sum_added}
 use Rattle.tss_protocol.specs.Names.{operand_name, bank_of}
 use Rattle.tss_protocol.specs.State.{State, OperandState, Flying, Entry, Version}
-use Rattle.tss_protocol.specs.Renaming.{HasTurn, entries_in, places_in, fill_of, EntriesFull, VersionsFull, Turn, wait_or, decode_wait, line_of, has_earlier}
+use Rattle.tss_protocol.specs.Renaming.{HasTurn, entries_in, places_in, fill_of, EntriesFull, VersionsFull, Turn}
+use Rattle.tss_protocol.specs.Renaming.{wait_or, decode_wait, line_of, has_earlier}
 use Rattle.tss_protocol.specs.UnitMachine.{tables_of, is_enabled, can_decode_message}
 use Rattle.tss_protocol.proofs.TurnLemmas.{turn_in_bank, neither_waits}
 use Rattle.tss_phases.specs.Phase.{Phase, Decoding, Left, look_ups, phase_of}
@@ -46,7 +48,7 @@ number_from a b e = grind (arith, nat_tests)
 -- ---- entries that pass a test go to the entries of another map
 
 -- each goes to one
-abbrev pub GoInto : {K X J Y : Type 0} {R : K → K → Ordering} {Q : J → J → Ordering} → (K → X → Bool) → (K → J → Type 0)
+abbrev GoInto : {K X J Y : Type 0} {R : K → K → Ordering} {Q : J → J → Ordering} → (K → X → Bool) → (K → J → Type 0)
     → FinMap R X → FinMap Q Y → Type 0
 GoInto {K} {X} {J} {Y} p Rel m n =
     (k : K) (x : X) → get m k ≡ Some x → p k x ≡ true → (j : J) × (y : Y) × (get n j ≡ Some y) × Rel k j
@@ -76,7 +78,7 @@ module _ {K X J Y : Type 0} {R : K → K → Ordering} {Q : J → J → Ordering
       omega (arith, old, more, none)
 
   -- no two to one: they are at most as many as those
-  pub count_into : (m : FinMap R X) (n : FinMap Q Y) → GoInto p Rel m n → count_of p m ≤ len n
+  count_into : (m : FinMap R X) (n : FinMap Q Y) → GoInto p Rel m n → count_of p m ≤ len n
   count_into = map_induction order (λ m. (n : FinMap Q Y) → GoInto p Rel m n → count_of p m ≤ len n)
       (λ n into.
       let none = sum_empty order (λ k x. one_if (p k x)) in

@@ -25,7 +25,7 @@ use Rattle.tss_progress.proofs.progress.Buffers.{HaveHolders-after_event, HaveHo
 use Rattle.tss_control.proofs.rounds.Facts.{facts_of}
 
 -- what progress needs of a state
-abbrev pub CanProgress : RoundFact
+abbrev CanProgress : RoundFact
 CanProgress m all ts g S = IsControlled ts g S × HasLetGo S × HaveHolders S
 
 -- nothing is in flight at first

@@ -1,5 +1,6 @@
 -- A settle loses no buffer: what a version held is held by a version after it, or by a message that a version is gone.
-use Rattle.std.proofs.Common.{◌≡◌, ◌≢◌, ◌⊎◌, false, List, [], ◌∷◌, Option, Some, None, refl, sym, ap, ◌∙◌, subst, inl, inr}
+use Rattle.std.proofs.Common.{◌≡◌, ◌≢◌, ◌⊎◌, false, List, [], ◌∷◌, Option, Some, None, refl, sym, ap, ◌∙◌, subst, inl}
+use Rattle.std.proofs.Common.{inr}
 use Rattle.std.specs.FinMap.{get, insert}
 use Rattle.std.proofs.lemmas.Option.{none-some, same_Some}
 use Rattle.tss_base.specs.declared.operand.OpName.{OpName}
@@ -11,11 +12,13 @@ use Rattle.tss_maps.proofs.Keys.{name_order, decide_key}
 use Rattle.tss_maps.proofs.Changes.{at_inserted, beside_inserted}
 use Rattle.tss_protocol.specs.Mail.{StorageName, Buffer, OpenContents, GoneContents, Mail, posted_all}
 use Rattle.tss_protocol.specs.State.{State, Version}
-use Rattle.tss_protocol.specs.Versions.{Versioned, put_version, ready_with, buffer_of, died, unlinked, settle_over, settle_asking, sending, settled, followed}
+use Rattle.tss_protocol.specs.Versions.{Versioned, put_version, ready_with, buffer_of, died, unlinked, settle_over}
+use Rattle.tss_protocol.specs.Versions.{settle_asking, sending, settled, followed}
 use Rattle.tss_control.specs.Chains.{HasChains}
 use Rattle.tss_control.specs.Entries.{HasRetirement}
 use Rattle.tss_names.proofs.PlainLemmas.{name_apart}
-use Rattle.tss_protocol.proofs.SettleCases.{OthersSettled, HasNext, IsQuiet, Asks, IsTakenOver, IsPassedBy, SettleCase, moved_up, settle_cases}
+use Rattle.tss_protocol.proofs.SettleCases.{OthersSettled, HasNext, IsQuiet, Asks, IsTakenOver, IsPassedBy, SettleCase}
+use Rattle.tss_protocol.proofs.SettleCases.{moved_up, settle_cases}
 use Rattle.tss_protocol.proofs.UnlinkedVersions.{GaveWay, bridged, gave_way_beside, gave_way_over}
 use Rattle.tss_control.proofs.chains.Settled.{chains_next, chains_own}
 use Rattle.tss_control.proofs.chains.Released.{others_written}

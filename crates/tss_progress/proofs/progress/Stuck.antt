@@ -1,5 +1,6 @@
 -- A state in which no event is enabled: no message is under way but decodes, and nothing is queued, runs or is copied.
-use Rattle.std.proofs.Common.{◌≡◌, ℕ, zero, suc, ◌<◌, Bool, true, false, List, [], ◌∷◌, Option, Some, None, refl, sym, ap, ◌∙◌, inl, inr, arith, true≢false}
+use Rattle.std.proofs.Common.{◌≡◌, ℕ, zero, suc, ◌<◌, Bool, true, false, List, [], ◌∷◌, Option, Some, None, refl, sym}
+use Rattle.std.proofs.Common.{ap, ◌∙◌, inl, inr, arith, true≢false}
 use Rattle.std.specs.Prelude.{not, is_some, is_none, nat_lt}
 use Rattle.std.specs.FinMap.{get}
 use Rattle.std.proofs.lemmas.Bool.{and_from, lt-ltb}
@@ -59,7 +60,7 @@ calm_of S quiet = record {
 -- ---- messages that are enabled wherever they are
 
 -- nothing is there where a test finds nothing
-pub none_unless : {X : Type 0} (o : Option X) → is_some o ≡ false → o ≡ None
+none_unless : {X : Type 0} (o : Option X) → is_some o ≡ false → o ≡ None
 none_unless None e = refl
 none_unless (Some x) e = absurd (true≢false e)
 

@@ -1,5 +1,6 @@
 -- Events of the front and of stations, and decodes, leave each held buffer a holder.
-use Rattle.std.proofs.Common.{◌≡◌, ℕ, Bool, true, false, List, [], ◌∷◌, Option, Some, None, refl, sym, ap, ◌∙◌, inl, inr}
+use Rattle.std.proofs.Common.{◌≡◌, ℕ, Bool, true, false, List, [], ◌∷◌, Option, Some, None, refl, sym, ap, ◌∙◌, inl}
+use Rattle.std.proofs.Common.{inr}
 use Rattle.std.specs.FinMap.{get, insert}
 use Rattle.std.proofs.lemmas.Option.{none-some}
 use Rattle.tss_base.specs.declared.operand.OpName.{OpName}
@@ -14,11 +15,15 @@ use Rattle.tss_maps.proofs.Changes.{at_inserted, beside_inserted, from_inserted}
 use Rattle.tss_model.specs.Access.{operands_of}
 use Rattle.tss_model.specs.MainStep.{MainState, Call, main_call}
 use Rattle.tss_protocol.specs.Names.{bank_of}
-use Rattle.tss_protocol.specs.Mail.{Buffer, Source, OpenContents, IdleContents, Message, Mail, posted, posted_all, taken}
+use Rattle.tss_protocol.specs.Mail.{Buffer, Source, OpenContents, IdleContents, Message, Mail, posted, posted_all}
+use Rattle.tss_protocol.specs.Mail.{taken}
 use Rattle.tss_protocol.specs.State.{State, Flying, Busy, Entry}
-use Rattle.tss_protocol.specs.Renaming.{takes_buffer, buffers_after_decode, live_message, decode_message, may_retire, idle_by}
+use Rattle.tss_protocol.specs.Renaming.{takes_buffer, buffers_after_decode, live_message, decode_message, may_retire}
+use Rattle.tss_protocol.specs.Renaming.{idle_by}
 use Rattle.tss_protocol.specs.MainEvent.{main_by, after_call}
-use Rattle.tss_protocol.specs.UnitMachine.{without, after_take, decode_message_taken, ready_message_taken, link_message_taken, after_start, start_task, after_exec, after_finish, bye_message_taken, idle_message_taken}
+use Rattle.tss_protocol.specs.UnitMachine.{without, after_take, decode_message_taken, ready_message_taken}
+use Rattle.tss_protocol.specs.UnitMachine.{link_message_taken, after_start, start_task, after_exec, after_finish}
+use Rattle.tss_protocol.specs.UnitMachine.{bye_message_taken, idle_message_taken}
 use Rattle.tss_protocol.proofs.SentLemmas.{after_ready-all, after_link-all, flight_after_finish-all}
 use Rattle.tss_names.proofs.HeldEvents.{HoldsNothing, decodes_nothing}
 use Rattle.tss_progress.proofs.progress.Drained.{HaveHolders}

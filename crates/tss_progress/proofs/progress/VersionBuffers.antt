@@ -1,5 +1,6 @@
 -- An open, a use, a release and a nack leave each held buffer a holder.
-use Rattle.std.proofs.Common.{◌≡◌, Bool, true, false, List, [], ◌∷◌, ◌++◌, Option, Some, None, refl, sym, ap, ◌∙◌, subst, inl, inr, true≢false}
+use Rattle.std.proofs.Common.{◌≡◌, Bool, true, false, List, [], ◌∷◌, ◌++◌, Option, Some, None, refl, sym, ap, ◌∙◌}
+use Rattle.std.proofs.Common.{subst, inl, inr, true≢false}
 use Rattle.std.specs.Prelude.{not, is_some}
 use Rattle.std.specs.FinMap.{get, insert, remove}
 use Rattle.std.proofs.lemmas.Option.{same_Some}
@@ -14,14 +15,19 @@ use Rattle.tss_maps.proofs.Keys.{name_order, decide_key}
 use Rattle.tss_maps.proofs.Changes.{at_inserted, beside_inserted, beside_removed}
 use Rattle.tss_protocol.specs.Mail.{OpenContents, ReleaseContents, Message, Bye, posted_all, taken}
 use Rattle.tss_protocol.specs.State.{State, Version}
-use Rattle.tss_protocol.specs.Versions.{Versioned, put_version, ready_with, first_version, new_version, followed, opened_how, opened_by, is_followable, enlisted, used_alone, used_behind, used_at, head_ready, produced_now, released_once, released_by, released_at, is_last, refused_once, nacked_at, settled}
-use Rattle.tss_protocol.specs.UnitMachine.{without, can_open_message, open_message_taken, use_message_taken, release_message_taken}
+use Rattle.tss_protocol.specs.Versions.{Versioned, put_version, ready_with, first_version, new_version, followed}
+use Rattle.tss_protocol.specs.Versions.{opened_how, opened_by, is_followable, enlisted, used_alone, used_behind}
+use Rattle.tss_protocol.specs.Versions.{used_at, head_ready, produced_now, released_once, released_by, released_at}
+use Rattle.tss_protocol.specs.Versions.{is_last, refused_once, nacked_at, settled}
+use Rattle.tss_protocol.specs.UnitMachine.{without, can_open_message, open_message_taken, use_message_taken}
+use Rattle.tss_protocol.specs.UnitMachine.{release_message_taken}
 use Rattle.tss_protocol.proofs.SentLemmas.{AllSent, AllSent-append}
 use Rattle.tss_names.proofs.PlainLemmas.{name_apart}
 use Rattle.tss_names.proofs.HeldEvents.{HoldsNothing}
 use Rattle.tss_progress.proofs.progress.Drained.{HaveHolders}
 use Rattle.tss_progress.proofs.progress.Settled.{put_holds, can_settle_written, can_settle_followed}
-use Rattle.tss_progress.proofs.progress.Holders.{Holder, sent_nothing, settle_holder, settled_after, ready_nothing, head_nothing, change_holds, first_stored}
+use Rattle.tss_progress.proofs.progress.Holders.{Holder, sent_nothing, settle_holder, settled_after, ready_nothing}
+use Rattle.tss_progress.proofs.progress.Holders.{head_nothing, change_holds, first_stored}
 use Rattle.tss_control.proofs.rounds.Facts.{Facts}
 
 module _ (m : Machine) (S : State) (facts : Facts m S) (h : HaveHolders S) where

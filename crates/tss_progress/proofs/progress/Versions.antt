@@ -1,5 +1,6 @@
 -- Versions in a quiet state: one whose readers have all left doesn't stay.
-use Rattle.std.proofs.Common.{◌≡◌, ℕ, ◌<◌, Bool, true, false, Option, Some, None, refl, sym, ap, ◌∙◌, subst, inl, inr, arith, true≢false}
+use Rattle.std.proofs.Common.{◌≡◌, ℕ, ◌<◌, Bool, true, false, Option, Some, None, refl, sym, ap, ◌∙◌, subst, inl, inr}
+use Rattle.std.proofs.Common.{arith, true≢false}
 use Rattle.std.specs.Prelude.{◌==◌, ◌&&◌, not, is_none}
 use Rattle.std.specs.FinMap.{get}
 use Rattle.std.proofs.lemmas.Bool.{and_from}
@@ -15,7 +16,8 @@ use Rattle.tss_phases.specs.Phase.{Left, phase_of, has_released}
 use Rattle.tss_control.specs.Members.{total, IsVersionOf}
 use Rattle.tss_control.specs.Entries.{IsLeaving}
 use Rattle.tss_control.specs.Readers.{Has}
-use Rattle.tss_progress.proofs.progress.CalmStates.{AllReleased, nobody_asks, total_registered, all_released, none_released_behind}
+use Rattle.tss_progress.proofs.progress.CalmStates.{AllReleased, nobody_asks, total_registered, all_released}
+use Rattle.tss_progress.proofs.progress.CalmStates.{none_released_behind}
 use Rattle.tss_progress.proofs.progress.Stuck.{IsQuiet, calm_of}
 use Rattle.tss_control.proofs.rounds.Facts.{Facts}
 

@@ -16,7 +16,8 @@ use Rattle.tss_protocol.specs.Names.{operand_name}
 use Rattle.tss_protocol.specs.Mail.{is_silent}
 use Rattle.tss_protocol.specs.State.{State, OperandState, Flying}
 use Rattle.tss_protocol.specs.Stations.{operand_at, is_ready}
-use Rattle.tss_protocol.specs.Needs.{runs_or_finished, is_past, is_in_queue, needed_tasks, waits_rightly, HasNoFalseWait}
+use Rattle.tss_protocol.specs.Needs.{runs_or_finished, is_past, is_in_queue, needed_tasks, waits_rightly}
+use Rattle.tss_protocol.specs.Needs.{HasNoFalseWait}
 use Rattle.tss_locality.proofs.Flights.{record_in}
 use Rattle.tss_progress.proofs.progress.Phases.{HasLetGo, fails_somewhere}
 use Rattle.tss_names.proofs.ListLemmas.{AreRising}
@@ -28,14 +29,14 @@ use Rattle.tss_control.proofs.rounds.Facts.{Facts}
 -- ---- tests of all values
 
 -- a list all of whose elements pass a test
-pub all_by_place : {X : Type 0} (test : X → Bool) (xs : List X)
+all_by_place : {X : Type 0} (test : X → Bool) (xs : List X)
     → ((k : ℕ) (x : X) → slice_get xs k ≡ Some x → test x ≡ true) → list_all test xs ≡ true
 all_by_place test [] each = refl
 all_by_place test (x ∷ xs) each =
     and_from (test x) (list_all test xs) (each 0 x refl) (all_by_place test xs (λ k y at. each (suc k) y at))
 
 -- a map all of whose values do
-pub all_values : {K X : Type 0} {R : K → K → Ordering} → IsKeyOrder R → (test : X → Bool) (m : FinMap R X)
+all_values : {K X : Type 0} {R : K → K → Ordering} → IsKeyOrder R → (test : X → Bool) (m : FinMap R X)
     → ((k : K) (x : X) → get m k ≡ Some x → test x ≡ true) → list_all test (values m) ≡ true
 all_values {K} {X} order test m each =
     list_all-map test (λ (e : K × X). e.1) (entries m)

@@ -1,5 +1,6 @@
 -- No false wait: in a state without messages a task that waits needs one that hasn't finished.
-use Rattle.std.proofs.Common.{◌≡◌, ◌≢◌, ℕ, ◌<◌, ◌⊎◌, Bool, true, false, Option, Some, None, refl, sym, ap, ◌∙◌, subst, inl, inr, arith, true≢false}
+use Rattle.std.proofs.Common.{◌≡◌, ◌≢◌, ℕ, ◌<◌, ◌⊎◌, Bool, true, false, Option, Some, None, refl, sym, ap, ◌∙◌, subst}
+use Rattle.std.proofs.Common.{inl, inr, arith, true≢false}
 use Rattle.std.specs.Prelude.{slice_get}
 use Rattle.std.specs.List.{list_all}
 use Rattle.std.specs.FinMap.{get}
@@ -41,7 +42,7 @@ module _ (m : Machine) (S : State) (facts : Facts m S) where
   open facts use {basis, all, ts, g, control}
 
   -- a version that an input opened is produced
-  pub produced_by_input : (v : OpName) (y : Version) → get S.versions v ≡ Some y → IsOn ts y.object Input v
+  produced_by_input : (v : OpName) (y : Version) → get S.versions v ≡ Some y → IsOn ts y.object Input v
       → y.produced ≡ true
   produced_by_input v y there on = by y.produced refl y.storage refl
     where

@@ -1,6 +1,7 @@
 -- A state without messages: an operand in flight that isn't ready waits, and one whose task has finished or left has
 -- released its version.
-use Rattle.std.proofs.Common.{◌≡◌, Bool, true, false, Option, Some, None, refl, sym, ap, ◌∙◌, inl, inr, arith, true≢false}
+use Rattle.std.proofs.Common.{◌≡◌, Bool, true, false, Option, Some, None, refl, sym, ap, ◌∙◌, inl, inr, arith}
+use Rattle.std.proofs.Common.{true≢false}
 use Rattle.std.specs.Prelude.{◌==◌, not, is_some, nat_lt, slice_get}
 use Rattle.std.specs.FinMap.{get}
 use Rattle.std.proofs.lemmas.Bool.{or_from, eqb-true, le-ltb, not-true}
@@ -20,7 +21,9 @@ use Rattle.tss_protocol.specs.State.{State, OperandState, Flying}
 use Rattle.tss_protocol.specs.Stations.{operand_at, is_ready, has_finished}
 use Rattle.tss_protocol.specs.Needs.{is_in_inbox, is_past_by, is_past}
 use Rattle.tss_locality.proofs.Flights.{record_in, from_mapped}
-use Rattle.tss_phases.specs.Phase.{Phase, Ahead, Decoding, Sent, Waiting, Told, Ready, Releasing, Leaving, Promised, Left, LookUps, inbox_has, is_ahead, record_phase, station_phase, look_ups, phase_of, has_released}
+use Rattle.tss_phases.specs.Phase.{Phase, Ahead, Decoding, Sent, Waiting, Told, Ready, Releasing, Leaving, Promised}
+use Rattle.tss_phases.specs.Phase.{Left, LookUps, inbox_has, is_ahead, record_phase, station_phase, look_ups, phase_of}
+use Rattle.tss_phases.specs.Phase.{has_released}
 use Rattle.tss_phases.specs.Orderly.{FitsPhase, WasTold}
 use Rattle.tss_phases.specs.Openers.{open_opener}
 use Rattle.tss_phases.proofs.PhaseLemmas.{phase_silent}
