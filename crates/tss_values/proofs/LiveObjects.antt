@@ -1,5 +1,5 @@
--- Objects in use are named: those with an entry, those of versions and of operands that aren't decoded, and those that go
--- home. Two of them that share an address are one.
+-- Objects in use are named: those with an entry, those of versions and of operands that aren't decoded, and those that
+-- go home. Two of them that share an address are one.
 use Rattle.std.proofs.Common.{◌≡◌, inl, inr, ℕ, true, false, Some, sym, ap, subst, ◌∙◌, nat_le, nat_lt}
 use Rattle.std.specs.FinMap.{get}
 use Rattle.std.proofs.lemmas.Bool.{and_from, le-leb, lt-ltb}

@@ -1,5 +1,6 @@
 -- Main never ends by a task's trap.
-use Rattle.std.proofs.Common.{◌≡◌, ℕ, zero, suc, Bool, true, false, cond, List, Option, Some, None, refl, sym, ap, ◌∙◌, true≢false}
+use Rattle.std.proofs.Common.{◌≡◌, ℕ, zero, suc, Bool, true, false, cond, List, Option, Some, None, refl, sym, ap, ◌∙◌}
+use Rattle.std.proofs.Common.{true≢false}
 use Rattle.std.specs.Prelude.{length, ◌+◌, ◌==◌, nat_lt, is_none, is_some, Result, Ok, Err}
 use Rattle.tss_base.specs.declared.range.Range.{Range}
 use Rattle.tss_base.specs.declared.operand.Task.{Task}
@@ -18,7 +19,10 @@ use Rattle.tss_model.specs.Core.{Stepped, Executed, Called, Ended, Trapped, Touc
 use Rattle.tss_model.specs.TaskRun.{repeated}
 use Rattle.tss_base.specs.declared.causes.TheConstants.{LOAD_DENIED}
 use Rattle.tss_base.specs.declared.refusals.TheConstants.{MAIN_BUDGET_SPENT, MAIN_TOUCH, OUTPUT_FULL}
-use Rattle.tss_model.specs.MainStep.{MainState, Flat, Call, ExitCall, Spawn, Barrier, Print, Await, Unknown, main_refused, main_trapped, call_done, output_of, print_done, print_some, has_spent, main_on, main_core, main_step, main_stretch, spawn_call, spawn_on, print_call, print_range, awaited_object, await_on}
+use Rattle.tss_model.specs.MainStep.{MainState, Flat, Call, ExitCall, Spawn, Barrier, Print, Await, Unknown}
+use Rattle.tss_model.specs.MainStep.{main_refused, main_trapped, call_done, output_of, print_done, print_some}
+use Rattle.tss_model.specs.MainStep.{has_spent, main_on, main_core, main_step, main_stretch, spawn_call, spawn_on}
+use Rattle.tss_model.specs.MainStep.{print_call, print_range, awaited_object, await_on}
 use Rattle.tss_model.specs.Spawn.{spawn_of}
 use Rattle.tss_protocol.specs.State.{State, initial_state}
 use Rattle.tss_protocol.specs.MainEvent.{flat_of, call_next, after_call, main_by}
@@ -27,7 +31,7 @@ use Rattle.tss_protocol.specs.Run.{IsRun}
 use Rattle.tss_program_order.proofs.RunKeeps.{main_keeps}
 
 -- it hasn't ended, or by itself
-abbrev pub is_own : Option Ending → Bool
+abbrev is_own : Option Ending → Bool
 is_own None = true
 is_own (Some (Exit status)) = true
 is_own (Some (MainTrap trap)) = true

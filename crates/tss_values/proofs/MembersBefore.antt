@@ -1,6 +1,7 @@
 -- What is in use after an event that isn't main's was in use before it: an operand that still acts on its object did so
 -- before.
-use Rattle.std.proofs.Common.{◌≡◌, ◌⊎◌, inl, inr, ℕ, true, false, ◌∷◌, Option, Some, None, refl, sym, ap, subst, ◌∙◌, true≢false, []}
+use Rattle.std.proofs.Common.{◌≡◌, ◌⊎◌, inl, inr, ℕ, true, false, ◌∷◌, Option, Some, None, refl, sym, ap, subst, ◌∙◌}
+use Rattle.std.proofs.Common.{true≢false, []}
 use Rattle.std.specs.FinMap.{get}
 use Rattle.tss_base.specs.declared.range.Range.{Range}
 use Rattle.tss_base.specs.declared.operand.OpName.{OpName}
@@ -17,15 +18,19 @@ use Rattle.tss_protocol.specs.Mail.{OpenContents, Ack, taken, posted_all}
 use Rattle.tss_protocol.specs.Renaming.{entry_after_decode, live_entry, live_message, sent_by_decode}
 use Rattle.tss_protocol.specs.State.{State, Entry, Version}
 use Rattle.tss_protocol.specs.Versions.{after_open, after_use}
-use Rattle.tss_protocol.specs.UnitMachine.{IsEnabled, after_event, without, decode_message_taken, open_message_taken, use_message_taken}
+use Rattle.tss_protocol.specs.UnitMachine.{IsEnabled, after_event, without, decode_message_taken, open_message_taken}
+use Rattle.tss_protocol.specs.UnitMachine.{use_message_taken}
 use Rattle.tss_protocol.proofs.SentLemmas.{posted_all-later, after_open-later, after_use-later}
-use Rattle.tss_phases.specs.Phase.{Phase, Ahead, Decoding, Sent, Waiting, Told, Ready, Releasing, Leaving, Promised, Left, phase_of, is_decoded}
+use Rattle.tss_phases.specs.Phase.{Phase, Ahead, Decoding, Sent, Waiting, Told, Ready, Releasing, Leaving, Promised}
+use Rattle.tss_phases.specs.Phase.{Left, phase_of, is_decoded}
 use Rattle.tss_phases.specs.Forward.{may_follow}
 use Rattle.tss_phases.proofs.DecodeEvent.{decoding_before}
 use Rattle.tss_phases.proofs.ForwardEvents.{forward-after_event}
 use Rattle.tss_locality.proofs.LeftFields.{Leaves-after_event}
 use Rattle.tss_locality.proofs.EntryChanges.{entries_decoded, entries_idle, entries_gone}
-use Rattle.tss_names.proofs.OpeningFrames.{KeepsOpenings, openings_take, openings_ready, openings_link, openings_bye, openings_start, openings_exec, openings_finish, openings_release, openings_idle, openings_nack, openings_retire, openings_copy, openings_gone}
+use Rattle.tss_names.proofs.OpeningFrames.{KeepsOpenings, openings_take, openings_ready, openings_link, openings_bye}
+use Rattle.tss_names.proofs.OpeningFrames.{openings_start, openings_exec, openings_finish, openings_release}
+use Rattle.tss_names.proofs.OpeningFrames.{openings_idle, openings_nack, openings_retire, openings_copy, openings_gone}
 use Rattle.tss_names.proofs.VersionObjects.{objects_open, objects_use}
 use Rattle.tss_program_order.proofs.RunKeeps.{is_main}
 use Rattle.tss_control.specs.Members.{IsMember}
@@ -316,7 +321,8 @@ module _ (m : Machine) (S : State) where
   latest_before (event.Finish w) other =
       latest_left (after_event m S (event.Finish w)).entries (λ j. (Leaves-after_event m S (event.Finish w) j).entries)
   latest_before (event.Release o) other =
-      latest_left (after_event m S (event.Release o)).entries (λ j. (Leaves-after_event m S (event.Release o) j).entries)
+      latest_left (after_event m S (event.Release o)).entries
+      (λ j. (Leaves-after_event m S (event.Release o) j).entries)
   latest_before (event.Bye o) other =
       latest_left (after_event m S (event.Bye o)).entries (λ j. (Leaves-after_event m S (event.Bye o) j).entries)
   latest_before (event.Idle v) other = latest_idle v

@@ -1,6 +1,7 @@
 -- Two operands of the round on one object with no writer between: in program order the later task finds what the
 -- earlier one leaves.
-use Rattle.std.proofs.Common.{◌≡◌, ℕ, suc, ◌+◌, ◌-◌, ◌<◌, ◌≤◌, ◌⊎◌, inl, inr, Bool, true, false, ◌&&◌, Option, Some, None, List, [], ◌∷◌, length, refl, sym, ap, ◌∙◌, arith, true≢false, cond}
+use Rattle.std.proofs.Common.{◌≡◌, ℕ, suc, ◌+◌, ◌-◌, ◌<◌, ◌≤◌, ◌⊎◌, inl, inr, Bool, true, false, ◌&&◌, Option, Some}
+use Rattle.std.proofs.Common.{None, List, [], ◌∷◌, length, refl, sym, ap, ◌∙◌, arith, true≢false, cond}
 use Rattle.std.specs.Prelude.{slice_get, option_map}
 use Rattle.std.proofs.lemmas.Bool.{and_parts, cases_lt, cases_order}
 use Rattle.std.proofs.lemmas.Option.{none-some, same_Some, slice_get-map}
@@ -34,7 +35,7 @@ use Rattle.tss_values.proofs.Values.{Starts, RunsOut, bytes_before, bytes_after,
 use Rattle.tss_control.proofs.rounds.Facts.{Basis}
 
 -- each number up to those spawned is that of a task
-pub task_there : (ts : List Task) (n : ℕ) → 1 ≤ n → n ≤ length ts → (t : Task) × (task_at ts n ≡ Some t)
+task_there : (ts : List Task) (n : ℕ) → 1 ≤ n → n ≤ length ts → (t : Task) × (task_at ts n ≡ Some t)
 task_there [] n low high = absurd (omega (arith, low, high))
 task_there (u ∷ ts) n low high = elim (cases_lt (length ts) n) [
   | inl new ↦ (u, at_newest u ts n (omega (arith, new, high)))
@@ -73,13 +74,13 @@ module _ (m : Machine) (i : ImageState) (S : State) (basis : Basis m S) (main : 
   ]
 
   -- before main's place in program order
-  pub started_before : (q : OpName) (r : Operand) (l : ℕ) (t : Started) → operand_among ts q ≡ Some r
+  started_before : (q : OpName) (r : Operand) (l : ℕ) (t : Started) → operand_among ts q ≡ Some r
       → started_at i m.limits l ≡ Some t → t.task.number ≡ q.task → l < steps_taken S.main
   started_before q r l t among start number =
       taken_by q l t start number (of_spawned S ts ground.round q r among) main.follows
 
   -- the task of program order is the one of the round
-  pub started_task : (o : OpName) (p : Operand) (s : Started) → operand_among ts o ≡ Some p → Starts m i o.task s
+  started_task : (o : OpName) (p : Operand) (s : Started) → operand_among ts o ≡ Some p → Starts m i o.task s
       → slice_get (operands_of s.task) o.place ≡ Some p
   started_task o p s among starts =
       let k = ground.known.operands o p among in
@@ -94,7 +95,7 @@ module _ (m : Machine) (i : ImageState) (S : State) (basis : Basis m S) (main : 
       ∙ ap (option_map (λ (o : Operand). o.object)) (started_task o p s among starts))
 
   -- a started task that writes an object, from the round's oldest on, has an operand of the round that does
-  pub writer_started : (x : Range) (o : OpName) (p : Operand) (n : ℕ) (s : Started) → operand_among ts o ≡ Some p
+  writer_started : (x : Range) (o : OpName) (p : Operand) (n : ℕ) (s : Started) → operand_among ts o ≡ Some p
       → o.task ≤ n → n ≤ S.main.spawned → Starts m i n s → writes_object (operands_of s.task) x ≡ true
       → (q : OpName) × IsWriterOn ts x q × (q.task ≡ n)
   writer_started x o p n s among from few starts wrote =
@@ -147,7 +148,7 @@ module _ (m : Machine) (i : ImageState) (S : State) (basis : Basis m S) (main : 
   -- ---- unbroken naming
 
   -- no writer of an object comes after an operand and before a task's number
-  abbrev pub NoneBefore : Range → OpName → ℕ → Type 0
+  abbrev NoneBefore : Range → OpName → ℕ → Type 0
   NoneBefore x o n = (q : OpName) → o.task < q.task → q.task < n → IsWriterOn ts x q → ⊥
 
   module _ (o : OpName) (p : Operand) (s : Started) (among : operand_among ts o ≡ Some p) (live : IsLive S o p.object)
@@ -187,7 +188,7 @@ module _ (m : Machine) (i : ImageState) (S : State) (basis : Basis m S) (main : 
     }
 
     -- what the operand leaves still stands there
-    pub left_there : bytes_of (flat_stepped i m.limits l).memory p.object ≡ bytes_after m i s p
+    left_there : bytes_of (flat_stepped i m.limits l).memory p.object ≡ bytes_after m i s p
     left_there =
         ap (λ (l : ℕ). bytes_of (flat_stepped i m.limits l).memory p.object) (sym reaches)
         ∙ left_stays i m.limits p.object starts.0 count s starts.1 unbroken
@@ -218,7 +219,8 @@ module _ (m : Machine) (i : ImageState) (S : State) (basis : Basis m S) (main : 
         absurd (omega (arith, less, rises, first.2, second.2))
   ]
 
-  -- of two operands on one object with no writer between the later finds what the earlier leaves, which still acts on it
+  -- of two operands on one object with no writer between the later finds what the earlier leaves, which still acts on
+  -- it
   pub found_between : (o q : OpName) (p r : Operand) (s t : Started) → operand_among ts o ≡ Some p
       → IsLive S o p.object → operand_among ts q ≡ Some r → p.object ≡ r.object → o.task < q.task
       → NoWriterBetween ts p.object o q

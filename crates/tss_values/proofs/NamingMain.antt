@@ -1,5 +1,6 @@
 -- The objects of the round stay named in program order, and the round has each spawned task from its oldest on.
-use Rattle.std.proofs.Common.{◌≡◌, ◌⊎◌, inl, inr, ℕ, suc, ◌+◌, ◌-◌, ◌<◌, ◌≤◌, false, List, [], ◌∷◌, ◌++◌, append-nil, Option, Some, None, Result, Ok, Err, refl, sym, ap, subst, ◌∙◌, arith}
+use Rattle.std.proofs.Common.{◌≡◌, ◌⊎◌, inl, inr, ℕ, suc, ◌+◌, ◌-◌, ◌<◌, ◌≤◌, false, List, [], ◌∷◌, ◌++◌, append-nil}
+use Rattle.std.proofs.Common.{Option, Some, None, Result, Ok, Err, refl, sym, ap, subst, ◌∙◌, arith}
 use Rattle.std.specs.Prelude.{is_some, option_to_list}
 use Rattle.std.proofs.lemmas.Bool.{cases_lt, cases_order}
 use Rattle.std.proofs.lemmas.Option.{none-some, same_Some}
@@ -13,7 +14,8 @@ use Rattle.tss_base.specs.declared.event.Event.TheVariants as event
 use Rattle.tss_base.specs.Image.{ImageState}
 use Rattle.tss_model.specs.Memory.{frozen}
 use Rattle.tss_model.specs.Spawn.{spawn_of}
-use Rattle.tss_model.specs.MainStep.{MainState, Flat, Call, ExitCall, Spawn, Barrier, Print, Await, Unknown, spawn_call, spawn_on}
+use Rattle.tss_model.specs.MainStep.{MainState, Flat, Call, ExitCall, Spawn, Barrier, Print, Await, Unknown, spawn_call}
+use Rattle.tss_model.specs.MainStep.{spawn_on}
 use Rattle.tss_model.specs.InOrder.{Started, flat_stepped, started_at, started_in, end_of_started}
 use Rattle.tss_protocol.specs.State.{State}
 use Rattle.tss_protocol.specs.MainEvent.{call_next}
@@ -25,10 +27,12 @@ use Rattle.tss_locality.proofs.RoundObjects.{arrival_operand, in_longer, last_of
 use Rattle.tss_locality.proofs.RunRounds.{IsRounded-after_event}
 use Rattle.tss_control.specs.Members.{operand_among}
 use Rattle.tss_names.specs.Tasks.{task_at, with_spawned, spawned_by_main, spawned_after_event}
-use Rattle.tss_program_order.specs.MainInOrder.{FollowsInOrder, IsCutOff, steps_taken, flat_beside, started_next, inbox_with}
+use Rattle.tss_program_order.specs.MainInOrder.{FollowsInOrder, IsCutOff, steps_taken, flat_beside, started_next}
+use Rattle.tss_program_order.specs.MainInOrder.{inbox_with}
 use Rattle.tss_program_order.proofs.FlatNames.{Has}
 use Rattle.tss_program_order.proofs.FlatNumbers.{numbers_rise, spawned_rises, step_one}
-use Rattle.tss_program_order.proofs.FlatOrder.{steps_taken-on, flat_stepped-ended, started_at-by, trapped_next, trapped_after}
+use Rattle.tss_program_order.proofs.FlatOrder.{steps_taken-on, flat_stepped-ended, started_at-by, trapped_next}
+use Rattle.tss_program_order.proofs.FlatOrder.{trapped_after}
 use Rattle.tss_program_order.proofs.FlatPieces.{NoneAfter}
 use Rattle.tss_program_order.proofs.FlatStarts.{task_started-by, started-number}
 use Rattle.tss_program_order.proofs.FlatUnnamed.{unnamed_back}
@@ -59,7 +63,7 @@ module _ (m : Machine) (i : ImageState) (S : State) (basis : Basis m S)
   open basis use {all, ts, ground}
 
   -- the round has each spawned task from its oldest on
-  abbrev pub AreAmong : List Task → List Task → Type 0
+  abbrev AreAmong : List Task → List Task → Type 0
   AreAmong all ts =
       (n : ℕ) (t : Task) (o : OpName) (p : Operand)
       → task_at all n ≡ Some t
@@ -68,7 +72,7 @@ module _ (m : Machine) (i : ImageState) (S : State) (basis : Basis m S)
       → IsTaskOf ts t
 
   -- an operand of a new round that is of no new task was in the round before
-  abbrev pub WasBefore : List Task → Type 0
+  abbrev WasBefore : List Task → Type 0
   WasBefore us =
       (o : OpName) (p : Operand)
       → operand_among us o ≡ Some p

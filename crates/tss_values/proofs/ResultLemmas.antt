@@ -1,5 +1,6 @@
 -- A finished state has the result of program order, where its values are those of program order.
-use Rattle.std.proofs.Common.{◌≡◌, ◌≢◌, ℕ, suc, ◌+◌, ◌<◌, ◌≤◌, true, ◌&&◌, ◌||◌, cond, List, Option, Some, None, refl, sym, ap, ◌∙◌, subst, inl, inr, arith, true≢false}
+use Rattle.std.proofs.Common.{◌≡◌, ◌≢◌, ℕ, suc, ◌+◌, ◌<◌, ◌≤◌, true, ◌&&◌, ◌||◌, cond, List, Option, Some, None, refl}
+use Rattle.std.proofs.Common.{sym, ap, ◌∙◌, subst, inl, inr, arith, true≢false}
 use Rattle.std.specs.Prelude.{◌-◌, ◌==◌, is_some, is_none, length}
 use Rattle.std.specs.FinMap.{get, len}
 use Rattle.std.proofs.lemmas.Bool.{and_parts, cases_order}
@@ -20,11 +21,13 @@ use Rattle.tss_protocol.specs.State.{State, HeldTrap}
 use Rattle.tss_protocol.specs.Mail.{is_silent}
 use Rattle.tss_protocol.specs.Gateway.{is_idle}
 use Rattle.tss_protocol.specs.MainEvent.{is_drained, has_no_task, has_no_object}
-use Rattle.tss_protocol.specs.Result.{RunResult, IsFinished, ending_by, tasks_by, tasks_of, printed_of, pieces_by, result_with, result_of}
+use Rattle.tss_protocol.specs.Result.{RunResult, IsFinished, ending_by, tasks_by, tasks_of, printed_of, pieces_by}
+use Rattle.tss_protocol.specs.Result.{result_with, result_of}
 use Rattle.tss_names.specs.Tasks.{taken_by, IsTaken}
 use Rattle.tss_program_order.specs.Refinement.{HasReferenceResult, is_task_trap}
 use Rattle.tss_program_order.specs.MainInOrder.{flat_beside, steps_taken, FollowsInOrder, IsCutOff}
-use Rattle.tss_program_order.proofs.FlatOrder.{flat_stepped-ranges, flat_stepped-ended, started_at-by, trapped_next, trapped_after}
+use Rattle.tss_program_order.proofs.FlatOrder.{flat_stepped-ranges, flat_stepped-ended, started_at-by, trapped_next}
+use Rattle.tss_program_order.proofs.FlatOrder.{trapped_after}
 use Rattle.tss_program_order.proofs.FlatStarts.{started-number}
 use Rattle.tss_program_order.proofs.FlatNumbers.{number_there, numbers_rise, HasNumber}
 use Rattle.tss_program_order.proofs.MainFollows.{follows_to_end}
@@ -37,7 +40,7 @@ use Rattle.tss_control.proofs.rounds.Facts.{Facts}
 
 module _ (m : Machine) (i : ImageState) where
   -- of two tasks that program order starts, the earlier doesn't trap
-  pub no_start_after : (n k : ℕ) (s t : Started) (trap : Trap) → Starts m i n s → Starts m i k t
+  no_start_after : (n k : ℕ) (s t : Started) (trap : Trap) → Starts m i n s → Starts m i k t
       → (end_of_started i m.limits s).trap ≡ Some trap → n < k → ⊥
   no_start_after n k s t trap first second trapped before = elim (cases_order first.0 second.0) [
     | inl same ↦
@@ -64,7 +67,7 @@ module _ (m : Machine) (i : ImageState) where
       (p, (p.place, p.start, p.number))
 
   -- and so does one up to that of a task that starts
-  pub starts_before : (n k : ℕ) (t : Started) → Starts m i k t → 0 < n → n ≤ k → (s : Started) × Starts m i n s
+  starts_before : (n k : ℕ) (t : Started) → Starts m i k t → 0 < n → n ≤ k → (s : Started) × Starts m i n s
   starts_before n k t second some few = elim (decide_key nat_order n k) [
     | inl same ↦ (t, (second.0, second.1, second.2 ∙ sym same))
     | inr other ↦
@@ -190,7 +193,7 @@ module _ (m : Machine) (i : ImageState) (S : State) (facts : Facts m S) (home : 
         same_Some held.trap cut.trap
         (sym (main.trap held cut.started there (cut.place, cut.start, sym same_number)) ∙ cut.trapped)
 
-    pub trapped_result : IsFinished S → HasReferenceResult m i S
+    trapped_result : IsFinished S → HasReferenceResult m i S
     trapped_result finished = record {
       result =
           result_there S finished
@@ -239,7 +242,7 @@ module _ (m : Machine) (i : ImageState) (S : State) (facts : Facts m S) (home : 
         by (Some e) t no_trap some = (e, refl)
         by None t no_trap some = absurd (true≢false (sym some ∙ ap is_some no_trap))
 
-    pub followed_result : IsFinished S → HasReferenceResult m i S
+    followed_result : IsFinished S → HasReferenceResult m i S
     followed_result finished =
         let e = ended finished in
         let order = follows_to_end m i S e.0 follows e.1 in

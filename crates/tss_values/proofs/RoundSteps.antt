@@ -1,8 +1,8 @@
 -- What becomes of the round with main's event: it stays, it has one more task, or it is over in a drained state. Main
 -- that is cut off from program order doesn't stand in it.
-use Rattle.std.proofs.Common.{◌≡◌, ℕ, suc, ◌+◌, ◌-◌, nat_le, nat_lt, ◌⊎◌, inl, inr, true, ◌&&◌, List, [], ◌∷◌, ◌++◌, append-nil, length, Option, Some, None, is_none, Result, Ok, Err, refl, ap, ◌∙◌, arith}
-use Rattle.std.specs.Prelude.{is_some, option_to_list, ◌==◌}
-use Rattle.std.specs.FinMap.{len}
+use Rattle.std.proofs.Common.{◌≡◌, ℕ, suc, ◌+◌, ◌-◌, nat_le, nat_lt, ◌⊎◌, inl, inr, true, ◌&&◌, List, [], ◌∷◌, ◌++◌}
+use Rattle.std.proofs.Common.{append-nil, Option, Some, None, is_none, Result, Ok, Err, refl, ap, ◌∙◌, arith}
+use Rattle.std.specs.Prelude.{is_some, option_to_list}
 use Rattle.std.proofs.lemmas.Bool.{and_parts, leb-true, ltb-true}
 use Rattle.tss_base.specs.declared.range.Range.{Range}
 use Rattle.tss_base.specs.declared.operand.Task.{Task}
@@ -12,12 +12,11 @@ use Rattle.tss_base.specs.Range.{end_of}
 use Rattle.tss_base.specs.Image.{ImageState}
 use Rattle.tss_model.specs.Memory.{covers}
 use Rattle.tss_model.specs.Spawn.{spawn_of}
-use Rattle.tss_model.specs.MainStep.{MainState, Flat, Call, ExitCall, Spawn, Barrier, Print, Await, Unknown, spawn_call, spawn_on}
+use Rattle.tss_model.specs.MainStep.{MainState, Flat, Call, ExitCall, Spawn, Barrier, Print, Await, Unknown, spawn_call}
+use Rattle.tss_model.specs.MainStep.{spawn_on}
 use Rattle.tss_model.specs.InOrder.{flat_stepped}
-use Rattle.tss_protocol.specs.Mail.{is_silent}
 use Rattle.tss_protocol.specs.State.{State}
-use Rattle.tss_protocol.specs.Gateway.{is_idle}
-use Rattle.tss_protocol.specs.MainEvent.{call_next, may_call, after_call, main_by, has_no_task, has_no_object, is_drained}
+use Rattle.tss_protocol.specs.MainEvent.{call_next, may_call, after_call, main_by, is_drained}
 use Rattle.tss_protocol.specs.Needs.{round_after_main, round_after_event}
 use Rattle.tss_protocol.specs.UnitMachine.{IsEnabled, is_enabled, after_event}
 use Rattle.tss_program_order.specs.MainInOrder.{IsCutOff, steps_taken, flat_beside}
@@ -30,7 +29,7 @@ use Rattle.tss_values.proofs.Values.{IsInside}
 -- ---- what becomes of the round
 
 -- it stays, with the inbox
-pub record RoundStays (ts us : List Task) (S T : State) : Type 0 where
+record RoundStays (ts us : List Task) (S T : State) : Type 0 where
   pub list : us ≡ ts
   pub inbox : T.inbox ≡ S.inbox
 
@@ -44,7 +43,7 @@ pub record RoundGrows (ts us : List Task) (S T : State) : Type 0 where
   pub home : T.home ≡ S.home
 
 -- or it is over, in a drained state
-pub record RoundEnds (us : List Task) (S T : State) : Type 0 where
+record RoundEnds (us : List Task) (S T : State) : Type 0 where
   pub list : us ≡ []
   pub drained : is_drained S ≡ true
   pub inbox : T.inbox ≡ S.inbox
@@ -56,18 +55,6 @@ RoundGoesOn ts us S T = RoundStays ts us S T ⊎ (RoundGrows ts us S T ⊎ Round
 no_inbox : (o : Option Task) → is_none o ≡ true → o ≡ None
 no_inbox None e = refl
 no_inbox (Some t) e = absurd (cc)
-
--- a drained state has no task in the inbox
-pub drained_inbox : (S : State) → is_drained S ≡ true → S.inbox ≡ None
-drained_inbox S drained =
-    let outer = and_parts (has_no_task S && has_no_object S) (is_silent S.mail) drained in
-    let inner = and_parts (has_no_task S) (has_no_object S) outer.0 in
-    let i = is_none S.inbox in
-    let g = is_idle S.gateway in
-    let t4 = and_parts (i && g && (len S.flight == 0) && (length S.queue == 0)) (len S.workers == 0) inner.0 in
-    let t3 = and_parts (i && g && (len S.flight == 0)) (length S.queue == 0) t4.0 in
-    let t2 = and_parts (i && g) (len S.flight == 0) t3.0 in
-    no_inbox S.inbox (and_parts i g t2.0).0
 
 -- an address that an object covers lies in it
 pub covers_inside : (x : Range) (a : ℕ) → covers x a ≡ true → IsInside x a

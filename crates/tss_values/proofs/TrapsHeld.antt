@@ -1,5 +1,6 @@
 -- The held trap is that of program order, where its task is started there. No task that traps there ends without it.
-use Rattle.std.proofs.Common.{◌≡◌, ◌≢◌, ◌⊎◌, ℕ, suc, ◌+◌, ◌<◌, ◌≤◌, Bool, true, false, cond, List, Option, Some, None, refl, sym, ap, ◌∙◌, subst, inl, inr, arith}
+use Rattle.std.proofs.Common.{◌≡◌, ◌≢◌, ◌⊎◌, ℕ, suc, ◌+◌, ◌<◌, ◌≤◌, Bool, true, false, cond, List, Option, Some, None}
+use Rattle.std.proofs.Common.{refl, sym, ap, ◌∙◌, subst, inl, inr, arith}
 use Rattle.std.specs.Prelude.{◌-◌, nat_lt}
 use Rattle.std.specs.FinMap.{get, insert}
 use Rattle.std.proofs.lemmas.Bool.{ltb-false, ltb-true}
@@ -71,7 +72,7 @@ lower_held task t h = by (nat_lt task h.task) refl
 -- ---- events that leave the held trap
 
 -- where it is left, no fewer tasks are spawned, tasks that are taken now are under way, and the others stay so
-pub traps_kept : (m : Machine) (i : ImageState) (S T : State) → HasTraps m i S → T.trap ≡ S.trap
+traps_kept : (m : Machine) (i : ImageState) (S T : State) → HasTraps m i S → T.trap ≡ S.trap
     → S.main.spawned ≤ T.main.spawned → ((n : ℕ) → IsTaken T n → IsTaken S n ⊎ IsUnfinished T n)
     → StayUnder S.flight T.flight → HasTraps m i T
 traps_kept m i S T h same more taken stay = record {
@@ -117,7 +118,7 @@ module _ (m : Machine) (i : ImageState) (S : State) (basis : Basis m S) (h : Has
       fewer n a s b few now before = omega (arith, few, now, before)
 
   -- after main's event
-  pub HasTraps-main : IsEnabled m S event.Main → HasTraps m i (after_event m S event.Main)
+  HasTraps-main : IsEnabled m S event.Main → HasTraps m i (after_event m S event.Main)
   HasTraps-main on =
       let T = after_event m S event.Main in
       let k = taken_after_main _ T (spawns_main m all S on) in
@@ -125,7 +126,7 @@ module _ (m : Machine) (i : ImageState) (S : State) (basis : Basis m S) (h : Has
       (StayUnder-after_event m S event.Main (λ w e. cc))
 
   -- take
-  pub HasTraps-take : IsEnabled m S event.Take → HasTraps m i (after_event m S event.Take)
+  HasTraps-take : IsEnabled m S event.Take → HasTraps m i (after_event m S event.Take)
   HasTraps-take on =
       let T = after_event m S event.Take in
       let p = takes_take m S on in
@@ -268,7 +269,7 @@ module _ (m : Machine) (i : ImageState) (S : State) (basis : Basis m S) (h : Has
             (t.0, let few = t.1 in omega (arith, last, few))
 
   -- finish
-  pub HasTraps-finish : HasWorkers m i S → (w : ℕ) → IsEnabled m S (event.Finish w)
+  HasTraps-finish : HasWorkers m i S → (w : ℕ) → IsEnabled m S (event.Finish w)
       → HasTraps m i (after_event m S (event.Finish w))
   unfolding is_enabled
   HasTraps-finish workers w on =

@@ -1,6 +1,7 @@
 -- Single bytes of an object, and operands that aren't decoded: they are in the inbox, or their decode is under way, and
 -- come behind those on their object that are decoded.
-use Rattle.std.proofs.Common.{◌≡◌, ℕ, ◌+◌, ◌-◌, ◌<◌, ◌≤◌, ◌⊎◌, inl, inr, Bool, true, false, Option, Some, None, refl, sym, ap, ◌∙◌, arith, true≢false}
+use Rattle.std.proofs.Common.{◌≡◌, ℕ, ◌+◌, ◌-◌, ◌<◌, ◌≤◌, ◌⊎◌, inl, inr, Bool, true, false, Option, Some, None, refl}
+use Rattle.std.proofs.Common.{sym, ap, ◌∙◌, arith, true≢false}
 use Rattle.std.specs.Prelude.{is_some, unwrap_or, nat_lt, ◌||◌, get_or, slice_get}
 use Rattle.std.specs.FinMap.{get}
 use Rattle.std.proofs.lemmas.Bool.{cases_lt, cases_order, eqb-true}
@@ -71,7 +72,7 @@ module _ (m : Machine) (S : State) (basis : Basis m S) (orderly : AreOrderly S) 
   open basis use {all, ts, ground}
 
   -- an operand of the round that isn't decoded is in the inbox, or its decode is under way
-  pub undecoded : (o : OpName) (p : Operand) → operand_among ts o ≡ Some p → is_decoded (phase_of S o) ≡ false
+  undecoded : (o : OpName) (p : Operand) → operand_among ts o ≡ Some p → is_decoded (phase_of S o) ≡ false
       → IsUndecoded S o p
   undecoded o p among early = by (get S.mail.decodes o) refl
     where

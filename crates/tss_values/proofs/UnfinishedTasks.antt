@@ -1,5 +1,6 @@
 -- A task that hasn't finished stays in flight, and finishes by its own finish alone.
-use Rattle.std.proofs.Common.{◌≡◌, ◌≢◌, ℕ, Bool, true, false, List, [], ◌∷◌, Option, Some, None, refl, sym, ap, ◌∙◌, subst, inl, inr}
+use Rattle.std.proofs.Common.{◌≡◌, ◌≢◌, ℕ, Bool, true, false, List, [], ◌∷◌, Option, Some, None, refl, sym, ap, ◌∙◌}
+use Rattle.std.proofs.Common.{subst, inl, inr}
 use Rattle.std.specs.Prelude.{if◌then◌else◌, ◌&&◌, slice_get}
 use Rattle.std.specs.List.{list_all}
 use Rattle.std.specs.FinMap.{get, insert, remove}
@@ -17,12 +18,16 @@ use Rattle.tss_maps.proofs.Changes.{at_inserted, beside_inserted, beside_removed
 use Rattle.tss_model.specs.Access.{operands_of}
 use Rattle.tss_protocol.specs.Mail.{Source}
 use Rattle.tss_protocol.specs.State.{State, OperandState, Flying, Busy}
-use Rattle.tss_protocol.specs.Stations.{has_left, has_finished, first_stage, entered, is_complete, awaited, with_operand, is_gone, remaining_tasks, woken_in, woken_by, task_after_ready, linked_in, linked_by, operand_after_link, finished_in, parted_in, parted_by, operand_after_bye}
-use Rattle.tss_protocol.specs.UnitMachine.{after_event, without, after_take, ready_message_taken, link_message_taken, after_start, start_task, after_finish, bye_message_taken}
+use Rattle.tss_protocol.specs.Stations.{has_left, has_finished, first_stage, entered, is_complete, awaited}
+use Rattle.tss_protocol.specs.Stations.{with_operand, is_gone, remaining_tasks, woken_in, woken_by, task_after_ready}
+use Rattle.tss_protocol.specs.Stations.{linked_in, linked_by, operand_after_link, finished_in, parted_in, parted_by}
+use Rattle.tss_protocol.specs.Stations.{operand_after_bye}
+use Rattle.tss_protocol.specs.UnitMachine.{after_event, without, after_take, ready_message_taken, link_message_taken}
+use Rattle.tss_protocol.specs.UnitMachine.{after_start, start_task, after_finish, bye_message_taken}
 use Rattle.tss_locality.proofs.LeftFields.{Leaves-after_event}
 
 -- the task of a number is under way
-abbrev pub IsUnder : Numbered Flying → ℕ → Type 0
+abbrev IsUnder : Numbered Flying → ℕ → Type 0
 IsUnder f n = (x : Flying) × (get f n ≡ Some x) × (has_finished x.stage ≡ false)
 
 -- each that was still is

@@ -179,15 +179,15 @@ pub record HasMain (m : Machine) (i : ImageState) (all : List Task) (S : State) 
 
 -- ---- named objects
 
--- an operand still acts on its object: it isn't decoded, is a version of the object or is being opened as one, or is the
--- latest of the object's entry
+-- an operand still acts on its object: it isn't decoded, is a version of the object or is being opened as one, or is
+-- the latest of the object's entry
 abbrev pub IsLive : State → OpName → Range → Type 0
 IsLive S o x =
     (is_decoded (phase_of S o) ≡ false)
     ⊎ (IsMember S x o ⊎ ((e : Entry) × (get S.entries x.base ≡ Some e) × (e.latest ≡ o) × (e.object ≡ x)))
 
--- the object of a round's operand that still acts on it is named in program order from its task's start up to where main
--- stands, and the round has each spawned task from its oldest on
+-- the object of a round's operand that still acts on it is named in program order from its task's start up to where
+-- main stands, and the round has each spawned task from its oldest on
 pub record HasNaming (m : Machine) (i : ImageState) (all ts : List Task) (S : State) : Type 0 where
   pub named : (o : OpName) (p : Operand) (k j : ℕ) (s : Started) → operand_among ts o ≡ Some p
       → IsLive S o p.object → started_at i m.limits k ≡ Some s → s.task.number ≡ o.task → k < j

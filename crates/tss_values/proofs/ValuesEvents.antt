@@ -13,14 +13,17 @@ use Rattle.tss_values.proofs.buffers.Events.{HasBuffers-Run}
 use Rattle.tss_values.proofs.room.Events.{HasRoom-after_event}
 use Rattle.tss_values.proofs.FindsLeft.{finds_left}
 use Rattle.tss_values.proofs.NamingMain.{HasNaming-after_event}
-use Rattle.tss_values.proofs.stored.Quiet.{HasStored-decode, HasStored-ack, HasStored-ready, HasStored-link, HasStored-bye, HasStored-idle, HasStored-retire, HasStored-use}
+use Rattle.tss_values.proofs.stored.Quiet.{HasStored-decode, HasStored-ack, HasStored-ready, HasStored-link}
+use Rattle.tss_values.proofs.stored.Quiet.{HasStored-bye, HasStored-idle, HasStored-retire, HasStored-use}
 use Rattle.tss_values.proofs.stored.Taken.{HasStored-take, HasStored-gone}
 use Rattle.tss_values.proofs.stored.Released.{HasStored-release, HasStored-nack}
 use Rattle.tss_values.proofs.stored.Open.{HasStored-open}
 use Rattle.tss_values.proofs.stored.Copy.{HasStored-copy}
 use Rattle.tss_values.proofs.ValuesMain.{follows-after_event, same-after_event}
 use Rattle.tss_values.proofs.returns.Events.{copied_room, HasReturns-beside}
-use Rattle.tss_values.proofs.home.Events.{HasHome-ack, HasHome-open, HasHome-use, HasHome-release, HasHome-nack, HasHome-retire, HasHome-idle, HasHome-ready, HasHome-link, HasHome-bye, HasHome-finish, HasHome-take}
+use Rattle.tss_values.proofs.home.Events.{HasHome-ack, HasHome-open, HasHome-use, HasHome-release, HasHome-nack}
+use Rattle.tss_values.proofs.home.Events.{HasHome-retire, HasHome-idle, HasHome-ready, HasHome-link, HasHome-bye}
+use Rattle.tss_values.proofs.home.Events.{HasHome-finish, HasHome-take}
 use Rattle.tss_values.proofs.home.Copy.{HasHome-copy}
 use Rattle.tss_values.proofs.home.Main.{HasHome-main}
 use Rattle.tss_values.proofs.home.Decode.{HasHome-decode}

@@ -15,7 +15,8 @@ use Rattle.tss_control.proofs.rounds.FitObjects.{HaveFitObjects, no_objects, Hav
 use Rattle.tss_names.proofs.RunLemmas.{kept_after}
 use Rattle.tss_values.proofs.ValuesJoin.{ValueFact, values_of_run}
 use Rattle.tss_values.proofs.MainEndings.{EndsItself}
-use Rattle.tss_values.proofs.home.Bytes.{HasBytes, HasBytes-initial_state, HasBytes-after_event, HavePlacedObjects, no_places, HavePlacedObjects-after_event}
+use Rattle.tss_values.proofs.home.Bytes.{HasBytes, HasBytes-initial_state, HasBytes-after_event, HavePlacedObjects}
+use Rattle.tss_values.proofs.home.Bytes.{no_places, HavePlacedObjects-after_event}
 use Rattle.tss_values.proofs.storages.FixedBytes.{HaveFitOperands, no_operands, HaveFitOperands-after_event, HasFixed}
 use Rattle.tss_model.specs.Memory.{memory_ranges}
 use Rattle.tss_values.proofs.Values.{HasValues}
@@ -24,7 +25,7 @@ use Rattle.tss_control.proofs.GroundworkControl.{Facts-Run}
 use Rattle.tss_values.proofs.WorkerFacts.{WorkerFacts}
 
 -- what an event that may happen finds in a state that a run leaves
-pub record Finds (m : Machine) (i : ImageState) (S : State) : Type 0 where
+record Finds (m : Machine) (i : ImageState) (S : State) : Type 0 where
   pub accepted : IsAccepted i
   pub admissible : IsAdmissible m
   pub work : WorkerFacts m i S

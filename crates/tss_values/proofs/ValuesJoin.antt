@@ -1,5 +1,6 @@
 -- The induction over a run of what every event keeps where a run leaves its state, and the law of the result from it.
-use Rattle.std.proofs.Common.{◌≡◌, Bool, true, false, cond, List, [], ◌∷◌, ◌++◌, append-nil, Option, Some, None, refl, sym, ap, ◌∙◌, subst}
+use Rattle.std.proofs.Common.{◌≡◌, Bool, true, false, cond, List, [], ◌∷◌, ◌++◌, append-nil, Option, Some, None, refl}
+use Rattle.std.proofs.Common.{sym, ap, ◌∙◌, subst}
 use Rattle.std.proofs.lemmas.Bool.{and_parts}
 use Rattle.std.proofs.lemmas.List.{append_assoc}
 use Rattle.std.proofs.lemmas.Option.{none-some, same_Some}
@@ -43,7 +44,7 @@ module _ (m : Machine) where
       ∙ after_events-push es e (after_event m S x) T k.1 on
 
   -- the tasks that are spawned with it
-  pub spawned_after-push : (es : List Event) (e : Event) (S T : State) (ts : List Task) → after_events m S es ≡ Some T
+  spawned_after-push : (es : List Event) (e : Event) (S T : State) (ts : List Task) → after_events m S es ≡ Some T
       → spawned_after m S ts (es ++ e ∷ []) ≡ spawned_after_event m T (spawned_after m S ts es) e
   unfolding after_events spawned_after
   spawned_after-push [] e S T ts run = ap (λ S. spawned_after_event m S ts e) (same_Some S T run)
@@ -52,7 +53,7 @@ module _ (m : Machine) where
       (on_run (is_enabled m S x) (after_events m (after_event m S x) es) T run).1
 
   -- and those of the round
-  pub round_from-push : (es : List Event) (e : Event) (S T : State) (ts : List Task) → after_events m S es ≡ Some T
+  round_from-push : (es : List Event) (e : Event) (S T : State) (ts : List Task) → after_events m S es ≡ Some T
       → round_from m S ts (es ++ e ∷ []) ≡ round_after_event m T (round_from m S ts es) e
   unfolding after_events round_from
   round_from-push [] e S T ts run = ap (λ S. round_after_event m S ts e) (same_Some S T run)

@@ -1,5 +1,6 @@
 -- Main stays in program order, and each task of program order is the one of its number that main has spawned.
-use Rattle.std.proofs.Common.{◌≡◌, ◌⊎◌, inl, inr, ℕ, suc, ◌+◌, ◌<◌, Bool, true, false, List, [], ◌∷◌, length, Option, Some, None, refl, sym, ap, subst, ◌∙◌, arith}
+use Rattle.std.proofs.Common.{◌≡◌, ◌⊎◌, inl, inr, ℕ, suc, ◌+◌, ◌<◌, Bool, true, false, List, [], ◌∷◌, length, Option}
+use Rattle.std.proofs.Common.{Some, None, refl, sym, ap, subst, ◌∙◌, arith}
 use Rattle.std.specs.Prelude.{cond, ◌==◌, nat_le}
 use Rattle.std.proofs.lemmas.Bool.{and_from, or_left, or_right, both_ways, cases_order, le-leb, lt-ltb, eqb-true}
 use Rattle.std.proofs.lemmas.Option.{none-some, same_Some}
@@ -18,7 +19,8 @@ use Rattle.tss_protocol.specs.UnitMachine.{IsEnabled, after_event}
 use Rattle.tss_protocol.specs.MainEvent.{call_next}
 use Rattle.tss_locality.specs.Rounds.{IsIn}
 use Rattle.tss_names.specs.Tasks.{task_at, spawned_by_main, spawned_after_event}
-use Rattle.tss_program_order.specs.MainInOrder.{MayLoad, FollowsInOrder, IsCutOff, flat_beside, started_next, inbox_with}
+use Rattle.tss_program_order.specs.MainInOrder.{MayLoad, FollowsInOrder, IsCutOff, flat_beside, started_next}
+use Rattle.tss_program_order.specs.MainInOrder.{inbox_with}
 use Rattle.tss_program_order.proofs.FlatLoads.{byte_range, main_granted}
 use Rattle.tss_program_order.proofs.FlatNames.{Has, same_range-refl, covers-touch}
 use Rattle.tss_program_order.proofs.FlatNumbers.{one_place, numbers_rise}
@@ -65,7 +67,7 @@ module _ (m : Machine) (i : ImageState) (S : State) (basis : Basis m S) (code : 
   follows_home same = record { main = same; home = λ a may. home.beside a same (unclaimed a may) }
 
   -- what is said of main
-  abbrev pub IsInOrder : MainState → Type 0
+  abbrev IsInOrder : MainState → Type 0
   IsInOrder s = (s ≡ (flat_beside i m.limits s).main) ⊎ IsCutOff i m.limits s
 
   -- main's event leaves it in program order
@@ -104,7 +106,7 @@ module _ (m : Machine) (i : ImageState) (S : State) (basis : Basis m S) (code : 
   -- ---- the tasks of program order
 
   -- of a number, each task of program order is the spawned one
-  abbrev pub AreSame : List Task → Type 0
+  abbrev AreSame : List Task → Type 0
   AreSame us = (n : ℕ) (t : Task) (s : Started) → task_at us n ≡ Some t → Starts m i n s → s.task ≡ t
 
   -- once program order is cut off it starts no later task

@@ -29,7 +29,7 @@ module _ (m : Machine) (i : ImageState) (main : MainState) (n : ℕ) (some : 0 <
       (sym e.4 ∙ ap (λ (s : Started). (end_of_started i m.limits s).trap) (sym same) ∙ cut.trapped)
 
   -- program order starts a spawned task where all before it run to their ends
-  pub started_in_order : (main ≡ (flat_beside i m.limits main).main) ⊎ IsCutOff i m.limits main
+  started_in_order : (main ≡ (flat_beside i m.limits main).main) ⊎ IsCutOff i m.limits main
       → (s : Started) × Starts m i n s
   started_in_order (inl same) =
       let spawned = ap (λ (s : MainState). s.spawned) same in

@@ -14,7 +14,8 @@ use Rattle.tss_maps.proofs.Changes.{from_inserted, at_inserted, beside_inserted}
 use Rattle.tss_protocol.specs.Names.{bank_of}
 use Rattle.tss_protocol.specs.Mail.{Home, Buffer, OpenContents, Message, Open, Ack, posted_all, taken}
 use Rattle.tss_protocol.specs.State.{State, Entry}
-use Rattle.tss_protocol.specs.Renaming.{takes_buffer, buffers_after_decode, opens_first, opens_over, live_message, decode_message}
+use Rattle.tss_protocol.specs.Renaming.{takes_buffer, buffers_after_decode, opens_first, opens_over, live_message}
+use Rattle.tss_protocol.specs.Renaming.{decode_message}
 use Rattle.tss_protocol.specs.UnitMachine.{after_event, without, decode_message_taken}
 use Rattle.tss_control.specs.Members.{operand_among}
 use Rattle.tss_values.specs.Buffers.{HasBuffer, HasBuffers}

@@ -1,5 +1,6 @@
 -- Every event leaves one holder for each buffer, and so does every run.
-use Rattle.std.proofs.Common.{◌≡◌, inl, inr, ℕ, true, ◌&&◌, List, [], ◌∷◌, ◌++◌, append-nil, Option, Some, None, Result, Ok, Err, refl, sym, ◌∙◌, subst}
+use Rattle.std.proofs.Common.{◌≡◌, inl, inr, ℕ, true, ◌&&◌, List, [], ◌∷◌, ◌++◌, append-nil, Option, Some, None, Result}
+use Rattle.std.proofs.Common.{Ok, Err, refl, sym, ◌∙◌, subst}
 use Rattle.std.specs.Prelude.{◌==◌, is_none, option_to_list}
 use Rattle.std.proofs.lemmas.Bool.{and_parts}
 use Rattle.std.proofs.lemmas.Option.{none-some}
@@ -13,10 +14,12 @@ use Rattle.tss_base.specs.declared.event.Event.TheVariants as event
 use Rattle.tss_base.specs.Names.{name_cmp}
 use Rattle.tss_base.specs.Image.{ImageState}
 use Rattle.tss_maps.proofs.Entries.{absent_empty}
-use Rattle.tss_model.specs.MainStep.{MainState, Call, ExitCall, Spawn, Barrier, Print, Await, Unknown, main_call, spawn_call, spawn_on}
+use Rattle.tss_model.specs.MainStep.{MainState, Call, ExitCall, Spawn, Barrier, Print, Await, Unknown, main_call}
+use Rattle.tss_model.specs.MainStep.{spawn_call, spawn_on}
 use Rattle.tss_model.specs.Spawn.{spawn_of}
 use Rattle.tss_protocol.specs.State.{State, initial_state}
-use Rattle.tss_protocol.specs.MainEvent.{has_no_task, has_no_object, is_drained, call_next, may_call, main_by, after_call}
+use Rattle.tss_protocol.specs.MainEvent.{has_no_task, has_no_object, is_drained, call_next, may_call, main_by}
+use Rattle.tss_protocol.specs.MainEvent.{after_call}
 use Rattle.tss_protocol.specs.Mail.{is_silent}
 use Rattle.tss_protocol.specs.Needs.{round_after_main, round_after_event, round_of}
 use Rattle.tss_protocol.specs.Run.{IsRun}
@@ -34,7 +37,8 @@ use Rattle.tss_control.proofs.GroundworkControl.{keeps_groups}
 use Rattle.tss_control.proofs.GroundworkEmpty.{IsControlled-bare, IsBare-initial_state}
 use Rattle.tss_control.proofs.rounds.Spawned.{IsLonger, IsLonger-spawn}
 use Rattle.tss_values.proofs.buffers.Kept.{HasBuffers-same}
-use Rattle.tss_values.proofs.buffers.Quiet.{HasBuffers-quiet, HasBuffers-use, HasBuffers-idle, HasBuffers-retire, HasBuffers-copy, HasBuffers-gone}
+use Rattle.tss_values.proofs.buffers.Quiet.{HasBuffers-quiet, HasBuffers-use, HasBuffers-idle, HasBuffers-retire}
+use Rattle.tss_values.proofs.buffers.Quiet.{HasBuffers-copy, HasBuffers-gone}
 use Rattle.tss_values.proofs.buffers.Released.{HasBuffers-release, HasBuffers-nack}
 use Rattle.tss_values.proofs.buffers.Opened.{HasBuffers-open}
 use Rattle.tss_values.proofs.buffers.Decoded.{HasBuffers-decode}
@@ -110,7 +114,7 @@ module _ (m : Machine) (ts : List Task) (S : State) (round : IsRounded S ts) (h 
   by_main us (Some call) k = same_main us (main_call m.limits S.home S.main call) k
 
   -- main
-  pub HasBuffers-main : IsEnabled m S event.Main
+  HasBuffers-main : IsEnabled m S event.Main
       → HasBuffers (round_after_event m S ts event.Main) (after_event m S event.Main)
   unfolding is_enabled after_event
   HasBuffers-main on =
@@ -123,7 +127,7 @@ module _ (m : Machine) (S : State) (facts : Facts m S) where
   open facts use {all, ts, ground}
 
   -- by the event
-  pub HasBuffers-after_event : HasBuffers ts S → (e : Event) → IsEnabled m S e
+  HasBuffers-after_event : HasBuffers ts S → (e : Event) → IsEnabled m S e
       → HasBuffers (round_after_event m S ts e) (after_event m S e)
   HasBuffers-after_event h event.Main on = HasBuffers-main m ts S ground.round h on
   HasBuffers-after_event h event.Take on = HasBuffers-quiet m ts S h event.Take tt
@@ -145,7 +149,7 @@ module _ (m : Machine) (S : State) (facts : Facts m S) where
   HasBuffers-after_event h (event.Gone v) on = HasBuffers-gone m ts S h all ground.places v on
 
 -- the first state has no buffer
-pub HasBuffers-initial_state : (i : ImageState) → HasBuffers [] (initial_state i)
+HasBuffers-initial_state : (i : ImageState) → HasBuffers [] (initial_state i)
 HasBuffers-initial_state i =
     let none : (v b : OpName) → HasBuffer (initial_state i) v b → ⊥ = λ v b t. elim t [
       | inl q ↦ none-some q.0 (sym (get-empty name_cmp v) ∙ q.1)

@@ -1,5 +1,6 @@
 -- What a state has to keep so that each buffer has one holder, and what a settle leaves of them.
-use Rattle.std.proofs.Common.{◌≡◌, ◌≢◌, ◌⊎◌, inl, inr, ℕ, ◌<◌, ◌≤◌, List, ◌∷◌, Option, Some, None, refl, sym, ap, ◌∙◌, subst, arith}
+use Rattle.std.proofs.Common.{◌≡◌, ◌≢◌, ◌⊎◌, inl, inr, ℕ, ◌<◌, ◌≤◌, List, ◌∷◌, Option, Some, None, refl, sym, ap, ◌∙◌}
+use Rattle.std.proofs.Common.{subst, arith}
 use Rattle.std.specs.FinMap.{get}
 use Rattle.std.proofs.lemmas.Option.{none-some, same_Some}
 use Rattle.tss_base.specs.declared.operand.OpName.{OpName}
@@ -18,7 +19,8 @@ use Rattle.tss_values.specs.Buffers.{OpenHas, VersionHas, GoneHas, CopyHas, HasB
 use Rattle.tss_protocol.proofs.SettleCases.{OthersSettled}
 use Rattle.tss_control.proofs.chains.Settled.{chains_next}
 use Rattle.tss_protocol.proofs.SentLemmas.{AllSent}
-use Rattle.tss_values.proofs.buffers.Settled.{KeepsStorages, IsNoGone, gones_kept, LeavesAll, GivesStorage, TakesStorage, SettlesBuffers, settles_buffers}
+use Rattle.tss_values.proofs.buffers.Settled.{KeepsStorages, IsNoGone, gones_kept, LeavesAll, GivesStorage}
+use Rattle.tss_values.proofs.buffers.Settled.{TakesStorage, SettlesBuffers, settles_buffers}
 
 -- ---- holders
 
@@ -57,7 +59,7 @@ pub record SameHolders (S T : State) : Type 0 where
   pub buffers : T.buffers ≡ S.buffers
 
 -- a version that keeps its storage had the buffer
-pub version_had : (S : State) (us : Named Version) → KeepsStorages S.versions us → (v b : OpName) (y : Version)
+version_had : (S : State) (us : Named Version) → KeepsStorages S.versions us → (v b : OpName) (y : Version)
     → get us v ≡ Some y → y.storage ≡ Some (Buffer b) → VersionHas S v b
 version_had S us k v b y e s = let h = k v y e in (h.0, h.1, sym h.2 ∙ s)
 
@@ -73,7 +75,7 @@ HasBuffers-same ts S T k h = buffers_kept ts S T h (record {
 -- ---- a buffer passes on
 
 -- v has given its buffer to s, and has none
-pub record GivesBuffer (ts : List Task) (S T : State) (v s : OpName) : Type 0 where
+record GivesBuffer (ts : List Task) (S T : State) (v s : OpName) : Type 0 where
   pub buffers : T.buffers ≡ S.buffers
   pub from : (w b : OpName) → HasBuffer T w b → HasBuffer S w b ⊎ ((w ≡ s) × HasBuffer S v b)
   pub free : (b : OpName) → HasBuffer T v b → ⊥
@@ -121,7 +123,7 @@ module _ (ts : List Task) (S T : State) (v s : OpName) (h : HasBuffers ts S) (k 
       )
 
   -- each buffer has one holder
-  pub buffers_given : HasBuffers ts T
+  buffers_given : HasBuffers ts T
   buffers_given = record {
     held = λ w b t. held_then w b (k.from w b t);
     one = λ w u b t r. one_then w u b t r (k.from w b t) (k.from u b r);

@@ -14,8 +14,10 @@ use Rattle.tss_maps.proofs.Keys.{name_order}
 use Rattle.tss_maps.proofs.Changes.{from_inserted, from_removed}
 use Rattle.tss_protocol.specs.Mail.{Buffer, OpenContents, Message, posted_all, taken}
 use Rattle.tss_protocol.specs.State.{State, Version}
-use Rattle.tss_protocol.specs.Versions.{Versioned, ready_with, put_version, first_version, followed, opened_first, opened_how, opened_by, settled, is_followable}
-use Rattle.tss_protocol.specs.UnitMachine.{IsEnabled, is_enabled, after_event, without, open_message_taken, can_open_message}
+use Rattle.tss_protocol.specs.Versions.{Versioned, ready_with, put_version, first_version, followed, opened_first}
+use Rattle.tss_protocol.specs.Versions.{opened_how, opened_by, settled, is_followable}
+use Rattle.tss_protocol.specs.UnitMachine.{IsEnabled, is_enabled, after_event, without, open_message_taken}
+use Rattle.tss_protocol.specs.UnitMachine.{can_open_message}
 use Rattle.tss_phases.proofs.Tests.{something}
 use Rattle.tss_control.specs.Chains.{HasChains}
 use Rattle.tss_values.specs.Buffers.{HasBuffer, HasBuffers}

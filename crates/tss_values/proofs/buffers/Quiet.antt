@@ -16,8 +16,11 @@ use Rattle.tss_protocol.specs.Mail.{StorageName, Home, Buffer, IdleContents, Gon
 use Rattle.tss_protocol.specs.State.{State, Entry, Version, CopyState}
 use Rattle.tss_protocol.specs.Renaming.{idle_by, may_retire, buffers_after_gone}
 use Rattle.tss_protocol.specs.Versions.{Versioned, enlisted, used_alone, used_behind, used_at, ready_with}
-use Rattle.tss_protocol.specs.Buffers.{can_retire_from, sent_by_retire, copies_after_retire, copies_after_copy, sent_by_copy, is_last_piece}
-use Rattle.tss_protocol.specs.UnitMachine.{IsEnabled, is_enabled, after_event, without, use_message_taken, idle_message_taken, can_retire, retire_version, after_copy, gone_message_taken}
+use Rattle.tss_protocol.specs.Buffers.{can_retire_from, sent_by_retire, copies_after_retire, copies_after_copy}
+use Rattle.tss_protocol.specs.Buffers.{sent_by_copy, is_last_piece}
+use Rattle.tss_protocol.specs.UnitMachine.{IsEnabled, is_enabled, after_event, without, use_message_taken}
+use Rattle.tss_protocol.specs.UnitMachine.{idle_message_taken, can_retire, retire_version, after_copy}
+use Rattle.tss_protocol.specs.UnitMachine.{gone_message_taken}
 use Rattle.tss_phases.proofs.Tests.{both}
 use Rattle.tss_locality.proofs.LeftFields.{Leaves-after_event}
 use Rattle.tss_names.specs.Held.{HasHeldPlaces}

@@ -9,8 +9,10 @@ use Rattle.tss_base.specs.declared.event.Event.TheVariants as event
 use Rattle.tss_base.specs.Names.{Named}
 use Rattle.tss_protocol.specs.Mail.{ReleaseContents, Message, Bye, Mail, posted_all, taken}
 use Rattle.tss_protocol.specs.State.{State, Version}
-use Rattle.tss_protocol.specs.Versions.{Versioned, put_version, head_ready, produced_now, released_once, is_last, released_by, released_at, refused_once, nacked_at, settled}
-use Rattle.tss_protocol.specs.UnitMachine.{IsEnabled, is_enabled, after_event, without, with_versioned, release_message_taken}
+use Rattle.tss_protocol.specs.Versions.{Versioned, put_version, head_ready, produced_now, released_once, is_last}
+use Rattle.tss_protocol.specs.Versions.{released_by, released_at, refused_once, nacked_at, settled}
+use Rattle.tss_protocol.specs.UnitMachine.{IsEnabled, is_enabled, after_event, without, with_versioned}
+use Rattle.tss_protocol.specs.UnitMachine.{release_message_taken}
 use Rattle.tss_control.specs.Chains.{HasChains}
 use Rattle.tss_values.specs.Buffers.{HasBuffers}
 use Rattle.tss_protocol.proofs.SentLemmas.{AllSent, AllSent-append, posted_all-later, settled-later}
@@ -73,7 +75,7 @@ module _ (m : Machine) (S : State) (facts : Facts m S) (h : HasBuffers facts.ts 
     Settled = record S { versions = (settled vs v).part; mail = posted_all k (ms ++ (settled vs v).sent) }
 
     -- the whole
-    pub buffers_then : HasBuffers ts Settled
+    buffers_then : HasBuffers ts Settled
     buffers_then =
         let same = posted_all-nothing k ms nothing in
         let sent = posted_all-append k ms (settled vs v).sent in

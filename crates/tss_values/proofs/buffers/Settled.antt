@@ -1,23 +1,27 @@
 -- What a settle leaves of buffers: each version keeps its storage, but for one that takes over that of the version
 -- which went, and the version that went takes its buffer with it where nobody takes it over.
-use Rattle.std.proofs.Common.{◌≡◌, ◌≢◌, ◌⊎◌, inl, inr, false, List, [], ◌∷◌, Option, Some, None, refl, sym, ap, ◌∙◌, subst}
+use Rattle.std.proofs.Common.{◌≡◌, ◌≢◌, ◌⊎◌, inl, inr, false, List, [], ◌∷◌, Option, Some, None, refl, sym, ap, ◌∙◌}
+use Rattle.std.proofs.Common.{subst}
 use Rattle.std.specs.FinMap.{get}
 use Rattle.tss_base.specs.declared.operand.OpName.{OpName}
 use Rattle.tss_base.specs.declared.marks.Follow.{Follow}
 use Rattle.tss_base.specs.Names.{Named}
 use Rattle.tss_maps.proofs.Keys.{name_order}
 use Rattle.tss_maps.proofs.Changes.{from_inserted, from_removed}
-use Rattle.tss_protocol.specs.Mail.{StorageName, GoneContents, Message, Decode, Ack, Open, Use, Ready, Link, Release, Bye, Idle, Nack, Retire, Gone, Mail, posted, posted_all}
+use Rattle.tss_protocol.specs.Mail.{StorageName, GoneContents, Message, Decode, Ack, Open, Use, Ready, Link, Release}
+use Rattle.tss_protocol.specs.Mail.{Bye, Idle, Nack, Retire, Gone, Mail, posted, posted_all}
 use Rattle.tss_protocol.specs.State.{Version}
-use Rattle.tss_protocol.specs.Versions.{Versioned, put_version, drop_version, change_named, buffer_of, followed_by, unlinked, settle_over, settled, ready_with}
+use Rattle.tss_protocol.specs.Versions.{Versioned, put_version, drop_version, change_named, buffer_of, followed_by}
+use Rattle.tss_protocol.specs.Versions.{unlinked, settle_over, settled, ready_with}
 use Rattle.tss_protocol.proofs.SentLemmas.{AllSent}
-use Rattle.tss_protocol.proofs.SettleCases.{OthersSettled, HasNext, IsQuiet, Asks, IsTakenOver, IsPassedBy, SettleCase, settle_cases}
+use Rattle.tss_protocol.proofs.SettleCases.{OthersSettled, HasNext, IsQuiet, Asks, IsTakenOver, IsPassedBy, SettleCase}
+use Rattle.tss_protocol.proofs.SettleCases.{settle_cases}
 use Rattle.tss_control.proofs.readers.Told.{IsChanged, from_changed, IsNamedChange, from_named}
 
 -- ---- versions that keep their storages
 
 -- a version that was there has the same storage
-abbrev pub HadStorage : Named Version → OpName → Version → Type 0
+abbrev HadStorage : Named Version → OpName → Version → Type 0
 HadStorage vs w z = (y : Version) × (get vs w ≡ Some y) × (z.storage ≡ y.storage)
 
 -- all versions were there, with their storages
@@ -42,7 +46,7 @@ module _ (vs : Named Version) (v : OpName) (x : Version) (s : OpName) where
   moved y = record y { predecessor = x.predecessor }
 
   -- a version that gives way leaves the others' storages
-  pub unlinked_storages : (w : OpName) (z : Version) → get (unlinked vs v x s) w ≡ Some z → (w ≢ v) × HadStorage vs w z
+  unlinked_storages : (w : OpName) (z : Version) → get (unlinked vs v x s) w ≡ Some z → (w ≢ v) × HadStorage vs w z
   unlinked_storages w z e =
       let h = from_changed (change_named (drop_version vs v) x.predecessor bridge) s moved w z e in
       let k = from_named (drop_version vs v) x.predecessor bridge w h.0 h.1 in
@@ -91,7 +95,7 @@ gones_kept m [] h = refl
 gones_kept m (x ∷ xs) h = gones_kept (posted m x) xs h.1 ∙ posted-no_gone m x h.0
 
 -- a ready is one of them
-pub ready_no_gone : (o v : OpName) (s : Option StorageName) → AllSent IsNoGone (ready_with o v s)
+ready_no_gone : (o v : OpName) (s : Option StorageName) → AllSent IsNoGone (ready_with o v s)
 ready_no_gone o v None = tt
 ready_no_gone o v (Some s) = (tt, tt)
 

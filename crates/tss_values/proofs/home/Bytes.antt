@@ -1,6 +1,7 @@
 -- Home and the memory of program order have a byte at each address of an object of the round: it lies in a range of
 -- memory, and what was loaded stays.
-use Rattle.std.proofs.Common.{◌≡◌, ℕ, suc, Bool, true, false, List, [], ◌∷◌, length, Option, Some, None, refl, sym, ap, ◌∙◌, subst}
+use Rattle.std.proofs.Common.{◌≡◌, ℕ, suc, Bool, true, false, List, [], ◌∷◌, length, Option, Some, None, refl, sym, ap}
+use Rattle.std.proofs.Common.{◌∙◌, subst}
 use Rattle.std.specs.Prelude.{◌==◌, cond, slice_get, Result, Ok, Err}
 use Rattle.std.proofs.lemmas.Option.{none-some, same_Some}
 use Rattle.tss_base.specs.declared.operand.OpName.{OpName}
@@ -51,7 +52,7 @@ HasBytes-after_event i m S e bytes a h = kept-after_event a m S (bytes a h) e
 -- ---- objects
 
 -- the objects of a task lie in ranges of memory
-abbrev pub HasPlacedObjects : ImageState → Task → Type 0
+abbrev HasPlacedObjects : ImageState → Task → Type 0
 HasPlacedObjects i t =
     (k : ℕ) (o : Operand)
     → slice_get (operands_of t) k ≡ Some o

@@ -1,6 +1,7 @@
 -- What stands at home is right after a decode: an operand that opens the first version of its object is the first of it
 -- that wasn't decoded.
-use Rattle.std.proofs.Common.{◌≡◌, ◌≢◌, ◌⊎◌, ◌≤◌, ◌<◌, ℕ, true, false, [], ◌∷◌, Option, Some, None, refl, sym, ap, ◌∙◌, subst, inl, inr, arith, true≢false}
+use Rattle.std.proofs.Common.{◌≡◌, ◌≢◌, ◌⊎◌, ◌≤◌, ◌<◌, ℕ, true, false, [], ◌∷◌, Option, Some, None, refl, sym, ap, ◌∙◌}
+use Rattle.std.proofs.Common.{subst, inl, inr, arith, true≢false}
 use Rattle.std.specs.FinMap.{get, insert}
 use Rattle.std.proofs.lemmas.Option.{none-some, same_Some}
 use Rattle.tss_base.specs.declared.range.Range.{Range}
@@ -17,13 +18,15 @@ use Rattle.tss_model.specs.Memory.{bytes_of}
 use Rattle.tss_protocol.specs.Names.{bank_of}
 use Rattle.tss_protocol.specs.Mail.{OpenContents, Ack, taken, posted_all}
 use Rattle.tss_protocol.specs.Renaming.{HasTurn, entry_after_decode, live_message, sent_by_decode}
-use Rattle.tss_protocol.specs.UnitMachine.{is_enabled, IsEnabled, after_event, without, can_decode_message, decode_message_taken}
+use Rattle.tss_protocol.specs.UnitMachine.{is_enabled, IsEnabled, after_event, without, can_decode_message}
+use Rattle.tss_protocol.specs.UnitMachine.{decode_message_taken}
 use Rattle.tss_protocol.specs.State.{State, Entry}
 use Rattle.tss_protocol.proofs.TurnLemmas.{decode_in_turn}
 use Rattle.tss_phases.specs.Phase.{is_decoded, phase_of, LookUps}
 use Rattle.tss_phases.specs.Orderly.{AreOrderly}
 use Rattle.tss_control.specs.Members.{operand_among}
-use Rattle.tss_phases.proofs.DecodeEvent.{decoding_before, phase_of-decode, phase_of-decode-other, look_ups-decode-other}
+use Rattle.tss_phases.proofs.DecodeEvent.{decoding_before, phase_of-decode, phase_of-decode-other}
+use Rattle.tss_phases.proofs.DecodeEvent.{look_ups-decode-other}
 use Rattle.tss_phases.proofs.Tests.{something}
 use Rattle.tss_locality.proofs.LeftFields.{Leaves-after_event}
 use Rattle.tss_program_order.specs.MainInOrder.{flat_beside}
@@ -50,7 +53,7 @@ module _ (m : Machine) (S : State) (basis : Basis m S) (orderly : AreOrderly S) 
       (ap (bank_of m.sizes) object)) ∙ early)
 
   -- so it is the first of its object that hasn't
-  pub decode_first : HasTurn m.sizes S.mail.decodes o p
+  decode_first : HasTurn m.sizes S.mail.decodes o p
       → is_decoded (phase_of S o) ≡ false → IsFirstAhead ts S p.object o p
   decode_first turn early = record {
     operand = decode_among m S basis orderly o p there;

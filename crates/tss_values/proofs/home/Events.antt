@@ -18,9 +18,11 @@ use Rattle.tss_protocol.specs.State.{State, Entry, Version}
 use Rattle.tss_protocol.specs.Renaming.{may_retire, retiring_entry, idle_by, after_idle}
 use Rattle.tss_protocol.specs.Versions.{after_open, after_use, after_release, after_nack}
 use Rattle.tss_protocol.specs.Buffers.{sent_by_retire}
-use Rattle.tss_protocol.specs.UnitMachine.{is_enabled, IsEnabled, after_event, without, can_take, open_message_taken, use_message_taken, release_message_taken, idle_message_taken, retire_version}
+use Rattle.tss_protocol.specs.UnitMachine.{is_enabled, IsEnabled, after_event, without, can_take, open_message_taken}
+use Rattle.tss_protocol.specs.UnitMachine.{use_message_taken, release_message_taken, idle_message_taken, retire_version}
 use Rattle.tss_phases.specs.Phase.{is_decoded, phase_of, LookUps}
-use Rattle.tss_phases.proofs.TakeEvent.{inbox_is_ahead, phase_of-take, phase_of-take-other, look_ups-take, look_ups-take-other, decodes_own}
+use Rattle.tss_phases.proofs.TakeEvent.{inbox_is_ahead, phase_of-take, phase_of-take-other, look_ups-take}
+use Rattle.tss_phases.proofs.TakeEvent.{look_ups-take-other, decodes_own}
 use Rattle.tss_phases.proofs.OrderlyLemmas.{ahead_by_test}
 use Rattle.tss_phases.proofs.QuietEvents.{phase_of-ack}
 use Rattle.tss_phases.proofs.Tests.{something}
@@ -30,17 +32,19 @@ use Rattle.tss_locality.proofs.LeftFields.{Leaves-after_event}
 use Rattle.tss_names.specs.Tasks.{task_at}
 use Rattle.tss_control.specs.Members.{operand_among}
 use Rattle.tss_protocol.proofs.FrontLemmas.{is_of_front}
-use Rattle.tss_protocol.proofs.SentLemmas.{posted_all-later, after_open-later, after_use-later, after_release-later, after_nack-later, after_idle-later, sent_by_retire-later}
+use Rattle.tss_protocol.proofs.SentLemmas.{posted_all-later, after_open-later, after_use-later, after_release-later}
+use Rattle.tss_protocol.proofs.SentLemmas.{after_nack-later, after_idle-later, sent_by_retire-later}
 use Rattle.tss_control.proofs.rounds.EntriesQuiet.{quiet_objects}
 use Rattle.tss_values.proofs.Values.{HasHome, IsUnclaimed}
 use Rattle.tss_control.proofs.holders.KeepsOrder.{AreOrderly-controlled}
-use Rattle.tss_values.proofs.home.Kept.{home_kept, decoded_kept, EntriesStay, stay_absent, stay_loose, stay_unclaimed, later_unclaimed}
+use Rattle.tss_values.proofs.home.Kept.{home_kept, decoded_kept, EntriesStay, stay_absent, stay_loose, stay_unclaimed}
+use Rattle.tss_values.proofs.home.Kept.{later_unclaimed}
 use Rattle.tss_control.proofs.rounds.Facts.{Facts}
 use Rattle.tss_protocol.specs.Names.{operand_name}
 use Rattle.tss_protocol.specs.Stations.{operand_at, flight_after_take}
 
 -- opens that are under way were so before
-abbrev pub NoMoreOpens : Mail → Mail → Type 0
+abbrev NoMoreOpens : Mail → Mail → Type 0
 NoMoreOpens m n = (o : OpName) (c : OpenContents) → get n.opens o ≡ Some c → get m.opens o ≡ Some c
 
 same_opens : (m n : Mail) → n.opens ≡ m.opens → NoMoreOpens m n

@@ -1,6 +1,7 @@
 -- What stands at home after a gone: an object that loses its entry has there what its last version had, which is what
 -- the next operand on it, or main, has in program order.
-use Rattle.std.proofs.Common.{◌≡◌, ℕ, suc, ◌+◌, ◌-◌, ◌<◌, ◌≤◌, ◌⊎◌, inl, inr, Bool, true, false, Option, Some, None, refl, sym, ap, ◌∙◌, subst, arith}
+use Rattle.std.proofs.Common.{◌≡◌, ℕ, suc, ◌+◌, ◌-◌, ◌<◌, ◌≤◌, ◌⊎◌, inl, inr, Bool, true, false, Option, Some, None}
+use Rattle.std.proofs.Common.{refl, sym, ap, ◌∙◌, subst, arith}
 use Rattle.std.specs.Prelude.{is_some}
 use Rattle.std.specs.FinMap.{get, remove}
 use Rattle.tss_base.specs.declared.range.Range.{Range}
@@ -34,7 +35,8 @@ use Rattle.tss_control.proofs.holders.KeepsOrder.{AreOrderly-controlled}
 use Rattle.tss_values.proofs.home.Bytes.{HasBytes, HasBytes-in_order, HavePlacedObjects, object_loaded}
 use Rattle.tss_values.proofs.MainEndings.{EndsItself, no_task_trap}
 use Rattle.tss_values.proofs.NamingLemmas.{found_last}
-use Rattle.tss_values.proofs.Values.{Starts, RunsOut, IsGood, bytes_before, bytes_after, HasReturns, IsFirstAhead, HasHome, HasMain, HasNaming, IsInside, IsLive, IsUnclaimed}
+use Rattle.tss_values.proofs.Values.{Starts, RunsOut, IsGood, bytes_before, bytes_after, HasReturns, IsFirstAhead}
+use Rattle.tss_values.proofs.Values.{HasHome, HasMain, HasNaming, IsInside, IsLive, IsUnclaimed}
 use Rattle.tss_values.proofs.home.Kept.{home_kept, decoded_kept, EntriesStay, stay_absent, later_unclaimed}
 use Rattle.tss_values.proofs.UndecodedOperands.{byte_of, there_same, decide_inside, decoded_older, undecoded_at}
 use Rattle.tss_control.proofs.rounds.Facts.{Facts}

@@ -34,7 +34,7 @@ pub record KeepsHome (ts : List Task) (S T : State) : Type 0 where
       → is_decoded (phase_of T o) ≡ is_decoded (phase_of S o)
 
 -- the first operand that isn't decoded is the same
-pub first_kept : (ts : List Task) (S T : State) → KeepsHome ts S T → (x : Range) (o : OpName) (p : Operand)
+first_kept : (ts : List Task) (S T : State) → KeepsHome ts S T → (x : Range) (o : OpName) (p : Operand)
     → IsFirstAhead ts T x o p → IsFirstAhead ts S x o p
 first_kept ts S T k x o p f = record {
   operand = f.operand;

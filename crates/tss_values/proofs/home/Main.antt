@@ -1,6 +1,7 @@
 -- What stands at home after main's event: its stores lie beside all named objects, and the first operand on an object
 -- finds what main has there.
-use Rattle.std.proofs.Common.{◌≡◌, ℕ, suc, ◌⊎◌, inl, inr, Bool, true, false, List, Option, Some, None, refl, sym, ap, ◌∙◌, subst, arith}
+use Rattle.std.proofs.Common.{◌≡◌, ℕ, suc, ◌⊎◌, inl, inr, Bool, true, false, List, Option, Some, None, refl, sym, ap}
+use Rattle.std.proofs.Common.{◌∙◌, subst, arith}
 use Rattle.std.specs.Prelude.{is_some, unwrap_or, slice_get}
 use Rattle.std.specs.List.{list_any}
 use Rattle.std.specs.FinMap.{get}
@@ -27,7 +28,8 @@ use Rattle.tss_locality.specs.Rounds.{IsRounded, IsIn}
 use Rattle.tss_locality.proofs.Subjects.{arrival_task}
 use Rattle.tss_locality.proofs.RunRounds.{IsRounded-after_event}
 use Rattle.tss_control.specs.Members.{operand_among}
-use Rattle.tss_program_order.specs.MainInOrder.{Agrees, FollowsAfter, IsCutOff, flat_beside, started_next, inbox_with, is_operand_of}
+use Rattle.tss_program_order.specs.MainInOrder.{Agrees, FollowsAfter, IsCutOff, flat_beside, started_next, inbox_with}
+use Rattle.tss_program_order.specs.MainInOrder.{is_operand_of}
 use Rattle.tss_program_order.proofs.FlatLoads.{same_bytes}
 use Rattle.tss_program_order.proofs.FlatNumbers.{one_place}
 use Rattle.tss_program_order.proofs.FlatOrder.{steps_taken-on, started_at-by}

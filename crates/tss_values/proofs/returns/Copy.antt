@@ -1,5 +1,6 @@
 -- What is brought home after a copy: the next bytes of the buffer, and after the last ones all of them.
-use Rattle.std.proofs.Common.{◌≡◌, ◌≢◌, ℕ, ◌+◌, ◌-◌, ◌<◌, ◌≤◌, ◌⊎◌, nat_le, Bool, true, false, List, length, take, min, Some, refl, sym, ap, ◌∙◌, subst, inl, inr, arith}
+use Rattle.std.proofs.Common.{◌≡◌, ◌≢◌, ℕ, ◌+◌, ◌-◌, ◌<◌, ◌≤◌, ◌⊎◌, nat_le, Bool, true, false, List, length, take, min}
+use Rattle.std.proofs.Common.{Some, refl, sym, ap, ◌∙◌, subst, inl, inr, arith}
 use Rattle.std.proofs.lemmas.Bool.Decides.{nat_tests}
 use Rattle.std.specs.Prelude.{is_some, slice_index}
 use Rattle.std.specs.FinMap.{get}
@@ -17,7 +18,8 @@ use Rattle.tss_protocol.specs.Names.{bank_of}
 use Rattle.tss_protocol.specs.Mail.{Buffer, GoneContents, posted_all}
 use Rattle.tss_protocol.specs.State.{State, CopyState}
 use Rattle.tss_protocol.specs.Versions.{retired}
-use Rattle.tss_protocol.specs.Buffers.{buffer_bytes, piece_len, is_last_piece, home_after_copy, copies_after_copy, sent_by_copy}
+use Rattle.tss_protocol.specs.Buffers.{buffer_bytes, piece_len, is_last_piece, home_after_copy, copies_after_copy}
+use Rattle.tss_protocol.specs.Buffers.{sent_by_copy}
 use Rattle.tss_protocol.specs.UnitMachine.{IsEnabled, is_enabled, after_event, after_copy, stores_of}
 use Rattle.tss_phases.proofs.Tests.{something}
 use Rattle.tss_locality.specs.Rounds.{object_in, IsIn}
@@ -61,7 +63,7 @@ module _ (m : Machine) (S : State) (facts : Facts m S) where
   open facts use {basis, ts, control as k}
 
   -- of two versions of one object that go home both are its latest
-  pub one_going : (x : Range) (v w : OpName) → object_in ts v ≡ Some x → IsGoingHome S x v → IsGoingHome S x w → v ≡ w
+  one_going : (x : Range) (v w : OpName) → object_in ts v ≡ Some x → IsGoingHome S x v → IsGoingHome S x w → v ≡ w
   one_going x v w named a b = by_retiring own.entry.retiring refl
     where
       own : HasEntryOf S x

@@ -40,7 +40,7 @@ module _ (m : Machine) (i : ImageState) (S : State) (facts : Facts m S) where
       omega (arith, small, roomy, same)
 
   -- not a worker's start, and not one of its stretches
-  abbrev pub IsBesideWorkers : Event → Type 0
+  abbrev IsBesideWorkers : Event → Type 0
   IsBesideWorkers (event.Start w) = ⊥
   IsBesideWorkers (event.Exec w) = ⊥
   IsBesideWorkers e = Unit {0}

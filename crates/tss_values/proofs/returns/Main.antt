@@ -1,5 +1,6 @@
 -- Main leaves what is brought home: it stores nothing in an object that it has named.
-use Rattle.std.proofs.Common.{◌≡◌, ℕ, Bool, true, false, List, [], ◌∷◌, append-nil, Option, Some, None, refl, sym, ap, ◌∙◌, subst, inl, inr}
+use Rattle.std.proofs.Common.{◌≡◌, ℕ, Bool, true, false, List, [], ◌∷◌, append-nil, Option, Some, None, refl, sym, ap}
+use Rattle.std.proofs.Common.{◌∙◌, subst, inl, inr}
 use Rattle.std.specs.Prelude.{unwrap_or, ◌||◌}
 use Rattle.std.specs.List.{list_any}
 use Rattle.std.specs.FinMap.{get}
@@ -44,7 +45,7 @@ or_right true b e = refl
 or_right false b e = e
 
 -- a member of a list is found in it
-pub found_member : (x : Range) (xs : List Range) → IsIn x xs → Has xs x
+found_member : (x : Range) (xs : List Range) → IsIn x xs → Has xs x
 found_member x [] h = absurd h
 found_member x (y ∷ ys) (inl same) =
     or_left (same_range x y) (list_any (same_range x) ys) (ap (same_range x) same ∙ same_range-refl x)

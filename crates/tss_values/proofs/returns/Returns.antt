@@ -1,5 +1,6 @@
 -- What is copied home, or has come there: the events that leave it.
-use Rattle.std.proofs.Common.{◌≡◌, ℕ, ◌+◌, ◌<◌, ◌≤◌, nat_le, nat_lt, Bool, true, false, List, take, Option, Some, None, sym, ap, ◌∙◌, arith}
+use Rattle.std.proofs.Common.{◌≡◌, ℕ, ◌+◌, ◌<◌, ◌≤◌, nat_le, nat_lt, Bool, true, false, List, take, Option, Some, None}
+use Rattle.std.proofs.Common.{sym, ap, ◌∙◌, arith}
 use Rattle.std.specs.Prelude.{slice_index}
 use Rattle.std.specs.FinMap.{get}
 use Rattle.std.proofs.lemmas.Bool.{and_from, le-leb, lt-ltb}
@@ -19,11 +20,14 @@ use Rattle.tss_protocol.specs.Mail.{OpenContents, ReleaseContents, IdleContents,
 use Rattle.tss_protocol.specs.State.{State, Entry, CopyState}
 use Rattle.tss_protocol.specs.Renaming.{idle_by, may_retire, sent_by_decode, live_message, decode_message}
 use Rattle.tss_protocol.specs.Buffers.{buffer_bytes}
-use Rattle.tss_protocol.specs.UnitMachine.{after_event, without, decode_message_taken, open_message_taken, use_message_taken, release_message_taken, idle_message_taken, nack_message_taken}
+use Rattle.tss_protocol.specs.UnitMachine.{after_event, without, decode_message_taken, open_message_taken}
+use Rattle.tss_protocol.specs.UnitMachine.{use_message_taken, release_message_taken, idle_message_taken}
+use Rattle.tss_protocol.specs.UnitMachine.{nack_message_taken}
 use Rattle.tss_locality.proofs.LeftFields.{Leaves-after_event}
 use Rattle.tss_program_order.proofs.FlatLoads.{same_bytes}
 use Rattle.tss_control.proofs.rounds.EntriesQuiet.{quiet_objects}
-use Rattle.tss_names.proofs.SentUnretired.{IsUnretired, NoMoreRetired, posted_all_unretired, after_open_unretired, after_use_unretired, after_release_unretired, after_nack_unretired}
+use Rattle.tss_names.proofs.SentUnretired.{IsUnretired, NoMoreRetired, posted_all_unretired, after_open_unretired}
+use Rattle.tss_names.proofs.SentUnretired.{after_use_unretired, after_release_unretired, after_nack_unretired}
 use Rattle.tss_values.proofs.Values.{HasReturns}
 
 -- home has the same bytes of an object
@@ -71,7 +75,7 @@ returns_kept m i ts S T k h = record {
 }
 
 -- where copies, buffers and home are left, and nothing more has retired
-pub returns_same : (S T : State) → T.copies ≡ S.copies → T.contents ≡ S.contents → T.home ≡ S.home
+returns_same : (S T : State) → T.copies ≡ S.copies → T.contents ≡ S.contents → T.home ≡ S.home
     → NoMoreRetired S.mail T.mail → KeepsReturns S T
 returns_same S T copies contents home gones = record {
   copies = λ bank c at. (
@@ -135,7 +139,7 @@ module _ (m : Machine) (S : State) where
   retired_nack v = posted_all_unretired (taken S.mail (event.Nack v)) _ (after_nack_unretired S.versions v)
 
   -- the events that bring nothing home
-  abbrev pub StaysAbroad : Event → Type 0
+  abbrev StaysAbroad : Event → Type 0
   StaysAbroad event.Main = ⊥
   StaysAbroad (event.Start w) = ⊥
   StaysAbroad (event.Exec w) = ⊥

@@ -1,5 +1,6 @@
 -- No event but a start begins a task that is in flight.
-use Rattle.std.proofs.Common.{◌≡◌, ◌≢◌, ◌⊎◌, inl, inr, ℕ, Bool, true, false, List, Option, Some, None, refl, sym, ap, subst, ◌∙◌, arith}
+use Rattle.std.proofs.Common.{◌≡◌, ◌≢◌, ◌⊎◌, inl, inr, ℕ, Bool, true, false, List, Option, Some, None, refl, sym, ap}
+use Rattle.std.proofs.Common.{subst, ◌∙◌, arith}
 use Rattle.std.specs.Prelude.{cond, slice_get}
 use Rattle.std.specs.List.{list_all}
 use Rattle.std.specs.FinMap.{get, insert, remove}
@@ -16,13 +17,17 @@ use Rattle.tss_maps.proofs.Keys.{nat_order, decide_key}
 use Rattle.tss_maps.proofs.Changes.{at_inserted, beside_inserted, beside_removed}
 use Rattle.tss_protocol.specs.Mail.{Source}
 use Rattle.tss_protocol.specs.State.{State, OperandState, Flying, Busy}
-use Rattle.tss_protocol.specs.Stations.{has_finished, has_left, is_gone, is_complete, remaining_tasks, entered, with_operand, awaited, woken_by, woken_in, task_after_ready, linked_by, linked_in, operand_after_link, parted_by, parted_in, operand_after_bye, finished_in}
-use Rattle.tss_protocol.specs.UnitMachine.{after_event, without, after_take, ready_message_taken, link_message_taken, bye_message_taken, after_finish}
+use Rattle.tss_protocol.specs.Stations.{has_finished, has_left, is_gone, is_complete, remaining_tasks, entered}
+use Rattle.tss_protocol.specs.Stations.{with_operand, awaited, woken_by, woken_in, task_after_ready, linked_by}
+use Rattle.tss_protocol.specs.Stations.{linked_in, operand_after_link, parted_by, parted_in, operand_after_bye}
+use Rattle.tss_protocol.specs.Stations.{finished_in}
+use Rattle.tss_protocol.specs.UnitMachine.{after_event, without, after_take, ready_message_taken, link_message_taken}
+use Rattle.tss_protocol.specs.UnitMachine.{bye_message_taken, after_finish}
 use Rattle.tss_names.specs.Tasks.{taken_by, HasTaskNumbers}
 use Rattle.tss_control.specs.Runners.{HasRunners}
 
 -- it runs or has finished
-abbrev pub IsUnderWay : Flying → Type 0
+abbrev IsUnderWay : Flying → Type 0
 IsUnderWay x = (x.stage ≡ stage.Running) ⊎ (x.stage ≡ stage.Finished)
 
 -- a task has begun where it is so, if it is in flight

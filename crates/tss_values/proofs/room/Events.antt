@@ -1,5 +1,6 @@
 -- Every event leaves room in the buffers that are set.
-use Rattle.std.proofs.Common.{◌≡◌, ◌⊎◌, inl, inr, ℕ, Bool, true, false, List, [], ◌∷◌, ◌++◌, length, Option, Some, None, refl, sym, ap, subst, ◌∙◌, arith}
+use Rattle.std.proofs.Common.{◌≡◌, ◌⊎◌, inl, inr, ℕ, Bool, true, false, List, [], ◌∷◌, ◌++◌, length, Option, Some, None}
+use Rattle.std.proofs.Common.{refl, sym, ap, subst, ◌∙◌, arith}
 use Rattle.std.specs.Prelude.{◌==◌, is_some, option_to_list}
 use Rattle.std.specs.List.{list_any}
 use Rattle.std.specs.FinMap.{get, get-empty}
@@ -29,7 +30,9 @@ use Rattle.tss_protocol.specs.Stations.{storages_of}
 use Rattle.tss_protocol.specs.Buffers.{buffer_bytes, copies_after_retire, new_copy, is_last_piece, copies_after_copy}
 use Rattle.tss_protocol.specs.MainEvent.{call_next}
 use Rattle.tss_protocol.specs.Needs.{round_after_main, round_after_event}
-use Rattle.tss_protocol.specs.UnitMachine.{IsEnabled, is_enabled, after_event, without, open_message_taken, use_message_taken, release_message_taken, retire_version, start_task, after_start, after_exec, after_copy, gone_message_taken, stores_of}
+use Rattle.tss_protocol.specs.UnitMachine.{IsEnabled, is_enabled, after_event, without, open_message_taken}
+use Rattle.tss_protocol.specs.UnitMachine.{use_message_taken, release_message_taken, retire_version, start_task}
+use Rattle.tss_protocol.specs.UnitMachine.{after_start, after_exec, after_copy, gone_message_taken, stores_of}
 use Rattle.tss_locality.proofs.LeftFields.{Leaves-after_event}
 use Rattle.tss_phases.specs.Phase.{look_ups}
 use Rattle.tss_phases.proofs.OrderlyLemmas.{opening_stands}
@@ -46,7 +49,8 @@ use Rattle.tss_values.proofs.Values.{IsRoomy, IsSet, HasRoom}
 use Rattle.tss_values.proofs.room.Settle.{AreRoomy, roomy_drop}
 use Rattle.tss_values.proofs.room.Versions.{roomy_used, roomy_released, roomy_nacked, roomy_opened}
 use Rattle.tss_values.proofs.room.Stores.{space_started, space_made, size_executed, bytes_beside_gone}
-use Rattle.tss_values.proofs.room.Begun.{BegunIn, BeginsNone, begins_same, begins-ready, begins-link, begins-bye, begins-finish, begins-take}
+use Rattle.tss_values.proofs.room.Begun.{BegunIn, BeginsNone, begins_same, begins-ready, begins-link, begins-bye}
+use Rattle.tss_values.proofs.room.Begun.{begins-finish, begins-take}
 use Rattle.tss_values.proofs.room.Start.{begun_late, produced_set, place_of, queued_storage}
 use Rattle.tss_control.proofs.rounds.Facts.{Facts}
 

@@ -1,6 +1,7 @@
 -- What a settle leaves of the buffers of versions: one that has room is handed on, for only a produced version gives
 -- way.
-use Rattle.std.proofs.Common.{◌≡◌, ◌⊎◌, inl, inr, ℕ, zero, suc, Bool, true, false, Option, Some, None, refl, sym, ◌∙◌, subst}
+use Rattle.std.proofs.Common.{◌≡◌, ◌⊎◌, inl, inr, ℕ, zero, suc, Bool, true, false, Option, Some, None, refl, sym, ◌∙◌}
+use Rattle.std.proofs.Common.{subst}
 use Rattle.std.specs.Prelude.{cond, ◌&&◌, ◌==◌, is_none}
 use Rattle.std.proofs.lemmas.Bool.{and_parts}
 use Rattle.std.specs.FinMap.{get}
@@ -13,7 +14,9 @@ use Rattle.tss_maps.proofs.Keys.{name_order}
 use Rattle.tss_maps.proofs.Changes.{from_inserted, from_removed}
 use Rattle.tss_protocol.specs.Mail.{Buffer}
 use Rattle.tss_protocol.specs.State.{Version}
-use Rattle.tss_protocol.specs.Versions.{Settling, put_version, drop_version, version_changed, change_version, change_named, may_die, may_ask, followed_by, unlinked, settle_asking, settle_how, settle_by, settle_at, settle, settled, unchanged}
+use Rattle.tss_protocol.specs.Versions.{Settling, put_version, drop_version, version_changed, change_version}
+use Rattle.tss_protocol.specs.Versions.{change_named, may_die, may_ask, followed_by, unlinked, settle_asking}
+use Rattle.tss_protocol.specs.Versions.{settle_how, settle_by, settle_at, settle, settled, unchanged}
 
 -- which names are set, and which buffers have room
 module _ (Set : OpName → Type 0) (Roomy : OpName → Type 0) where

@@ -13,7 +13,8 @@ use Rattle.tss_model.specs.Access.{operands_of, reads, writes}
 use Rattle.tss_protocol.specs.Mail.{Source, Buffer}
 use Rattle.tss_protocol.specs.State.{State, OperandState, Flying, Version}
 use Rattle.tss_protocol.specs.Stations.{storage_of, storages_of}
-use Rattle.tss_phases.specs.Phase.{Phase, Ahead, Decoding, Sent, Waiting, Told, Ready, Releasing, Leaving, Promised, Left, phase_of, look_ups}
+use Rattle.tss_phases.specs.Phase.{Phase, Ahead, Decoding, Sent, Waiting, Told, Ready, Releasing, Leaving, Promised}
+use Rattle.tss_phases.specs.Phase.{Left, phase_of, look_ups}
 use Rattle.tss_phases.specs.Openers.{holds_version, has_parted, version_opener, opener_by, open_opener}
 use Rattle.tss_phases.specs.Alone.{HasRecord}
 use Rattle.tss_phases.specs.Orderly.{FitsPhase}

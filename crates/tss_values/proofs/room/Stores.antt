@@ -1,6 +1,7 @@
 -- What start, exec and gone leave of buffers: a start sets those of outputs, a stretch shortens none, and a gone frees
 -- one.
-use Rattle.std.proofs.Common.{◌≡◌, ℕ, zero, suc, ◌≤◌, inl, inr, Bool, true, false, List, [], ◌∷◌, length, Option, Some, None, refl, sym, ap, ◌∙◌, subst, arith}
+use Rattle.std.proofs.Common.{◌≡◌, ℕ, zero, suc, ◌≤◌, inl, inr, Bool, true, false, List, [], ◌∷◌, length, Option, Some}
+use Rattle.std.proofs.Common.{None, refl, sym, ap, ◌∙◌, subst, arith}
 use Rattle.std.specs.Prelude.{cond, ◌-◌, slice_get, nat_le, unwrap_or}
 use Rattle.std.specs.FinMap.{insert}
 use Rattle.std.proofs.lemmas.Option.{none-some, same_Some}
@@ -22,13 +23,15 @@ use Rattle.tss_model.specs.TaskRun.{TaskState, is_over, task_byte, task_write, t
 use Rattle.tss_protocol.specs.Mail.{StorageName, Home, Buffer}
 use Rattle.tss_protocol.specs.State.{Busy}
 use Rattle.tss_protocol.specs.Buffers.{buffer_bytes, contents_after_gone}
-use Rattle.tss_protocol.specs.Workers.{Stores, Placed, placed_in, placed_at, worker_byte, worker_write, write_in, storage_write, storage_zeroed, output_zeroed, outputs_zeroed, exec_stretch, task_state_of}
+use Rattle.tss_protocol.specs.Workers.{Stores, Placed, placed_in, placed_at, worker_byte, worker_write, write_in}
+use Rattle.tss_protocol.specs.Workers.{storage_write, storage_zeroed, output_zeroed, outputs_zeroed, exec_stretch}
+use Rattle.tss_protocol.specs.Workers.{task_state_of}
 use Rattle.tss_program_order.proofs.FlatSteps.{repeated-keeps}
 use Rattle.tss_program_order.proofs.StoreBytes.{buffer_put, buffer_beside, length-list_put}
 use Rattle.tss_program_order.proofs.StoreStart.{length-zeros}
 
 -- how long a buffer is
-abbrev pub size_in : Stores → OpName → ℕ
+abbrev size_in : Stores → OpName → ℕ
 size_in s b = length (buffer_bytes s.contents b)
 
 -- ---- start

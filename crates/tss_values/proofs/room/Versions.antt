@@ -11,7 +11,10 @@ use Rattle.tss_base.specs.declared.marks.Follow.{Follow}
 use Rattle.tss_base.specs.Names.{Named}
 use Rattle.tss_protocol.specs.Mail.{StorageName, Home, Buffer, OpenContents, ReleaseContents}
 use Rattle.tss_protocol.specs.State.{Version}
-use Rattle.tss_protocol.specs.Versions.{put_version, new_version, first_version, followed, opened_how, opened_by, after_open, enlisted, used_alone, used_behind, used_at, after_use, produced_now, released_once, released_by, released_at, after_release, refused_once, nacked_at, after_nack}
+use Rattle.tss_protocol.specs.Versions.{put_version, new_version, first_version, followed, opened_how, opened_by}
+use Rattle.tss_protocol.specs.Versions.{after_open, enlisted, used_alone, used_behind, used_at, after_use, produced_now}
+use Rattle.tss_protocol.specs.Versions.{released_once, released_by, released_at, after_release, refused_once, nacked_at}
+use Rattle.tss_protocol.specs.Versions.{after_nack}
 use Rattle.tss_values.proofs.room.Settle.{RoomyAt, AreRoomy, roomy_put, roomy_change, roomy_settled}
 
 module _ (Set : OpName → Type 0) (Roomy : OpName → Type 0) (vs : Named Version) (h : AreRoomy Set Roomy vs) where

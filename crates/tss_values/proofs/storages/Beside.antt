@@ -1,8 +1,7 @@
 -- A writer that holds its version writes beside the buffers of copies, and nothing of an object without an entry, or of
 -- one that is on its way home.
-use Rattle.std.proofs.Common.{◌≡◌, ◌≢◌, ℕ, true, List, Some, None, refl, sym, ap, ◌∙◌, subst}
+use Rattle.std.proofs.Common.{◌≡◌, ◌≢◌, ℕ, true, List, Some, refl, sym, ap, ◌∙◌, subst}
 use Rattle.std.specs.FinMap.{get}
-use Rattle.std.proofs.lemmas.Option.{none-some}
 use Rattle.tss_base.specs.declared.range.Range.{Range}
 use Rattle.tss_base.specs.declared.operand.OpName.{OpName}
 use Rattle.tss_base.specs.declared.operand.Operand.{Operand}
@@ -18,7 +17,6 @@ use Rattle.tss_control.specs.Holders.{IsOwnOrRead}
 use Rattle.tss_control.specs.Entries.{IsGoingHome}
 use Rattle.tss_control.specs.Control.{HasGroundwork, IsControlled}
 use Rattle.tss_program_order.proofs.StoreFrames.{IsElsewhere}
-use Rattle.tss_control.proofs.entries.OfVersions.{entry_of_version}
 use Rattle.tss_values.proofs.storages.Homes.{not_going_home}
 use Rattle.tss_values.proofs.storages.Shares.{HoldsStorage, version_not_copied}
 use Rattle.tss_control.proofs.rounds.Facts.{Facts, facts_of}
@@ -51,13 +49,6 @@ module _ (ts : List Task) (g : Arrivals) (S : State) (round : IsRounded S ts) (h
 
         same_name : (b n : OpName) → Buffer b ≡ Buffer n → b ≡ n
         same_name b n e = cc
-
-    -- an object without an entry isn't the writer's
-    pub no_entry_apart : (x : Range) → get S.entries x.base ≡ None → x ≢ p.object
-    no_entry_apart x none same =
-        let e = entry_of_version m S facts o k.told.version own_there in
-        none-some e.entry
-        (sym none ∙ ap (λ (x : Range). get S.entries x.base) (same ∙ sym k.told.object) ∙ e.there)
 
     -- nor is one that is copied home, or whose last version is gone
     pub going_apart : (x : Range) (v : OpName) → IsGoingHome S x v → x ≢ p.object

@@ -1,5 +1,6 @@
 -- Memory that can't be written stays at home as it was loaded.
-use Rattle.std.proofs.Common.{◌≡◌, inr, ℕ, suc, Bool, true, false, List, [], ◌∷◌, length, Option, Some, None, refl, sym, ap, subst, ◌∙◌}
+use Rattle.std.proofs.Common.{◌≡◌, inr, ℕ, suc, Bool, true, false, List, [], ◌∷◌, length, Option, Some, None, refl, sym}
+use Rattle.std.proofs.Common.{ap, subst, ◌∙◌}
 use Rattle.std.specs.Prelude.{◌==◌, cond, slice_get, unwrap_or, Result, Ok, Err}
 use Rattle.std.specs.FinMap.{get}
 use Rattle.std.proofs.lemmas.Bool.{false_from_ne_true}
@@ -15,7 +16,8 @@ use Rattle.tss_base.specs.Image.{ImageState, IsAccepted}
 use Rattle.tss_model.specs.Access.{operands_of, writes}
 use Rattle.tss_model.specs.Memory.{MemoryRange, Memory, covers, byte_at, memory_ranges, loaded}
 use Rattle.tss_model.specs.Spawn.{spawn_of}
-use Rattle.tss_model.specs.MainStep.{MainState, Call, ExitCall, Spawn, Barrier, Print, Await, Unknown, main_call, spawn_call, spawn_on}
+use Rattle.tss_model.specs.MainStep.{MainState, Call, ExitCall, Spawn, Barrier, Print, Await, Unknown, main_call}
+use Rattle.tss_model.specs.MainStep.{spawn_call, spawn_on}
 use Rattle.tss_protocol.specs.Mail.{StorageName, Home, Buffer}
 use Rattle.tss_protocol.specs.State.{State, Flying, Busy, CopyState, initial_state}
 use Rattle.tss_protocol.specs.Stations.{storages_of}
@@ -40,7 +42,7 @@ use Rattle.tss_values.proofs.WorkerFacts.{WorkerFacts}
 -- ---- operands of spawned tasks
 
 -- a task whose operands are fit
-abbrev pub HasFitOperands : Limits → List MemoryRange → Task → Type 0
+abbrev HasFitOperands : Limits → List MemoryRange → Task → Type 0
 HasFitOperands limits ranges t =
     (k : ℕ) (o : Operand) → slice_get (operands_of t) k ≡ Some o → IsFit limits ranges o
 
@@ -211,23 +213,24 @@ module _ (m : Machine) (i : ImageState) (accepted : IsAccepted i) (S : State) (w
   unfolding after_event
   same_fixed a fixed event.Main = same-main a fixed (call_next m S)
   same_fixed a fixed event.Take = same-home a (after_event m S event.Take) (left_home m S event.Take refl)
-  same_fixed a fixed (event.Decode o) = same-home a (after_event m S (event.Decode o)) (left_home m S (event.Decode o) refl)
+  same_fixed a fixed (event.Decode o) =
+      same-home a (after_event m S (event.Decode o)) (left_home m S (event.Decode o) refl)
   same_fixed a fixed (event.Ack o) = same-home a (after_event m S (event.Ack o)) (left_home m S (event.Ack o) refl)
   same_fixed a fixed (event.Open o) = same-home a (after_event m S (event.Open o)) (left_home m S (event.Open o) refl)
   same_fixed a fixed (event.Use o) = same-home a (after_event m S (event.Use o)) (left_home m S (event.Use o) refl)
-  same_fixed a fixed (event.Ready o) = same-home a (after_event m S (event.Ready o)) (left_home m S (event.Ready o) refl)
+  same_fixed a fixed (event.Ready o) =
+      same-home a (after_event m S (event.Ready o)) (left_home m S (event.Ready o) refl)
   same_fixed a fixed (event.Link o) = same-home a (after_event m S (event.Link o)) (left_home m S (event.Link o) refl)
   same_fixed a fixed (event.Start w) = same-start a fixed w S.queue refl
   same_fixed a fixed (event.Exec w) = same-exec a fixed w (get S.workers w) refl
-  same_fixed a fixed (event.Finish w) = same-home a (after_event m S (event.Finish w)) (left_home m S (event.Finish w) refl)
-  same_fixed a fixed (event.Release o) = same-home a (after_event m S (event.Release o)) (left_home m S (event.Release o) refl)
+  same_fixed a fixed (event.Finish w) =
+      same-home a (after_event m S (event.Finish w)) (left_home m S (event.Finish w) refl)
+  same_fixed a fixed (event.Release o) =
+      same-home a (after_event m S (event.Release o)) (left_home m S (event.Release o) refl)
   same_fixed a fixed (event.Bye o) = same-home a (after_event m S (event.Bye o)) (left_home m S (event.Bye o) refl)
   same_fixed a fixed (event.Idle v) = same-home a (after_event m S (event.Idle v)) (left_home m S (event.Idle v) refl)
   same_fixed a fixed (event.Nack v) = same-home a (after_event m S (event.Nack v)) (left_home m S (event.Nack v) refl)
-  same_fixed a fixed (event.Retire v) = same-home a (after_event m S (event.Retire v)) (left_home m S (event.Retire v) refl)
+  same_fixed a fixed (event.Retire v) =
+      same-home a (after_event m S (event.Retire v)) (left_home m S (event.Retire v) refl)
   same_fixed a fixed (event.Copy b) = same-copy a fixed b (get S.copies b) refl
   same_fixed a fixed (event.Gone v) = same-home a (after_event m S (event.Gone v)) (left_home m S (event.Gone v) refl)
-
-  -- so it stays as loaded
-  pub HasFixed-after_event : HasFixed i S → (e : Event) → HasFixed i (after_event m S e)
-  HasFixed-after_event before e a fixed = same_fixed a fixed e ∙ before a fixed

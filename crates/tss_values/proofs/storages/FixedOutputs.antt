@@ -1,5 +1,6 @@
 -- Each buffer that is held was taken for an output of the round.
-use Rattle.std.proofs.Common.{◌≡◌, inl, inr, ℕ, Bool, true, false, List, [], ◌∷◌, ◌++◌, Option, Some, None, refl, sym, ap, subst, ◌∙◌}
+use Rattle.std.proofs.Common.{◌≡◌, inl, inr, ℕ, Bool, true, false, List, [], ◌∷◌, ◌++◌, Option, Some, None, refl, sym}
+use Rattle.std.proofs.Common.{ap, subst, ◌∙◌}
 use Rattle.std.specs.Prelude.{◌&&◌, ◌==◌, is_none, option_to_list}
 use Rattle.std.specs.FinMap.{get, len, get-empty}
 use Rattle.std.proofs.lemmas.Bool.{and_parts, eqb-true}
@@ -24,7 +25,8 @@ use Rattle.tss_protocol.specs.State.{State, Entry, initial_state}
 use Rattle.tss_protocol.specs.Renaming.{takes_buffer, buffers_after_decode, buffers_after_gone}
 use Rattle.tss_protocol.specs.MainEvent.{call_next, may_call, has_no_task, has_no_object}
 use Rattle.tss_protocol.specs.Needs.{round_after_main, round_after_event}
-use Rattle.tss_protocol.specs.UnitMachine.{IsEnabled, is_enabled, after_event, without, decode_message_taken, gone_message_taken}
+use Rattle.tss_protocol.specs.UnitMachine.{IsEnabled, is_enabled, after_event, without, decode_message_taken}
+use Rattle.tss_protocol.specs.UnitMachine.{gone_message_taken}
 use Rattle.tss_locality.proofs.LeftFields.{Leaves-after_event, left_buffers}
 use Rattle.tss_phases.specs.Orderly.{AreOrderly}
 use Rattle.tss_control.specs.Members.{operand_among}
@@ -33,11 +35,11 @@ use Rattle.tss_control.proofs.rounds.EntriesNames.{decode_among}
 use Rattle.tss_control.proofs.rounds.Facts.{Basis}
 
 -- it is an output of the round
-abbrev pub IsOutputIn : List Task → OpName → Type 0
+abbrev IsOutputIn : List Task → OpName → Type 0
 IsOutputIn ts b = (q : Operand) × (operand_among ts b ≡ Some q) × (q.mode ≡ Output)
 
 -- each held buffer is of one
-abbrev pub HoldsOutputs : List Task → Named ℕ → Type 0
+abbrev HoldsOutputs : List Task → Named ℕ → Type 0
 HoldsOutputs ts buffers = (b : OpName) (bank : ℕ) → get buffers b ≡ Some bank → IsOutputIn ts b
 
 -- in a state
@@ -150,18 +152,32 @@ module _ (m : Machine) (S : State) (basis : Basis m S) (orderly : AreOrderly S)
   HasOutputs-after_event event.Main on = outputs-main on
   HasOutputs-after_event event.Take on = same_outputs (after_event m S event.Take) (left_buffers m S event.Take refl)
   HasOutputs-after_event (event.Decode o) on = outputs-decode o
-  HasOutputs-after_event (event.Ack o) on = same_outputs (after_event m S (event.Ack o)) (left_buffers m S (event.Ack o) refl)
-  HasOutputs-after_event (event.Open o) on = same_outputs (after_event m S (event.Open o)) (left_buffers m S (event.Open o) refl)
-  HasOutputs-after_event (event.Use o) on = same_outputs (after_event m S (event.Use o)) (left_buffers m S (event.Use o) refl)
-  HasOutputs-after_event (event.Ready o) on = same_outputs (after_event m S (event.Ready o)) (left_buffers m S (event.Ready o) refl)
-  HasOutputs-after_event (event.Link o) on = same_outputs (after_event m S (event.Link o)) (left_buffers m S (event.Link o) refl)
-  HasOutputs-after_event (event.Start w) on = same_outputs (after_event m S (event.Start w)) (left_buffers m S (event.Start w) refl)
-  HasOutputs-after_event (event.Exec w) on = same_outputs (after_event m S (event.Exec w)) (left_buffers m S (event.Exec w) refl)
-  HasOutputs-after_event (event.Finish w) on = same_outputs (after_event m S (event.Finish w)) (left_buffers m S (event.Finish w) refl)
-  HasOutputs-after_event (event.Release o) on = same_outputs (after_event m S (event.Release o)) (left_buffers m S (event.Release o) refl)
-  HasOutputs-after_event (event.Bye o) on = same_outputs (after_event m S (event.Bye o)) (left_buffers m S (event.Bye o) refl)
-  HasOutputs-after_event (event.Idle v) on = same_outputs (after_event m S (event.Idle v)) (left_buffers m S (event.Idle v) refl)
-  HasOutputs-after_event (event.Nack v) on = same_outputs (after_event m S (event.Nack v)) (left_buffers m S (event.Nack v) refl)
-  HasOutputs-after_event (event.Retire v) on = same_outputs (after_event m S (event.Retire v)) (left_buffers m S (event.Retire v) refl)
-  HasOutputs-after_event (event.Copy b) on = same_outputs (after_event m S (event.Copy b)) (left_buffers m S (event.Copy b) refl)
+  HasOutputs-after_event (event.Ack o) on =
+      same_outputs (after_event m S (event.Ack o)) (left_buffers m S (event.Ack o) refl)
+  HasOutputs-after_event (event.Open o) on =
+      same_outputs (after_event m S (event.Open o)) (left_buffers m S (event.Open o) refl)
+  HasOutputs-after_event (event.Use o) on =
+      same_outputs (after_event m S (event.Use o)) (left_buffers m S (event.Use o) refl)
+  HasOutputs-after_event (event.Ready o) on =
+      same_outputs (after_event m S (event.Ready o)) (left_buffers m S (event.Ready o) refl)
+  HasOutputs-after_event (event.Link o) on =
+      same_outputs (after_event m S (event.Link o)) (left_buffers m S (event.Link o) refl)
+  HasOutputs-after_event (event.Start w) on =
+      same_outputs (after_event m S (event.Start w)) (left_buffers m S (event.Start w) refl)
+  HasOutputs-after_event (event.Exec w) on =
+      same_outputs (after_event m S (event.Exec w)) (left_buffers m S (event.Exec w) refl)
+  HasOutputs-after_event (event.Finish w) on =
+      same_outputs (after_event m S (event.Finish w)) (left_buffers m S (event.Finish w) refl)
+  HasOutputs-after_event (event.Release o) on =
+      same_outputs (after_event m S (event.Release o)) (left_buffers m S (event.Release o) refl)
+  HasOutputs-after_event (event.Bye o) on =
+      same_outputs (after_event m S (event.Bye o)) (left_buffers m S (event.Bye o) refl)
+  HasOutputs-after_event (event.Idle v) on =
+      same_outputs (after_event m S (event.Idle v)) (left_buffers m S (event.Idle v) refl)
+  HasOutputs-after_event (event.Nack v) on =
+      same_outputs (after_event m S (event.Nack v)) (left_buffers m S (event.Nack v) refl)
+  HasOutputs-after_event (event.Retire v) on =
+      same_outputs (after_event m S (event.Retire v)) (left_buffers m S (event.Retire v) refl)
+  HasOutputs-after_event (event.Copy b) on =
+      same_outputs (after_event m S (event.Copy b)) (left_buffers m S (event.Copy b) refl)
   HasOutputs-after_event (event.Gone v) on = outputs-gone v

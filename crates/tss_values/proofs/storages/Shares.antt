@@ -1,6 +1,7 @@
 -- Who shares a storage: two operands that hold a version, on one object and with one storage, are one, or both have
 -- come to one produced version.
-use Rattle.std.proofs.Common.{◌≡◌, ◌≢◌, ◌⊎◌, inl, inr, ℕ, ◌≤◌, Bool, true, false, List, [], ◌∷◌, Some, refl, sym, ap, ◌∙◌, subst, arith}
+use Rattle.std.proofs.Common.{◌≡◌, ◌⊎◌, inl, inr, ℕ, ◌≤◌, Bool, true, false, List, [], ◌∷◌, Some, refl, sym, ap, ◌∙◌}
+use Rattle.std.proofs.Common.{arith}
 use Rattle.std.specs.FinMap.{get}
 use Rattle.std.proofs.lemmas.Option.{none-some}
 use Rattle.tss_base.specs.declared.operand.OpName.{OpName}
@@ -13,17 +14,16 @@ use Rattle.tss_model.specs.Access.{writes}
 use Rattle.tss_protocol.specs.Mail.{StorageName, Home, Buffer, Source}
 use Rattle.tss_protocol.specs.State.{State, OperandState, Version}
 use Rattle.tss_protocol.specs.Stations.{operand_at}
-use Rattle.tss_phases.specs.Phase.{Phase, Ahead, Decoding, Sent, Waiting, Told, Ready, Releasing, Leaving, Promised, Left, look_ups, phase_of}
+use Rattle.tss_phases.specs.Phase.{Phase, Ahead, Decoding, Sent, Waiting, Told, Ready, Releasing, Leaving, Promised}
+use Rattle.tss_phases.specs.Phase.{Left, phase_of}
 use Rattle.tss_phases.specs.Openers.{holds_version, has_parted, produced_opener, opener_by}
 use Rattle.tss_phases.proofs.Tests.{not_both}
-use Rattle.tss_phases.proofs.PhaseLemmas.{phase_telling}
-use Rattle.tss_phases.proofs.AloneLemmas.{silent_but_telling}
 use Rattle.tss_control.specs.Members.{operand_among}
 use Rattle.tss_control.specs.Chains.{HasChains}
 use Rattle.tss_names.specs.Held.{HasHeldPlaces}
 use Rattle.tss_values.specs.Buffers.{VersionHas, GoneHas, CopyHas, HasBuffers}
 use Rattle.tss_control.specs.Readers.{Arrivals, Has, oldest_of}
-use Rattle.tss_control.specs.Holders.{IsOwnOrRead, IsTrue}
+use Rattle.tss_control.specs.Holders.{IsTrue}
 use Rattle.tss_control.specs.Control.{IsControlled}
 use Rattle.tss_control.proofs.readers.Enlisted.{all_wait}
 
@@ -39,7 +39,7 @@ module _ (ts : List Task) (S : State) (chains : HasChains ts S) (buffers : HasBu
   one_buffer v w b y z e f s t = buffers.one v w b (inr (inl (y, e, s))) (inr (inl (z, f, t)))
 
   -- two of one object that lie at home are one
-  pub one_home : (v w : OpName) (y z : Version) → get S.versions v ≡ Some y → get S.versions w ≡ Some z
+  one_home : (v w : OpName) (y z : Version) → get S.versions v ≡ Some y → get S.versions w ≡ Some z
       → y.object ≡ z.object → y.storage ≡ Some Home → z.storage ≡ Some Home → v ≡ w
   one_home v w y z e f same s t =
       let first = (chains.linked v y e).oldest ((chains.storages v y e).home s) w (z, f, sym same) in
@@ -56,18 +56,6 @@ module _ (ts : List Task) (S : State) (chains : HasChains ts S) (buffers : HasBu
       → y.object ≡ z.object → (s : StorageName) → y.storage ≡ Some s → z.storage ≡ Some s → v ≡ w
   one_version = by_storage
 
-module _ (ts : List Task) (S : State) (chains : HasChains ts S) (buffers : HasBuffers ts S) where
-  apart_by : (v w : OpName) (y z : Version) → get S.versions v ≡ Some y → get S.versions w ≡ Some z → v ≢ w
-      → (s : StorageName) → y.storage ≡ Some s → z.storage ≡ Some s → (s ≡ Home) × (y.object ≢ z.object)
-  apart_by v w y z e f apart Home s t =
-      (refl, λ same. apart (one_home ts S chains buffers v w y z e f same s t))
-  apart_by v w y z e f apart (Buffer b) s t = absurd (apart (one_buffer ts S chains buffers v w b y z e f s t))
-
-  -- two with one storage both lie at home, and are of two objects
-  pub versions_apart : (v w : OpName) (y z : Version) → get S.versions v ≡ Some y → get S.versions w ≡ Some z → v ≢ w
-      → (s : StorageName) → y.storage ≡ Some s → z.storage ≡ Some s → (s ≡ Home) × (y.object ≢ z.object)
-  versions_apart = apart_by
-
 -- ---- who holds a version
 
 -- an operand that was told a version, and hasn't released it
@@ -79,17 +67,6 @@ pub record HoldsStorage (ts : List Task) (g : Arrivals) (S : State) (o : OpName)
 
 module _ (ts : List Task) (g : Arrivals) (S : State) (h : IsControlled ts g S) (o : OpName) (p : Operand) (s : Source)
     (among : operand_among ts o ≡ Some p) where
-  -- one that is told
-  pub told_holds : get S.mail.readies o ≡ Some s → HoldsStorage ts g S o p s
-  told_holds there =
-      let l = look_ups S o in
-      let k = silent_but_telling l s (h.orderly o).alone there in
-      record {
-        among = among;
-        told = h.holders.told o p s among there;
-        phase = ap holds_version (phase_telling l s k.decoding k.opening k.using there);
-      }
-
   holding_phase : (phase_of S o ≡ Ready) ⊎ (phase_of S o ≡ Releasing) → holds_version (phase_of S o) ≡ true
   holding_phase (inl e) = ap holds_version e
   holding_phase (inr e) = ap holds_version e
@@ -127,7 +104,7 @@ some_oldest (x ∷ y ∷ ys) a h = some_oldest (y ∷ ys) y (inl refl)
 
 module _ (ts : List Task) (g : Arrivals) (S : State) (h : IsControlled ts g S) where
   -- the readers of an open version wait
-  pub open_readers_wait : (v a : OpName) (y : Version) → get S.versions v ≡ Some y → y.produced ≡ false → Has a (g v)
+  open_readers_wait : (v a : OpName) (y : Version) → get S.versions v ≡ Some y → y.produced ≡ false → Has a (g v)
       → phase_of S a ≡ Waiting
   open_readers_wait v a y e unproduced has =
       let k = h.readers.versions v y e in
@@ -156,54 +133,6 @@ module _ (ts : List Task) (g : Arrivals) (S : State) (h : IsControlled ts g S) w
           let parted = writer_parted p.mode (phase_of S o) w
           (ap (opener_by y p.mode (phase_of S o)) (sym is) ∙ opener) in
           absurd (not_both (has_parted (phase_of S o)) parted (holds_apart (phase_of S o) k.phase).1)
-
-  -- ---- two operands
-
-  -- both read one produced version
-  pub record BothRead (o q : OpName) (p r : Operand) (v : OpName) : Type 0 where
-    pub state : Version
-    pub there : get S.versions v ≡ Some state
-    pub produced : state.produced ≡ true
-    pub first : writes p.mode ≡ false
-    pub second : writes r.mode ≡ false
-    pub first_read : Has o (g v)
-    pub second_read : Has q (g v)
-
-  module _ (buffers : HasBuffers ts S) (o q : OpName) (p r : Operand) (s t : Source) (k : HoldsStorage ts g S o p s)
-      (l : HoldsStorage ts g S q r t) (object : p.object ≡ r.object) (storage : s.storage ≡ t.storage) where
-    -- they were told one version
-    pub one_told : s.version ≡ t.version
-    one_told =
-        one_version ts S h.chains buffers s.version t.version k.told.version l.told.version k.told.there l.told.there
-        (k.told.object ∙ object ∙ sym l.told.object) s.storage k.told.storage
-        (l.told.storage ∙ ap Some (sym storage))
-
-    by_modes : (b c : Bool) → writes p.mode ≡ b → writes r.mode ≡ c → IsOwnOrRead g o b s.version
-        → IsOwnOrRead g q c t.version → (o ≡ q) ⊎ BothRead o q p r s.version
-    by_modes true true w u own other = inl (sym own ∙ one_told ∙ other)
-    by_modes true false w u own other =
-        let there = ap (get S.versions) (sym own) ∙ k.told.there in
-        let unproduced = writes_open o p s k w k.told.version there in
-        let at = ap (get S.versions) (sym one_told) ∙ k.told.there in
-        absurd (not_both k.told.version.produced (reads_produced q r t l other k.told.version at) unproduced)
-    by_modes false true w u own other =
-        let there = ap (get S.versions) (sym other) ∙ l.told.there in
-        let unproduced = writes_open q r t l u l.told.version there in
-        let at = ap (get S.versions) one_told ∙ l.told.there in
-        absurd (not_both l.told.version.produced (reads_produced o p s k own l.told.version at) unproduced)
-    by_modes false false w u own other = inr (record {
-      state = k.told.version;
-      there = k.told.there;
-      produced = reads_produced o p s k own k.told.version k.told.there;
-      first = w;
-      second = u;
-      first_read = own;
-      second_read = subst (λ v. Has q (g v)) (sym one_told) other;
-    })
-
-    -- they are one, or read one produced version
-    pub shares : (o ≡ q) ⊎ BothRead o q p r s.version
-    shares = by_modes (writes p.mode) (writes r.mode) refl refl k.told.own l.told.own
 
 -- ---- buffers that no version has
 

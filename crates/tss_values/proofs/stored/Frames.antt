@@ -12,7 +12,8 @@ use Rattle.tss_model.specs.Access.{writes}
 use Rattle.tss_model.specs.InOrder.{Started}
 use Rattle.tss_protocol.specs.Mail.{StorageName}
 use Rattle.tss_protocol.specs.State.{State, Version}
-use Rattle.tss_phases.specs.Phase.{Phase, Ahead, Decoding, Sent, Waiting, Told, Ready, Releasing, Leaving, Promised, Left, phase_of}
+use Rattle.tss_phases.specs.Phase.{Phase, Ahead, Decoding, Sent, Waiting, Told, Ready, Releasing, Leaving, Promised}
+use Rattle.tss_phases.specs.Phase.{Left, phase_of}
 use Rattle.tss_phases.specs.Openers.{holds_version, has_parted, open_opener, opener_by, version_opener}
 use Rattle.tss_phases.specs.Forward.{may_follow}
 use Rattle.tss_phases.proofs.ForwardPhases.{GoesOnFrom}

@@ -19,7 +19,8 @@ use Rattle.tss_model.specs.InOrder.{Started, end_of_started}
 use Rattle.tss_protocol.specs.Mail.{Home, OpenContents}
 use Rattle.tss_protocol.specs.State.{State, Version}
 use Rattle.tss_protocol.specs.Versions.{first_version, opened_by, is_followable}
-use Rattle.tss_protocol.specs.UnitMachine.{IsEnabled, is_enabled, can_open_message, after_event, without, open_message_taken}
+use Rattle.tss_protocol.specs.UnitMachine.{IsEnabled, is_enabled, can_open_message, after_event, without}
+use Rattle.tss_protocol.specs.UnitMachine.{open_message_taken}
 use Rattle.tss_phases.specs.Phase.{Sent, Releasing, look_ups, phase_of}
 use Rattle.tss_phases.specs.Orderly.{KeepsOrder}
 use Rattle.tss_phases.proofs.AloneLemmas.{silent_but_opening}
@@ -31,7 +32,8 @@ use Rattle.tss_control.proofs.holders.Later.{later-open}
 use Rattle.tss_control.proofs.holders.Settled.{HeldAlike}
 use Rattle.tss_control.proofs.chains.Registered.{linked_to}
 use Rattle.tss_control.proofs.chains.Opened.{HasChains-registered}
-use Rattle.tss_control.proofs.chains.Open.{following, behind_followed, others_followed, registered_state, registers_behind, front_apart, part_how}
+use Rattle.tss_control.proofs.chains.Open.{following, behind_followed, others_followed, registered_state}
+use Rattle.tss_control.proofs.chains.Open.{registers_behind, front_apart, part_how}
 use Rattle.tss_control.proofs.entries.RetirementOpen.{opened_from}
 use Rattle.tss_values.proofs.Values.{content, bytes_before, bytes_after, IsKnown, HasStored, HasHome}
 use Rattle.tss_values.proofs.stored.Frames.{IsStored, stored_each, stored_at, stored_kept, lets_before}

@@ -28,7 +28,8 @@ use Rattle.tss_control.proofs.holders.Later.{later-decode, later-use, later-read
 use Rattle.tss_control.proofs.holders.Settled.{HeldAlike}
 use Rattle.tss_control.proofs.chains.Use.{used_more}
 use Rattle.tss_values.proofs.Values.{content, HasStored}
-use Rattle.tss_values.proofs.stored.Frames.{stored_each, stored_at, KeepsStored, stored_kept, opener_holds, told_before, lets_before}
+use Rattle.tss_values.proofs.stored.Frames.{stored_each, stored_at, KeepsStored, stored_kept, opener_holds, told_before}
+use Rattle.tss_values.proofs.stored.Frames.{lets_before}
 
 -- no byte is written, and each worker is left
 pub record LeavesBytes (S T : State) : Type 0 where
@@ -41,7 +42,7 @@ pub content_left : (S T : State) → LeavesBytes S T → (x : Range) (st : Stora
 content_left S T k x st = λ i. stored_bytes (record { home = k.home i; contents = k.contents i }) x st
 
 -- and who is on a worker
-pub worker_left : (S T : State) → LeavesBytes S T → (n : ℕ) → IsOnWorker S n → IsOnWorker T n
+worker_left : (S T : State) → LeavesBytes S T → (n : ℕ) → IsOnWorker S n → IsOnWorker T n
 worker_left S T k n w = (w.0, w.1, ap (λ ws. get ws w.0) k.workers ∙ w.2, w.3)
 
 module _ (m : Machine) (i : ImageState) (ts : List Task) (g : Arrivals) (S T : State) (k : IsControlled ts g S)
@@ -62,7 +63,7 @@ module _ (m : Machine) (i : ImageState) (ts : List Task) (g : Arrivals) (S T : S
   }
 
   -- where each version is like one that was there
-  pub stored_alike : ((v : OpName) (z : Version) → get T.versions v ≡ Some z
+  stored_alike : ((v : OpName) (z : Version) → get T.versions v ≡ Some z
       → (y : Version) × (get S.versions v ≡ Some y) × HeldAlike y z)
       → HasStored m i ts S → HasStored m i ts T
   stored_alike from h =
@@ -71,7 +72,7 @@ module _ (m : Machine) (i : ImageState) (ts : List Task) (g : Arrivals) (S T : S
       stored_kept m i ts S T v f.0 z (keeps_alike v f.0 z f.1 f.2) (stored_at m i ts S h v f.0 f.1))
 
   -- where the versions are the same
-  pub stored_same : T.versions ≡ S.versions → HasStored m i ts S → HasStored m i ts T
+  stored_same : T.versions ≡ S.versions → HasStored m i ts S → HasStored m i ts T
   stored_same same h =
       stored_alike
       (λ v z e. (z, sym (ap (λ vs. get vs v) same) ∙ e, record { object = refl; produced = refl; storage = refl })) h

@@ -12,8 +12,10 @@ use Rattle.tss_model.specs.Access.{writes}
 use Rattle.tss_model.specs.InOrder.{Started}
 use Rattle.tss_protocol.specs.Mail.{StorageName, ReleaseContents}
 use Rattle.tss_protocol.specs.State.{State, Version}
-use Rattle.tss_protocol.specs.Versions.{put_version, settled, produced_now, released_once, released_by, released_at, refused_once, nacked_at}
-use Rattle.tss_protocol.specs.UnitMachine.{IsEnabled, is_enabled, after_event, with_versioned, without, release_message_taken}
+use Rattle.tss_protocol.specs.Versions.{put_version, settled, produced_now, released_once, released_by, released_at}
+use Rattle.tss_protocol.specs.Versions.{refused_once, nacked_at}
+use Rattle.tss_protocol.specs.UnitMachine.{IsEnabled, is_enabled, after_event, with_versioned, without}
+use Rattle.tss_protocol.specs.UnitMachine.{release_message_taken}
 use Rattle.tss_phases.specs.Phase.{Told, Ready, Releasing, phase_of}
 use Rattle.tss_phases.specs.Orderly.{KeepsOrder}
 use Rattle.tss_phases.proofs.ForwardEvents.{forward-after_event}

@@ -1,6 +1,7 @@
 -- The bytes in the storages of versions where one version is written over and then settled: one that takes a storage
 -- over finds there what the version before it left.
-use Rattle.std.proofs.Common.{◌≡◌, ◌≢◌, ◌⊎◌, ◌<◌, true, false, List, Some, None, refl, sym, ap, ◌∙◌, subst, inl, inr, true≢false}
+use Rattle.std.proofs.Common.{◌≡◌, ◌≢◌, ◌⊎◌, ◌<◌, true, false, List, Some, None, refl, sym, ap, ◌∙◌, subst, inl, inr}
+use Rattle.std.proofs.Common.{true≢false}
 use Rattle.std.specs.FinMap.{get}
 use Rattle.std.proofs.lemmas.Option.{none-some, same_Some}
 use Rattle.tss_base.specs.declared.operand.OpName.{OpName}
@@ -27,7 +28,8 @@ use Rattle.tss_control.proofs.chains.Alike.{AreAlike}
 use Rattle.tss_control.proofs.chains.Settled.{with_versions, HasChains-written, chains_next, done_parts}
 use Rattle.tss_control.proofs.chains.Released.{others_written}
 use Rattle.tss_control.proofs.holders.Late.{NoLater}
-use Rattle.tss_control.proofs.holders.Settled.{HeldAlike, AlikeAt, from_alike, HasGone, HasTaken, SettlesHeld, settles_held}
+use Rattle.tss_control.proofs.holders.Settled.{HeldAlike, AlikeAt, from_alike, HasGone, HasTaken, SettlesHeld}
+use Rattle.tss_control.proofs.holders.Settled.{settles_held}
 use Rattle.tss_values.proofs.Values.{content, bytes_before, bytes_after, IsGood, Starts, IsKnown, HasStored}
 use Rattle.tss_values.proofs.stored.Frames.{IsStored, stored_each, stored_at, stored_kept, lets_before}
 use Rattle.tss_values.proofs.stored.Quiet.{LeavesBytes, content_left, keeps_alike}

@@ -41,7 +41,7 @@ use Rattle.tss_control.proofs.rounds.Facts.{Facts}
 -- ---- objects
 
 -- zeros at a task's outputs leave an object beside what the task writes
-pub left_at_start : (limits : Limits) (s : Stores) (os : List Operand) (ss : List StorageName) (x : Range)
+left_at_start : (limits : Limits) (s : Stores) (os : List Operand) (ss : List StorageName) (x : Range)
     (st : StorageName) → ((a : ℕ) → covers x a ≡ true → IsBeside os ss st a)
     → stored_bytes (outputs_zeroed limits s os ss) x st ≡ stored_bytes s x st
 left_at_start limits s os ss x Home beside =

@@ -1,6 +1,7 @@
 -- The storages of the operands of a task that is queued or runs are apart, and what they show stays where each shows
 -- the same.
-use Rattle.std.proofs.Common.{◌≡◌, ◌≢◌, inl, inr, ℕ, zero, suc, true, false, List, [], ◌∷◌, length, Option, Some, None, refl, sym, ap, ◌∙◌, subst, arith}
+use Rattle.std.proofs.Common.{◌≡◌, ◌≢◌, inl, inr, ℕ, zero, suc, true, false, List, [], ◌∷◌, length, Option, Some, None}
+use Rattle.std.proofs.Common.{refl, sym, ap, ◌∙◌, subst, arith}
 use Rattle.std.specs.Prelude.{slice_get}
 use Rattle.std.specs.List.{list_any}
 use Rattle.std.specs.FinMap.{get}
@@ -42,7 +43,7 @@ placed_from (p ∷ os) (s ∷ ss) count zero o e =
 placed_from (p ∷ os) (s ∷ ss) count (suc k) o e = placed_from os ss (omega (arith, count)) k o e
 
 -- the operand in whose object an address lies
-pub owner_of : (os : List Operand) (a : ℕ) → list_any (λ o. covers o.object a) os ≡ true
+owner_of : (os : List Operand) (a : ℕ) → list_any (λ o. covers o.object a) os ≡ true
     → (k : ℕ) × (o : Operand) × (slice_get os k ≡ Some o) × (covers o.object a ≡ true)
 owner_of [] a any = absurd (cc)
 owner_of (o ∷ os) a any = elim (or_cases (covers o.object a) (list_any (λ o. covers o.object a) os) any) [
@@ -120,16 +121,6 @@ module _ (m : Machine) (S : State) (facts : Facts m S) (buffers : HasBuffers fac
           same_place n j k (ground.known.single (operand_name n j) (operand_name n k) a_.0 b_.0 h.holds.among
           l.holds.among same refl);
     }
-
-    -- and what it writes lies beside each version that isn't one of its own
-    pub task_beside : (v : OpName) (y : Version) (other : StorageName) → get S.versions v ≡ Some y
-        → y.storage ≡ Some other → v.task ≢ n → (a : ℕ) → covers y.object a ≡ true
-        → IsBeside (operands_of x.task) (storages_of x) other a
-    task_beside v y other there stored apart a inside k o storage at told writer =
-        let h = held k o storage at told in
-        subst (λ s. IsElsewhere o.object s other a) h.told
-        (writes_beside m S facts buffers (operand_name n k) o h.source h.holds writer v y other there
-        stored (λ same. apart (ap (λ (o : OpName). o.task) same)) a inside)
 
     -- so it lies beside what another operand holds
     pub holder_beside : (q : OpName) (r : Operand) (t : Source) → HoldsStorage ts g S q r t → q.task ≢ n → (a : ℕ)

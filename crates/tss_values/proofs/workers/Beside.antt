@@ -1,6 +1,7 @@
 -- Workers stand where program order has their tasks after main's event, a copy and a gone, and after the start of
 -- another.
-use Rattle.std.proofs.Common.{◌≡◌, ◌≢◌, ℕ, ◌≤◌, true, false, List, length, Option, Some, None, refl, sym, ap, ◌∙◌, subst, inl}
+use Rattle.std.proofs.Common.{◌≡◌, ◌≢◌, ℕ, ◌≤◌, true, false, List, length, Option, Some, None, refl, sym, ap, ◌∙◌}
+use Rattle.std.proofs.Common.{subst, inl}
 use Rattle.std.specs.Prelude.{◌-◌, slice_index}
 use Rattle.std.specs.FinMap.{get}
 use Rattle.tss_base.specs.declared.operand.OpName.{OpName}
@@ -156,7 +157,7 @@ module _ (m : Machine) (i : ImageState) (S : State) (work : WorkerFacts m i S) w
     Started = outputs_zeroed m.limits (stores_of S) (operands_of x.task) (storages_of x)
 
     -- a byte of what an operand of another task holds
-    pub started_byte : (q : OpName) (r : Operand) (t : Source) → HoldsStorage ts g S q r t → q.task ≢ n → (a : ℕ)
+    started_byte : (q : OpName) (r : Operand) (t : Source) → HoldsStorage ts g S q r t → q.task ≢ n → (a : ℕ)
         → covers r.object a ≡ true
         → storage_byte Started r.object t.storage a ≡ storage_byte (stores_of S) r.object t.storage a
     started_byte q r t l apart a inside =

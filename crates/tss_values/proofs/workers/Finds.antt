@@ -1,5 +1,6 @@
 -- What a queued task finds in the storages of its operands: what program order has there, if that starts it.
-use Rattle.std.proofs.Common.{◌≡◌, ◌⊎◌, inl, inr, ℕ, ◌-◌, ◌<◌, ◌≤◌, true, false, List, length, Some, refl, sym, ap, ◌∙◌, subst, arith, true≢false}
+use Rattle.std.proofs.Common.{◌≡◌, ◌⊎◌, inl, inr, ℕ, ◌-◌, ◌<◌, ◌≤◌, true, false, List, length, Some, refl, sym, ap, ◌∙◌}
+use Rattle.std.proofs.Common.{subst, arith, true≢false}
 use Rattle.std.specs.Prelude.{cond, slice_get, slice_index}
 use Rattle.std.specs.FinMap.{get}
 use Rattle.std.proofs.lemmas.Option.{same_Some}
@@ -32,7 +33,8 @@ use Rattle.tss_names.proofs.StageLemmas.{queued≢running, queued≢finished}
 use Rattle.tss_values.proofs.storages.Shares.{reads_produced}
 use Rattle.tss_program_order.proofs.StoreBytes.{covers_parts}
 use Rattle.tss_values.proofs.stored.Settled.{FindsLeft}
-use Rattle.tss_values.proofs.Values.{Starts, IsKnown, IsGood, IsSet, bytes_before, bytes_after, content, HasStored, HasRoom}
+use Rattle.tss_values.proofs.Values.{Starts, IsKnown, IsGood, IsSet, bytes_before, bytes_after, content, HasStored}
+use Rattle.tss_values.proofs.Values.{HasRoom}
 use Rattle.tss_values.proofs.workers.Hold.{IsHeld}
 use Rattle.tss_values.proofs.workers.Apart.{held}
 use Rattle.tss_control.proofs.rounds.Facts.{Facts}
@@ -40,7 +42,7 @@ use Rattle.tss_control.proofs.rounds.Facts.{Facts}
 -- ---- bytes one by one
 
 -- a byte of a range
-pub byte_of_bytes : (m : Memory) (x : Range) (a : ℕ) → covers x a ≡ true
+byte_of_bytes : (m : Memory) (x : Range) (a : ℕ) → covers x a ≡ true
     → slice_index (bytes_of m x) (a - x.base) ≡ byte_at m a
 byte_of_bytes m x a inside =
     let p = covers_parts x a inside in
@@ -66,7 +68,7 @@ module _ (m : Machine) (i : ImageState) (S : State) (facts : Facts m S) (buffers
   open facts use {ts, g, control}
 
   -- it isn't on a worker
-  pub queued_idle : IsOnWorker S n → ⊥
+  queued_idle : IsOnWorker S n → ⊥
   queued_idle w =
       let r = control.holders.runners.running w.0 w.1 w.2 in
       let same = same_Some r.0 x (sym r.1 ∙ ap (get S.flight) w.3 ∙ flies) in

@@ -1,6 +1,7 @@
 -- What the operands of a task that is queued or runs hold: each a registered version with the storage that it was told.
 -- What one of them writes lies beside all other versions.
-use Rattle.std.proofs.Common.{◌≡◌, ◌≢◌, inl, ℕ, Bool, true, false, List, Option, Some, None, refl, sym, ap, ◌∙◌, subst, true≢false}
+use Rattle.std.proofs.Common.{◌≡◌, ◌≢◌, inl, ℕ, Bool, true, false, List, Option, Some, None, refl, sym, ap, ◌∙◌, subst}
+use Rattle.std.proofs.Common.{true≢false}
 use Rattle.std.specs.Prelude.{slice_get, option_map}
 use Rattle.std.specs.FinMap.{get}
 use Rattle.std.proofs.lemmas.Bool.{both_ways, false_from_ne_true}
@@ -16,7 +17,8 @@ use Rattle.tss_protocol.specs.Names.{operand_name}
 use Rattle.tss_protocol.specs.Mail.{StorageName, Home, Source}
 use Rattle.tss_protocol.specs.State.{State, OperandState, Flying, Version}
 use Rattle.tss_protocol.specs.Stations.{operand_at, is_ready, is_complete, storage_of, storages_of}
-use Rattle.tss_phases.specs.Phase.{Phase, Ahead, Decoding, Sent, Waiting, Told, Ready, Releasing, Leaving, Promised, Left, look_ups, phase_of}
+use Rattle.tss_phases.specs.Phase.{Phase, Ahead, Decoding, Sent, Waiting, Told, Ready, Releasing, Leaving, Promised}
+use Rattle.tss_phases.specs.Phase.{Left, look_ups, phase_of}
 use Rattle.tss_phases.specs.Alone.{HasRecord}
 use Rattle.tss_phases.specs.Orderly.{FitsPhase}
 use Rattle.tss_phases.proofs.Records.{operand_in}
@@ -28,7 +30,8 @@ use Rattle.tss_control.specs.Runners.{is_late}
 use Rattle.tss_control.specs.Holders.{IsOwnOrRead}
 use Rattle.tss_control.proofs.holders.Order.{ready_in}
 use Rattle.tss_control.proofs.rounds.RoundTasks.{among_tasks}
-use Rattle.tss_values.proofs.storages.Shares.{HoldsStorage, record_holds, one_buffer, one_version, reads_produced, writes_open}
+use Rattle.tss_values.proofs.storages.Shares.{HoldsStorage, record_holds, one_buffer, one_version, reads_produced}
+use Rattle.tss_values.proofs.storages.Shares.{writes_open}
 use Rattle.tss_program_order.proofs.StoreFrames.{IsElsewhere}
 use Rattle.tss_control.proofs.rounds.Facts.{Facts}
 use Rattle.tss_values.proofs.LiveObjects.{one_covered, version_named}

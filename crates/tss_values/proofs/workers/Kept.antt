@@ -21,7 +21,8 @@ use Rattle.tss_values.proofs.room.Stores.{size_executed}
 use Rattle.tss_values.proofs.storages.Shares.{HoldsStorage}
 use Rattle.tss_program_order.proofs.StoreFrames.{exec_stretch-left}
 use Rattle.tss_program_order.proofs.StoreFollows.{RunsInOrder, runs-exec}
-use Rattle.tss_values.proofs.workers.Runs.{SameFixed, RunsAt, AllRun, runs_with, LeavesHeld, runs_left, worker_separate, worker_beside}
+use Rattle.tss_values.proofs.workers.Runs.{SameFixed, RunsAt, AllRun, runs_with, LeavesHeld, runs_left, worker_separate}
+use Rattle.tss_values.proofs.workers.Runs.{worker_beside}
 use Rattle.tss_values.proofs.WorkerFacts.{WorkerFacts}
 
 module _ (m : Machine) (i : ImageState) (S : State) (work : WorkerFacts m i S) where
@@ -40,7 +41,7 @@ module _ (m : Machine) (i : ImageState) (S : State) (work : WorkerFacts m i S) w
     kept_ranges = (after_exec-kept m S w (Some b)).ground.ranges
 
     -- a byte of what an operand of another task holds
-    pub executed_byte : (q : OpName) (r : Operand) (t : Source) → HoldsStorage ts g S q r t
+    executed_byte : (q : OpName) (r : Operand) (t : Source) → HoldsStorage ts g S q r t
         → q.task ≢ b.task.number → (a : ℕ) → covers r.object a ≡ true
         → storage_byte stretched.memory r.object t.storage a ≡ storage_byte (stores_of S) r.object t.storage a
     executed_byte q r t l apart a inside =

@@ -158,7 +158,7 @@ module _ (m : Machine) (i : ImageState) (S : State) (work : WorkerFacts m i S) w
         (ap (λ (z : Range). covers z a) o.3 ∙ inside)))
 
     -- so the worker stands where it stood
-    pub stays_there : RunsInOrder m i x b
+    stays_there : RunsInOrder m i x b
     stays_there =
         runs-beside m i (stores_of S) x b r left.ranges room_left
         (scope_left (operands_of b.task) b.storages r.count (worker_separate w b there) (stores_of S) x S.home.ranges

@@ -1,6 +1,7 @@
 -- A start: the task that begins finds its operands, and stands where program order has it. Other workers stand where
 -- they stood.
-use Rattle.std.proofs.Common.{◌≡◌, ◌≢◌, inl, inr, ℕ, suc, true, false, List, [], ◌∷◌, length, Option, Some, None, refl, sym, ap, ◌∙◌, subst, arith, true≢false}
+use Rattle.std.proofs.Common.{◌≡◌, ◌≢◌, inl, inr, ℕ, suc, true, false, List, [], ◌∷◌, length, Option, Some, None, refl}
+use Rattle.std.proofs.Common.{sym, ap, ◌∙◌, subst, arith, true≢false}
 use Rattle.std.specs.Prelude.{slice_get, unwrap_or, ◌&&◌}
 use Rattle.std.specs.FinMap.{get}
 use Rattle.std.proofs.lemmas.Bool.{and_parts, or_cases}
@@ -23,7 +24,8 @@ use Rattle.tss_model.specs.InOrder.{started_at}
 use Rattle.tss_protocol.specs.Mail.{StorageName, Buffer}
 use Rattle.tss_protocol.specs.State.{State, Flying, Busy}
 use Rattle.tss_protocol.specs.Stations.{is_complete, storages_of}
-use Rattle.tss_protocol.specs.Workers.{Stores, Placed, placed_in, placed_at, byte_in, worker_byte, busy_with, busy_at_start, outputs_zeroed}
+use Rattle.tss_protocol.specs.Workers.{Stores, Placed, placed_in, placed_at, byte_in, worker_byte, busy_with}
+use Rattle.tss_protocol.specs.Workers.{busy_at_start, outputs_zeroed}
 use Rattle.tss_protocol.specs.UnitMachine.{stores_of, after_event, start_task, after_start}
 use Rattle.tss_program_order.proofs.FlatFixed.{IsFixed, fixed_apart, flat_stepped-fixed}
 use Rattle.tss_program_order.proofs.FlatOperands.{IsFit}

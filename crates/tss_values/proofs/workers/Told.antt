@@ -1,6 +1,7 @@
 -- Every event leaves each busy worker with the task in flight under its number, and with the storages that this was
 -- told.
-use Rattle.std.proofs.Common.{◌≡◌, ◌≢◌, ℕ, Bool, true, false, if◌then◌else◌, List, Option, Some, None, refl, sym, ap, ◌∙◌, subst, inl, inr, arith, true≢false}
+use Rattle.std.proofs.Common.{◌≡◌, ◌≢◌, ℕ, Bool, true, false, if◌then◌else◌, List, Option, Some, None, refl, sym, ap}
+use Rattle.std.proofs.Common.{◌∙◌, subst, inl, inr, arith, true≢false}
 use Rattle.std.specs.FinMap.{get, insert, remove}
 use Rattle.std.proofs.lemmas.Bool.{and_parts}
 use Rattle.std.proofs.lemmas.Option.{none-some}
@@ -11,21 +12,24 @@ use Rattle.tss_base.specs.declared.event.Event.{Event}
 use Rattle.tss_base.specs.declared.marks.Stage.TheVariants as stage
 use Rattle.tss_base.specs.Names.{Numbered}
 use Rattle.tss_maps.proofs.Keys.{nat_order, decide_key}
-use Rattle.tss_maps.proofs.Changes.{at_inserted, beside_inserted, from_inserted, beside_removed, from_removed, one_value}
+use Rattle.tss_maps.proofs.Changes.{at_inserted, beside_inserted, from_inserted, beside_removed, from_removed}
+use Rattle.tss_maps.proofs.Changes.{one_value}
 use Rattle.tss_protocol.specs.State.{State, Flying, Busy}
-use Rattle.tss_protocol.specs.Stations.{is_gone, has_finished, remaining_tasks, entered, storages_of, finished_in, awaited, task_after_ready}
+use Rattle.tss_protocol.specs.Stations.{is_gone, has_finished, remaining_tasks, entered, storages_of, finished_in}
+use Rattle.tss_protocol.specs.Stations.{awaited, task_after_ready}
 use Rattle.tss_protocol.specs.Workers.{busy_at_start}
 use Rattle.tss_protocol.specs.UnitMachine.{IsEnabled, after_event}
 use Rattle.tss_protocol.proofs.FrontLemmas.{KeepsFront}
 use Rattle.tss_names.proofs.TakeLemmas.{TakesTask}
 use Rattle.tss_names.proofs.NumberLemmas.{taken_newest, last_taken_before}
-use Rattle.tss_names.proofs.BackLemmas.{Standing, standing_by, standing_of, ReadiesOperand, ChangesTask, StartsTask, ExecutesTask, FinishesTask, kept_by_standing}
+use Rattle.tss_names.proofs.BackLemmas.{Standing, standing_by, standing_of, ReadiesOperand, ChangesTask, StartsTask}
+use Rattle.tss_names.proofs.BackLemmas.{ExecutesTask, FinishesTask, kept_by_standing}
 use Rattle.tss_names.proofs.StageLemmas.{waiting≢running}
 use Rattle.tss_control.proofs.holders.Stages.{IsRunning, waits}
 use Rattle.tss_control.proofs.rounds.Facts.{Facts}
 
 -- a task in flight is that of a worker, with the storages that it has
-pub record IsToldTo (flight : Numbered Flying) (b : Busy) : Type 0 where
+record IsToldTo (flight : Numbered Flying) (b : Busy) : Type 0 where
   pub flying : Flying
   pub there : get flight b.task.number ≡ Some flying
   pub task : flying.task ≡ b.task
@@ -88,7 +92,7 @@ told_remaining flight n z b same t = by (is_gone z) refl
 -- ---- the changes
 
 -- what is known before the event
-pub record IsToldBefore (m : Machine) (ts : List Task) (S : State) : Type 0 where
+record IsToldBefore (m : Machine) (ts : List Task) (S : State) : Type 0 where
   pub running : IsRunning S.flight m ts S
   pub told : AreTold (standing_of S)
 

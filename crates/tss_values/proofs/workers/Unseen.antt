@@ -1,6 +1,7 @@
 -- A worker's start and its stretches leave the buffers of copies, home where no object has an entry, where the first
 -- version of an object is being opened, and in objects that are copied home, or have come there.
-use Rattle.std.proofs.Common.{◌≡◌, ℕ, true, false, List, [], ◌∷◌, Option, Some, None, inl, refl, sym, ap, ◌∙◌, arith, inr, subst}
+use Rattle.std.proofs.Common.{◌≡◌, ℕ, true, false, List, [], ◌∷◌, Option, Some, None, inl, refl, sym, ap, ◌∙◌, arith}
+use Rattle.std.proofs.Common.{inr, subst}
 use Rattle.std.specs.Prelude.{slice_get}
 use Rattle.std.specs.FinMap.{get}
 use Rattle.std.proofs.lemmas.Bool.{false_from_ne_true}
@@ -30,7 +31,8 @@ use Rattle.tss_names.proofs.StageLemmas.{queued≢finished}
 use Rattle.tss_values.proofs.storages.Beside.{copy_elsewhere, going_apart}
 use Rattle.tss_values.proofs.storages.Shares.{HoldsStorage}
 use Rattle.tss_program_order.proofs.StoreBytes.{covers_parts}
-use Rattle.tss_program_order.proofs.StoreViews.{AreUnseen, outputs_zeroed-unseen, exec_stretch-unseen, home_unseen, buffer_unseen}
+use Rattle.tss_program_order.proofs.StoreViews.{AreUnseen, outputs_zeroed-unseen, exec_stretch-unseen, home_unseen}
+use Rattle.tss_program_order.proofs.StoreViews.{buffer_unseen}
 use Rattle.tss_values.proofs.Values.{IsInside, IsLoose}
 use Rattle.tss_values.proofs.workers.Apart.{held}
 use Rattle.tss_values.proofs.workers.Hold.{IsHeld, writes_own, holder_named}
@@ -40,7 +42,7 @@ use Rattle.tss_values.proofs.LiveObjects.{inside_covers, one_covered, member_nam
 use Rattle.tss_control.proofs.entries.OfVersions.{entry_of_version}
 
 -- home has the same at an address
-abbrev pub SameThere : State → Stores → ℕ → Type 0
+abbrev SameThere : State → Stores → ℕ → Type 0
 SameThere S x a = get x.home.bytes a ≡ get S.home.bytes a
 
 -- what is left
