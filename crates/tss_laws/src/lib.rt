@@ -1,9 +1,10 @@
-//! The laws over every run of the unit machine, stated over the definitions alone: refinement of the execution in program
-//! order, with what holds of every reachable state, progress, the bound on events, and no false wait. A law is claimed
-//! only where a function here has it as its contract.
+//! The laws over every run of the unit machine, stated over the definitions alone: refinement of the execution in
+//! program order, with what holds of every reachable state, progress, the bound on events, and no false wait. A law is
+//! claimed only where a function here has it as its contract.
 #![tactic(auto)]
 
-ghost use Rattle.tss_program_order.specs.Refinement.{ResultLaw, SizesLaw, ProducedBytesLaw, WorkerBytesLaw, MainStateLaw};
+ghost use Rattle.tss_program_order.specs.Refinement.{ResultLaw, SizesLaw, ProducedBytesLaw, WorkerBytesLaw};
+ghost use Rattle.tss_program_order.specs.Refinement.{MainStateLaw};
 ghost use Rattle.tss_progress.specs.Progress.{EnabledLaw, FinishedLaw};
 ghost use Rattle.tss_progress.specs.Bound.{EventsLaw};
 ghost use Rattle.tss_progress.specs.NoFalseWait.{QueuedLaw};
@@ -19,15 +20,16 @@ ghost use Rattle.tss_names.specs.Held.{HeldPlacesLaw};
 ghost use Rattle.tss_names.specs.UseCounts.{ReadersLaw};
 ghost use Rattle.tss_names.specs.MessageCounts.{MessagesLaw};
 
-/// Every run refines the execution in program order under the machine's limits, for every accepted image, every admissible
-/// machine and every order of events. A finished run has the ending, the number of tasks and the output of program order,
-/// and at home its memory, unless program order ends by the trap of a task. None of the seven counts ever exceeds its
-/// size. Where program order starts the task that writes a produced version, and runs it to its end, the version has a
-/// storage, with the bytes of the version's object right after that task. A busy worker is where program order
-/// has its task after as many instructions, where that runs all earlier tasks to their ends: in registers, scratch memory
-/// and the bytes of each operand; and a trap on the worker is the task's trap there. Where program order has a state after
-/// as many instructions of main, main's registers, named objects, number of spawned tasks and pieces are as there, and so
-/// is home at each address but those of objects that have an entry, are in the inbox, or are still to be decoded.
+/// Every run refines the execution in program order under the machine's limits, for every accepted image, every
+/// admissible machine and every order of events. A finished run has the ending, the number of tasks and the output of
+/// program order, and at home its memory, unless program order ends by the trap of a task. None of the seven counts
+/// ever exceeds its size. Where program order starts the task that writes a produced version, and runs it to its end,
+/// the version has a storage, with the bytes of the version's object right after that task. A busy worker is where
+/// program order has its task after as many instructions, where that runs all earlier tasks to their ends: in
+/// registers, scratch memory and the bytes of each operand; and a trap on the worker is the task's trap there. Where
+/// program order has a state after as many instructions of main, main's registers, named objects, number of spawned
+/// tasks and pieces are as there, and so is home at each address but those of objects that have an entry, are in the
+/// inbox, or are still to be decoded.
 pub fn refines()
     ensures result { ResultLaw }
     ensures sizes { SizesLaw }
@@ -43,17 +45,17 @@ pub fn progress()
     ensures finished { FinishedLaw }
 {}
 
-/// No run has more events than `event_bound`, a number that the machine alone gives: of main one for each instruction and
-/// one that ends, of each task take, start, finish, one for each instruction and one more, and of each operand ten and one
-/// for each 64 bytes of the longest object.
+/// No run has more events than `event_bound`, a number that the machine alone gives: of main one for each instruction
+/// and one that ends, of each task take, start, finish, one for each instruction and one more, and of each operand ten
+/// and one for each 64 bytes of the longest object.
 pub fn bound()
     ensures events { EventsLaw }
 {}
 
-/// No task waits needlessly. Where no message is under way, each task in flight runs or has finished, or is in the ready
-/// queue, or needs a task that hasn't finished: by the operands of the tasks spawned before it since the last barrier,
-/// an input needs the last that writes its object, an inout that one and those that read the object since, and an output
-/// none.
+/// No task waits needlessly. Where no message is under way, each task in flight runs or has finished, or is in the
+/// ready queue, or needs a task that hasn't finished: by the operands of the tasks spawned before it since the last
+/// barrier, an input needs the last that writes its object, an inout that one and those that read the object since, and
+/// an output none.
 pub fn no_false_wait()
     ensures queued { QueuedLaw }
 {}
@@ -62,19 +64,19 @@ pub fn no_false_wait()
 /// order after as many steps of main, and home has its bytes wherever main may load, the first holds again after the
 /// event, or the task that it spawned traps in program order. A task that went to the inbox is the one that program
 /// order starts there. Home still agrees with program order at each address where it did, but for the objects of that
-/// task, which main may not load from then on; so a barrier or an await, after which main may load more, adds nothing to
-/// that. Once a task that main has spawned traps, program order ends with it, and what main has printed with fewer tasks
-/// spawned stays its output. Whatever went before, the event changes home only at addresses that main may load.
+/// task, which main may not load from then on; so a barrier or an await, after which main may load more, adds nothing
+/// to that. Once a task that main has spawned traps, program order ends with it, and what main has printed with fewer
+/// tasks spawned stays its output. Whatever went before, the event changes home only at addresses that main may load.
 pub fn main_event()
     ensures in_order { MainInOrderLaw }
     ensures cut_off { MainCutOffLaw }
     ensures stores { MainStoresLaw }
 {}
 
-/// The state is controlled: each operand is in order, the versions of an object stand in a chain with the opens and uses
-/// that are on their way, entries know the latest version and its readers, a version that asks to retire may do so unless
-/// there is a cause, the readers of a version wait for one another in the order in which they came, and each operand
-/// holds what its phase says.
+/// The state is controlled: each operand is in order, the versions of an object stand in a chain with the opens and
+/// uses that are on their way, entries know the latest version and its readers, a version that asks to retire may do so
+/// unless there is a cause, the readers of a version wait for one another in the order in which they came, and each
+/// operand holds what its phase says.
 pub fn control()
     ensures { ControlLaw }
 {}
@@ -97,8 +99,8 @@ pub fn task_numbers()
     ensures { TaskNumbersLaw }
 {}
 
-/// The gateway has operands of at most one task, which was taken. An operand is in it exactly where either its decode or
-/// its ack is under way, and never are both. A decode has the operand of its name.
+/// The gateway has operands of at most one task, which was taken. An operand is in it exactly where either its decode
+/// or its ack is under way, and never are both. A decode has the operand of its name.
 pub fn gateway()
     ensures { GatewayLaw }
 {}
@@ -115,18 +117,18 @@ pub fn decode_order()
 {}
 
 /// A task in flight waits exactly where one of its operands isn't ready, one that is queued is in the ready queue, one
-/// that runs is on a worker, and one that has finished has an operand whose farewell isn't done. What is in the queue or
-/// on a worker was taken and has its operands. A busy worker is one of the machine's, has a storage for each operand of
-/// its task, and has completed no more instructions than a task may.
+/// that runs is on a worker, and one that has finished has an operand whose farewell isn't done. What is in the queue
+/// or on a worker was taken and has its operands. A busy worker is one of the machine's, has a storage for each operand
+/// of its task, and has completed no more instructions than a task may.
 pub fn stages()
     ensures { StagesLaw }
 {}
 
 /// Each name in the stations, the workers, the tables for renaming and versioning, the copy engines, and the messages
 /// but decodes is of an operand that has been decoded: its task was taken, its place is one of its task's, and its
-/// decode isn't under way. The names of registered versions and copies, of readers in a version's chain, of operands that
-/// are ready, and of ready, link, release, bye, idle, nack, retire and gone messages are of operands whose open and use
-/// aren't under way either.
+/// decode isn't under way. The names of registered versions and copies, of readers in a version's chain, of operands
+/// that are ready, and of ready, link, release, bye, idle, nack, retire and gone messages are of operands whose open
+/// and use aren't under way either.
 pub fn names()
     ensures { NamesLaw }
 {}
@@ -148,9 +150,9 @@ pub fn asking()
     ensures { AskingLaw }
 {}
 
-/// A place is held under the name of an open under way, of a version, of one that is copied home, or of one that is gone
-/// with its message under way. Under one name there is one of these at most, and each holds a place in the bank of its
-/// object.
+/// A place is held under the name of an open under way, of a version, of one that is copied home, or of one that is
+/// gone with its message under way. Under one name there is one of these at most, and each holds a place in the bank of
+/// its object.
 pub fn held_places()
     ensures { HeldPlacesLaw }
 {}

@@ -1,6 +1,7 @@
 -- Each clause is its lemma at the state that the run leaves.
 use Rattle.tss_laws.proofs.main_event.Goals as goal
-use Rattle.tss_program_order.proofs.MainEvent.{main_on-enabled, pieces-run, follows_main, main_rises, cut_off_rises, main_stores}
+use Rattle.tss_program_order.proofs.MainEvent.{main_on-enabled, pieces-run, follows_main, main_rises, cut_off_rises}
+use Rattle.tss_program_order.proofs.MainEvent.{main_stores}
 use Rattle.tss_program_order.proofs.RunKeeps.{HasGround-run}
 
 pub returns-clause-in_order : goal.returns-clause-in_order
