@@ -30,7 +30,7 @@ use Rattle.tss_control.proofs.GroundworkControl.{Facts-Run}
 use Rattle.tss_values.proofs.ValuesJoin.{values_of_run}
 
 -- it is the bank of such an operand's object
-abbrev pub IsBankOf : Sizes → List Task → OpName → ℕ → Type 0
+abbrev IsBankOf : Sizes → List Task → OpName → ℕ → Type 0
 IsBankOf sizes all b bank = (q : Operand) × IsOperandOf all b q × (bank ≡ bank_of sizes q.object)
 
 -- each held buffer has that bank

@@ -1,5 +1,6 @@
 -- Only held buffers have contents, and these are as long as an object may be.
-use Rattle.std.proofs.Common.{◌≡◌, ℕ, zero, suc, ◌-◌, Bool, true, false, cond, List, [], ◌∷◌, length, Option, Some, None, refl, sym, ap, ◌∙◌, subst}
+use Rattle.std.proofs.Common.{◌≡◌, ℕ, zero, suc, ◌-◌, Bool, true, false, cond, List, [], ◌∷◌, length, Option, Some}
+use Rattle.std.proofs.Common.{None, refl, sym, ap, ◌∙◌, subst}
 use Rattle.std.specs.Prelude.{nat_le, slice_get, unwrap_or}
 use Rattle.std.specs.FinMap.{get, get-empty}
 use Rattle.std.proofs.lemmas.Option.{none-some, same_Some}
@@ -28,9 +29,12 @@ use Rattle.tss_protocol.specs.State.{State, Flying, Busy}
 use Rattle.tss_protocol.specs.Stations.{storages_of}
 use Rattle.tss_protocol.specs.Renaming.{takes_buffer, buffers_after_decode, buffers_after_gone}
 use Rattle.tss_protocol.specs.Buffers.{buffer_bytes, contents_after_gone}
-use Rattle.tss_protocol.specs.Workers.{Stores, Placed, placed_in, placed_at, worker_byte, worker_write, write_in, storage_write, storage_zeroed, output_zeroed, outputs_zeroed, exec_stretch, task_state_of}
+use Rattle.tss_protocol.specs.Workers.{Stores, Placed, placed_in, placed_at, worker_byte, worker_write, write_in}
+use Rattle.tss_protocol.specs.Workers.{storage_write, storage_zeroed, output_zeroed, outputs_zeroed, exec_stretch}
+use Rattle.tss_protocol.specs.Workers.{task_state_of}
 use Rattle.tss_protocol.specs.Names.{bank_of}
-use Rattle.tss_protocol.specs.UnitMachine.{after_event, stores_of, without, decode_message_taken, gone_message_taken, start_task, after_start, after_exec}
+use Rattle.tss_protocol.specs.UnitMachine.{after_event, stores_of, without, decode_message_taken, gone_message_taken}
+use Rattle.tss_protocol.specs.UnitMachine.{start_task, after_start, after_exec}
 use Rattle.tss_protocol.specs.Run.{IsRun}
 use Rattle.tss_locality.proofs.LeftFields.{Leaves-after_event}
 use Rattle.tss_names.specs.Names.{EachEntry}
@@ -44,15 +48,15 @@ use Rattle.tss_conditions.specs.Running.{MayRunOver}
 use Rattle.tss_conditions.proofs.Running.{beside_in, may_start, is_running}
 
 -- a buffer is held
-abbrev pub IsHeld : Named ℕ → OpName → Type 0
+abbrev IsHeld : Named ℕ → OpName → Type 0
 IsHeld buffers n = (bank : ℕ) × (get buffers n ≡ Some bank)
 
 -- it is held, and its bytes are so many
-abbrev pub IsWhole : Named ℕ → ℕ → OpName → List ℕ → Type 0
+abbrev IsWhole : Named ℕ → ℕ → OpName → List ℕ → Type 0
 IsWhole buffers most n bytes = IsHeld buffers n × (length bytes ≡ most)
 
 -- all contents are of such
-abbrev pub AreWhole : Named ℕ → ℕ → Named (List ℕ) → Type 0
+abbrev AreWhole : Named ℕ → ℕ → Named (List ℕ) → Type 0
 AreWhole buffers most contents = EachEntry (IsWhole buffers most) contents
 
 -- the buffers of storages are held

@@ -1,5 +1,6 @@
 -- A copy that is under way has bytes still to be moved.
-use Rattle.std.proofs.Common.{◌≡◌, ℕ, ◌+◌, ◌-◌, ◌<◌, Bool, true, false, List, Option, Some, None, refl, sym, ◌∙◌, subst, inl, inr, arith}
+use Rattle.std.proofs.Common.{◌≡◌, ℕ, ◌+◌, ◌-◌, ◌<◌, Bool, true, false, List, Option, Some, None, refl, sym, ◌∙◌, subst}
+use Rattle.std.proofs.Common.{inl, inr, arith}
 use Rattle.std.specs.Prelude.{min}
 use Rattle.std.specs.FinMap.{get, insert, get-empty}
 use Rattle.std.specs.Ordering.{nat_cmp}
@@ -29,7 +30,7 @@ use Rattle.tss_values.proofs.ValuesJoin.{values_of_run}
 use Rattle.tss_values.proofs.ValuesFinds.{fit_run}
 
 -- each copy has
-abbrev pub HaveBytesLeft : Numbered CopyState → Type 0
+abbrev HaveBytesLeft : Numbered CopyState → Type 0
 HaveBytesLeft copies = (b : ℕ) (c : CopyState) → get copies b ≡ Some c → c.moved < c.object.len
 
 -- a piece that isn't the last leaves some

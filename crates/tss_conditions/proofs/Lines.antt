@@ -1,5 +1,5 @@
 -- The lines of the banks beside what is to be decoded: a decode that is sent enters a line.
-use Rattle.std.proofs.Common.{◌≡◌, ℕ, suc, ◌+◌, ◌*◌, ◌≤◌, Option, Some, None, refl, sym, ap, ◌∙◌, arith}
+use Rattle.std.proofs.Common.{◌≡◌, ℕ, ◌*◌, ◌≤◌, Option, Some, None, refl, sym, ap, ◌∙◌, arith}
 use Rattle.std.specs.Prelude.{◌==◌}
 use Rattle.std.specs.FinMap.{get, len}
 use Rattle.std.proofs.Math.Nat.{mul_comm}
@@ -14,14 +14,11 @@ use Rattle.tss_base.specs.Machine.{IsAdmissible}
 use Rattle.tss_base.specs.Names.{Named}
 use Rattle.tss_maps.specs.Parts.{key_where}
 use Rattle.tss_maps.proofs.Keys.{name_order}
-use Rattle.tss_maps.proofs.Entries.{len_added, len_at_most}
+use Rattle.tss_maps.proofs.Entries.{len_at_most}
 use Rattle.tss_maps.proofs.PartsLemmas.{get-keys_where}
 use Rattle.tss_protocol.specs.Names.{bank_of}
-use Rattle.tss_protocol.specs.Mail.{Decode, Mail, message_at}
 use Rattle.tss_protocol.specs.Renaming.{line_of}
 use Rattle.tss_names.proofs.MessageLemmas.{more_times}
-use Rattle.tss_conditions.specs.Taking.{MayExpect}
-use Rattle.tss_conditions.proofs.Postable.{nothing_there}
 
 module _ (sizes : Sizes) (bank : ℕ) (decodes : Named Operand) where
   -- what stands in a line is to be decoded
@@ -56,15 +53,3 @@ window_room m admissible =
     let own = mul_comm m.sizes.window m.limits.max_operands in
     let seven = mul_comm m.sizes.window 7 in
     omega (arith, more, own, seven)
-
--- the next decode of several enters a line
-pub expect_next : (sizes : Sizes) (most n : ℕ) (m : Mail) (o : OpName) (p : Operand)
-    → message_at m (event.Decode o) ≡ None → len m.decodes + suc n ≤ most → MayExpect sizes most n m o p
-expect_next sizes most n m o p fresh room =
-    let none = nothing_there (Decode o) (get m.decodes o) fresh in
-    let one = len_added name_order m.decodes o p none in
-    record {
-      fresh = λ bank. no_line sizes bank m.decodes o none;
-      room = λ bank. let few = few_in_line sizes bank m.decodes in omega (arith, few, room);
-      rest = omega (arith, one, room);
-    }

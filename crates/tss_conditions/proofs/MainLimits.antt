@@ -1,5 +1,6 @@
 -- Main completes no more instructions than it may, and prints no more bytes.
-use Rattle.std.proofs.Common.{◌≡◌, ℕ, zero, suc, ◌+◌, ◌<◌, ◌≤◌, Bool, true, false, if◌then◌else◌, List, [], ◌∷◌, ◌++◌, length, Option, Some, None, Result, Ok, Err, refl, sym, ap, ◌∙◌, subst, arith}
+use Rattle.std.proofs.Common.{◌≡◌, ℕ, zero, suc, ◌+◌, ◌<◌, ◌≤◌, Bool, true, false, if◌then◌else◌, List, [], ◌∷◌, ◌++◌}
+use Rattle.std.proofs.Common.{length, Option, Some, None, Result, Ok, Err, refl, sym, ap, ◌∙◌, subst, arith}
 use Rattle.std.specs.Prelude.{◌==◌, nat_lt, is_some, is_none}
 use Rattle.std.proofs.lemmas.Bool.{leb-false, ltb-false}
 use Rattle.std.proofs.lemmas.Option.{none-some}
@@ -19,7 +20,11 @@ use Rattle.tss_model.specs.Access.{MainActor, touches}
 use Rattle.tss_model.specs.Core.{Stepped, Executed, Called, Ended, Trapped, Touched}
 use Rattle.tss_model.specs.TaskRun.{repeated}
 use Rattle.tss_model.specs.Spawn.{spawn_of}
-use Rattle.tss_model.specs.MainStep.{Piece, MainState, Flat, Call, ExitCall, Spawn, Barrier, Print, Await, Unknown, has_spent, main_on, main_core, main_step, main_stretch, output_of, main_ended, main_trapped, main_refused, call_done, spawn_call, spawn_done, spawn_on, print_range, print_done, print_call, awaited_object, await_done, await_on, main_call}
+use Rattle.tss_model.specs.MainStep.{Piece, MainState, Flat, Call, ExitCall, Spawn, Barrier, Print, Await, Unknown}
+use Rattle.tss_model.specs.MainStep.{has_spent, main_on, main_core, main_step, main_stretch, output_of, main_ended}
+use Rattle.tss_model.specs.MainStep.{main_trapped, main_refused, call_done, spawn_call, spawn_done, spawn_on}
+use Rattle.tss_model.specs.MainStep.{print_range, print_done, print_call, awaited_object, await_done, await_on}
+use Rattle.tss_model.specs.MainStep.{main_call}
 use Rattle.tss_protocol.specs.State.{State, initial_state}
 use Rattle.tss_protocol.specs.MainEvent.{flat_of, call_next, after_call, main_by}
 use Rattle.tss_protocol.specs.UnitMachine.{after_event}

@@ -18,7 +18,8 @@ use Rattle.tss_control.specs.Members.{IsVersionOf}
 use Rattle.tss_control.specs.Chains.{OpensAfter}
 use Rattle.tss_control.proofs.rounds.Facts.{Facts}
 use Rattle.tss_control.proofs.holders.Finished.{its_operand}
-use Rattle.tss_conditions.specs.Opening.{IsNextOf, IsBeforeOf, RegisteredLaw, LinksLaw, HasOpenForm, IsLastOf, OpeningLaw, IsUsable, UsingLaw}
+use Rattle.tss_conditions.specs.Opening.{IsNextOf, IsBeforeOf, RegisteredLaw, LinksLaw, HasOpenForm, IsLastOf}
+use Rattle.tss_conditions.specs.Opening.{OpeningLaw, IsUsable, UsingLaw}
 use Rattle.tss_conditions.proofs.Known.{facts_reached}
 use Rattle.tss_conditions.proofs.VersionRoom.{few_versions}
 use Rattle.tss_conditions.proofs.Holding.{few_operands, held_in_bank}

@@ -4,7 +4,8 @@ use Rattle.std.specs.Prelude.{option_map}
 use Rattle.std.specs.FinMap.{get}
 use Rattle.tss_maps.proofs.Keys.{name_order}
 use Rattle.tss_maps.proofs.Entries.{len_added}
-use Rattle.tss_protocol.specs.Mail.{Message, Decode, Ack, Open, Use, Ready, Link, Release, Bye, Idle, Nack, Retire, Gone, Mail, name_of, posted, posted_all, message_at, message_count}
+use Rattle.tss_protocol.specs.Mail.{Message, Decode, Ack, Open, Use, Ready, Link, Release, Bye, Idle, Nack, Retire}
+use Rattle.tss_protocol.specs.Mail.{Gone, Mail, name_of, posted, posted_all, message_at, message_count}
 use Rattle.tss_conditions.specs.Posting.{ArePostable, MayPostAll, MayPostNext}
 
 -- one list after another

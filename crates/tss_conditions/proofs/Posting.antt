@@ -19,11 +19,15 @@ use Rattle.tss_phases.proofs.Tests.{something}
 use Rattle.std.specs.Prelude.{is_some}
 use Rattle.std.proofs.lemmas.Option.{none-some, same_Some}
 use Rattle.tss_control.proofs.GroundworkControl.{sizes_of_runs}
-use Rattle.tss_conditions.specs.Posting.{take_sends, decode_sends, open_sends, use_sends, ready_sends, link_sends, finish_sends, release_sends, idle_sends, retire_sends, copy_sends, sent_by_event, ArePostable, PostingLaw}
+use Rattle.tss_conditions.specs.Posting.{take_sends, decode_sends, open_sends, use_sends, ready_sends, link_sends}
+use Rattle.tss_conditions.specs.Posting.{finish_sends, release_sends, idle_sends, retire_sends, copy_sends}
+use Rattle.tss_conditions.specs.Posting.{sent_by_event, ArePostable, PostingLaw}
 use Rattle.tss_conditions.proofs.Known.{reached_after, facts_reached}
 use Rattle.tss_conditions.proofs.Postable.{message_count-posted_all}
-use Rattle.tss_conditions.proofs.PostingVersions.{postable_open, postable_use, postable_release, postable_nack, postable_retire}
-use Rattle.tss_conditions.proofs.PostingTasks.{postable_take, postable_decode, postable_ready, postable_link, postable_finish, postable_idle, postable_copy}
+use Rattle.tss_conditions.proofs.PostingVersions.{postable_open, postable_use, postable_release, postable_nack}
+use Rattle.tss_conditions.proofs.PostingVersions.{postable_retire}
+use Rattle.tss_conditions.proofs.PostingTasks.{postable_take, postable_decode, postable_ready, postable_link}
+use Rattle.tss_conditions.proofs.PostingTasks.{postable_finish, postable_idle, postable_copy}
 use Rattle.tss_conditions.proofs.PostingMail.{mail_after}
 
 module _ (m : Machine) (S : State) (facts : Facts m S) where

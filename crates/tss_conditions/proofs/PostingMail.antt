@@ -8,11 +8,18 @@ use Rattle.tss_base.specs.declared.machine.Machine.{Machine}
 use Rattle.tss_base.specs.declared.event.Event.{Event}
 use Rattle.tss_base.specs.declared.event.Event.TheVariants as event
 use Rattle.tss_model.specs.MainStep.{Call, main_call}
-use Rattle.tss_protocol.specs.Mail.{Source, OpenContents, ReleaseContents, IdleContents, GoneContents, posted_all, taken}
+use Rattle.tss_protocol.specs.Mail.{Source, OpenContents, ReleaseContents, IdleContents, GoneContents, posted_all}
+use Rattle.tss_protocol.specs.Mail.{taken}
 use Rattle.tss_protocol.specs.State.{State, Flying, Busy, Version, CopyState}
 use Rattle.tss_protocol.specs.MainEvent.{call_next, after_call, main_by}
-use Rattle.tss_protocol.specs.UnitMachine.{without, after_event, after_take, decode_message_taken, open_message_taken, use_message_taken, ready_message_taken, link_message_taken, bye_message_taken, start_task, after_start, after_exec, after_finish, release_message_taken, idle_message_taken, retire_version, after_copy, gone_message_taken}
-use Rattle.tss_conditions.specs.Posting.{take_sends, decode_sends, open_sends, use_sends, ready_sends, link_sends, finish_sends, release_sends, idle_sends, retire_sends, copy_sends, sent_by_event}
+use Rattle.tss_protocol.specs.UnitMachine.{without, after_event, after_take, decode_message_taken, open_message_taken}
+use Rattle.tss_protocol.specs.UnitMachine.{use_message_taken, ready_message_taken, link_message_taken}
+use Rattle.tss_protocol.specs.UnitMachine.{bye_message_taken, start_task, after_start, after_exec, after_finish}
+use Rattle.tss_protocol.specs.UnitMachine.{release_message_taken, idle_message_taken, retire_version, after_copy}
+use Rattle.tss_protocol.specs.UnitMachine.{gone_message_taken}
+use Rattle.tss_conditions.specs.Posting.{take_sends, decode_sends, open_sends, use_sends, ready_sends, link_sends}
+use Rattle.tss_conditions.specs.Posting.{finish_sends, release_sends, idle_sends, retire_sends, copy_sends}
+use Rattle.tss_conditions.specs.Posting.{sent_by_event}
 
 module _ (m : Machine) (S : State) where
   -- ---- by what an event finds

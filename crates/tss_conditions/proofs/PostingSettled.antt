@@ -1,6 +1,7 @@
 -- What a settle sends may be posted, where no message says yet that a version is gone, or asks for one that doesn't
 -- ask, and whom it tells isn't told yet.
-use Rattle.std.proofs.Common.{◌≡◌, ℕ, zero, suc, Bool, true, false, if◌then◌else◌, Option, Some, None, refl, sym, ap, ◌∙◌, inl, inr}
+use Rattle.std.proofs.Common.{◌≡◌, ℕ, zero, suc, Bool, true, false, if◌then◌else◌, Option, Some, None, refl, sym, ap}
+use Rattle.std.proofs.Common.{◌∙◌, inl, inr}
 use Rattle.std.specs.Prelude.{option_map}
 use Rattle.std.specs.FinMap.{get, insert}
 use Rattle.tss_base.specs.declared.operand.OpName.{OpName}
@@ -12,7 +13,9 @@ use Rattle.tss_maps.proofs.Keys.{name_order}
 use Rattle.tss_maps.proofs.Changes.{beside_inserted, from_inserted, from_removed}
 use Rattle.tss_protocol.specs.Mail.{StorageName, GoneContents, Ready, Idle, Gone, Mail, posted}
 use Rattle.tss_protocol.specs.State.{Version}
-use Rattle.tss_protocol.specs.Versions.{drop_version, version_changed, change_version, change_named, ready_with, buffer_of, died, may_die, may_ask, followed_by, unlinked, settle_how, settle_asking, unchanged, settle_by, settle_at, settle}
+use Rattle.tss_protocol.specs.Versions.{drop_version, version_changed, change_version, change_named, ready_with}
+use Rattle.tss_protocol.specs.Versions.{buffer_of, died, may_die, may_ask, followed_by, unlinked, settle_how}
+use Rattle.tss_protocol.specs.Versions.{settle_asking, unchanged, settle_by, settle_at, settle}
 use Rattle.tss_protocol.specs.Settled.{GivesWay}
 use Rattle.tss_phases.specs.Settling.{SettleTells}
 use Rattle.tss_names.specs.Names.{EachEntry}

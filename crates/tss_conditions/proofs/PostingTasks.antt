@@ -1,5 +1,6 @@
 -- The messages of the gateway, the stations, the renaming tables and the copy engines may be posted.
-use Rattle.std.proofs.Common.{◌≡◌, ◌≢◌, ℕ, suc, ◌≤◌, Bool, true, false, List, [], ◌∷◌, ◌++◌, Option, Some, None, refl, sym, ap, ◌∙◌, subst, inl, inr, arith}
+use Rattle.std.proofs.Common.{◌≡◌, ◌≢◌, ℕ, suc, ◌≤◌, Bool, true, false, List, [], ◌∷◌, ◌++◌, Option, Some, None, refl}
+use Rattle.std.proofs.Common.{sym, ap, ◌∙◌, subst, inl, inr, arith}
 use Rattle.std.specs.Prelude.{◌||◌, option_map, slice_get}
 use Rattle.std.specs.FinMap.{get, remove}
 use Rattle.std.proofs.lemmas.Option.{none-some, same_Some}
@@ -17,10 +18,13 @@ use Rattle.tss_maps.proofs.Keys.{name_order, decide_key}
 use Rattle.tss_maps.proofs.Changes.{at_removed, beside_removed, beside_inserted, decide_get}
 use Rattle.tss_model.specs.Access.{operands_of}
 use Rattle.tss_protocol.specs.Names.{operand_name}
-use Rattle.tss_protocol.specs.Mail.{Source, IdleContents, Decode, Ack, Open, Use, Ready, Release, Nack, Retire, Gone, Mail, posted, taken}
+use Rattle.tss_protocol.specs.Mail.{Source, IdleContents, Decode, Ack, Open, Use, Ready, Release, Nack, Retire, Gone}
+use Rattle.tss_protocol.specs.Mail.{Mail, posted, taken}
 use Rattle.tss_protocol.specs.State.{State, OperandState, Flying, Busy, Entry, CopyState}
 use Rattle.tss_protocol.specs.Gateway.{decodes_from, sent_by_take}
-use Rattle.tss_protocol.specs.Stations.{sent_by_ready, sent_by_link, woken_by, woken_in, after_ready, linked_by, linked_in, after_link, release_of, releases_from, finished_in, flight_after_finish}
+use Rattle.tss_protocol.specs.Stations.{sent_by_ready, sent_by_link, woken_by, woken_in, after_ready, linked_by}
+use Rattle.tss_protocol.specs.Stations.{linked_in, after_link, release_of, releases_from, finished_in}
+use Rattle.tss_protocol.specs.Stations.{flight_after_finish}
 use Rattle.tss_protocol.specs.Renaming.{sent_by_decode, live_message, after_decode, may_retire, idle_by, after_idle}
 use Rattle.tss_protocol.specs.Buffers.{is_last_piece, sent_by_copy}
 use Rattle.tss_protocol.specs.UnitMachine.{tables_of}
@@ -190,7 +194,7 @@ module _ (m : Machine) (S : State) (facts : Facts m S) where
   -- ---- finish
 
   -- no operand of a task that runs on a worker has a release yet
-  pub none_releasing : (w : ℕ) (b : Busy) → get S.workers w ≡ Some b → (o : OpName) → o.task ≡ b.task.number
+  none_releasing : (w : ℕ) (b : Busy) → get S.workers w ≡ Some b → (o : OpName) → o.task ≡ b.task.number
       → get S.mail.releases o ≡ None
   none_releasing w b e o own = elim (decide_get S.mail.releases o) [
     | inl none ↦ none

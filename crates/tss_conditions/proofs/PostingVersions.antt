@@ -1,5 +1,6 @@
 -- The messages of the versioning tables may be posted.
-use Rattle.std.proofs.Common.{◌≡◌, ◌≢◌, ℕ, zero, suc, Bool, true, false, cond, List, [], ◌∷◌, ◌++◌, Option, Some, None, refl, sym, ap, ◌∙◌, subst, inl, inr, arith}
+use Rattle.std.proofs.Common.{◌≡◌, ◌≢◌, ℕ, zero, suc, Bool, true, false, cond, List, [], ◌∷◌, ◌++◌, Option, Some, None}
+use Rattle.std.proofs.Common.{refl, sym, ap, ◌∙◌, subst, inl, inr, arith}
 use Rattle.std.specs.Prelude.{◌==◌, option_map, is_none, not}
 use Rattle.std.specs.FinMap.{get, len}
 use Rattle.std.proofs.lemmas.Bool.{and_parts}
@@ -14,9 +15,13 @@ use Rattle.tss_base.specs.declared.marks.Follow.{Follow}
 use Rattle.tss_base.specs.Names.{Named}
 use Rattle.tss_maps.proofs.Keys.{name_order}
 use Rattle.tss_maps.proofs.Changes.{at_inserted, beside_inserted, decide_get, one_value}
-use Rattle.tss_protocol.specs.Mail.{StorageName, Home, Buffer, OpenContents, ReleaseContents, Message, Ready, Link, Bye, Gone, Mail, posted_all, taken}
+use Rattle.tss_protocol.specs.Mail.{StorageName, Home, Buffer, OpenContents, ReleaseContents, Ready, Link, Bye, Gone}
+use Rattle.tss_protocol.specs.Mail.{Mail, posted_all, taken}
 use Rattle.tss_protocol.specs.State.{State, Version}
-use Rattle.tss_protocol.specs.Versions.{put_version, ready_with, settled, may_die, unlinked, new_version, followed, opened_how, opened_by, after_open, used_alone, used_behind, used_at, after_use, head_ready, produced_now, released_once, is_last, released_by, released_at, after_release, refused_once, nacked_at, after_nack}
+use Rattle.tss_protocol.specs.Versions.{put_version, ready_with, settled, may_die, unlinked, new_version, followed}
+use Rattle.tss_protocol.specs.Versions.{opened_how, opened_by, after_open, used_alone, used_behind, used_at, after_use}
+use Rattle.tss_protocol.specs.Versions.{head_ready, produced_now, released_once, is_last, released_by, released_at}
+use Rattle.tss_protocol.specs.Versions.{after_release, refused_once, nacked_at, after_nack}
 use Rattle.tss_protocol.specs.Buffers.{sent_by_retire}
 use Rattle.tss_protocol.specs.Settled.{GivesWay}
 use Rattle.tss_protocol.proofs.SettleCases.{moved_up, at_changed, beside_changed, at_unlinked}
@@ -56,7 +61,7 @@ module _ (m : Machine) (S : State) (facts : Facts m S) where
   -- ---- what is known of the mail
 
   -- no message says that a registered version is gone, or asks for one that doesn't ask
-  pub all_unsaid : EachEntry (IsUnsaid S.mail) S.versions
+  all_unsaid : EachEntry (IsUnsaid S.mail) S.versions
   all_unsaid v x at = (
     (ground.places.versions v x at).2,
     λ quiet. elim (decide_get S.mail.idles v) [
@@ -287,9 +292,6 @@ module _ (m : Machine) (S : State) (facts : Facts m S) where
             (at_inserted name_order S.versions c.version (produced_now x)) in
             head_stays q head f (ap (λ (z : Version). z.successor) (sym is) ∙ gives.next)
             (ap (λ z. may_die z f.last) (sym is) ∙ gives.done)
-
-    abbrev bye_next : List Message → Bool → Mail
-    bye_next hs promised = posted_all (posted_all before hs) (Bye o promised ∷ [])
 
     -- what is sent after the bye
     rest_postable : (m : Mail) (z : Version) → z.asked ≡ x.asked → m.gones ≡ S.mail.gones → m.idles ≡ S.mail.idles

@@ -1,5 +1,6 @@
 -- What start, exec and finish find follows from the laws.
-use Rattle.std.proofs.Common.{◌≡◌, ◌≢◌, ℕ, zero, suc, ◌≤◌, Bool, true, false, List, [], ◌∷◌, length, Option, Some, None, refl, sym, ap, ◌∙◌, subst, inl, inr, arith, true≢false}
+use Rattle.std.proofs.Common.{◌≡◌, ◌≢◌, ℕ, zero, suc, ◌≤◌, Bool, true, false, List, [], ◌∷◌, length, Option, Some, None}
+use Rattle.std.proofs.Common.{refl, sym, ap, ◌∙◌, subst, inl, inr, arith, true≢false}
 use Rattle.std.specs.Prelude.{◌&&◌, not, slice_get, is_some, unwrap_or}
 use Rattle.std.specs.FinMap.{get}
 use Rattle.std.proofs.lemmas.List.{length-map}
@@ -37,7 +38,8 @@ use Rattle.tss_values.proofs.workers.Apart.{held}
 use Rattle.tss_values.proofs.workers.Finds.{finds_room}
 use Rattle.tss_conditions.specs.Reached.{Reached}
 use Rattle.tss_conditions.specs.Running.{HasFitObject, MayRunOver, IsSet, IsStartable, StartLaw, IsRunning, RunningLaw}
-use Rattle.tss_conditions.proofs.Known.{facts_reached, counts_reached, buffers_reached, operands_reached, room_reached, workers_reached}
+use Rattle.tss_conditions.proofs.Known.{facts_reached, counts_reached, buffers_reached, operands_reached, room_reached}
+use Rattle.tss_conditions.proofs.Known.{workers_reached}
 use Rattle.tss_conditions.proofs.Holding.{held_in_bank}
 use Rattle.tss_conditions.proofs.Taking.{proper_task}
 

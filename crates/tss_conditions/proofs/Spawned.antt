@@ -1,5 +1,6 @@
 -- The tasks that a run spawns have the operands that they count, and list no more than a task may.
-use Rattle.std.proofs.Common.{◌≡◌, ℕ, zero, suc, ◌≤◌, Bool, true, false, if◌then◌else◌, List, [], ◌∷◌, ◌++◌, length, replicate, Option, Some, None, Result, Ok, Err, refl, sym, ap, ◌∙◌, subst, arith}
+use Rattle.std.proofs.Common.{◌≡◌, ℕ, zero, suc, ◌≤◌, Bool, true, false, if◌then◌else◌, List, [], ◌∷◌, ◌++◌, length}
+use Rattle.std.proofs.Common.{replicate, Option, Some, None, Result, Ok, Err, refl, sym, ap, ◌∙◌, subst, arith}
 use Rattle.std.specs.Prelude.{◌+◌, ◌-◌, ◌==◌, ◌&&◌, nat_lt, nat_le, cond}
 use Rattle.std.proofs.lemmas.Bool.{ltb-false}
 use Rattle.std.proofs.lemmas.Option.{none-some, same_Some}
@@ -12,10 +13,13 @@ use Rattle.tss_base.specs.declared.machine.Machine.{Machine}
 use Rattle.tss_base.specs.declared.event.Event.{Event}
 use Rattle.tss_base.specs.declared.event.Event.TheVariants as event
 use Rattle.tss_base.specs.Image.{ImageState}
-use Rattle.tss_base.specs.declared.refusals.TheConstants.{TOO_MANY_OPERANDS, LIST_PLACE, MAIN_TOUCH, EPOCH_FULL, TOO_MANY_TASKS}
+use Rattle.tss_base.specs.declared.refusals.TheConstants.{TOO_MANY_OPERANDS, LIST_PLACE, MAIN_TOUCH, EPOCH_FULL}
+use Rattle.tss_base.specs.declared.refusals.TheConstants.{TOO_MANY_TASKS}
 use Rattle.tss_model.specs.Memory.{Memory}
 use Rattle.tss_model.specs.Access.{operands_of, touches}
-use Rattle.tss_model.specs.Spawn.{SpawnCall, Entry, list_range, is_misplaced, entries_at, entry_checked, after_first, with_rest, entries_checked, merged_operands, name_objects, objects_of, no_operand, task_of, task_checked, spawn_of}
+use Rattle.tss_model.specs.Spawn.{SpawnCall, Entry, list_range, is_misplaced, entries_at, entry_checked, after_first}
+use Rattle.tss_model.specs.Spawn.{with_rest, entries_checked, merged_operands, name_objects, objects_of, no_operand}
+use Rattle.tss_model.specs.Spawn.{task_of, task_checked, spawn_of}
 use Rattle.tss_model.specs.MainStep.{Call, ExitCall, Spawn, Barrier, Print, Await, Unknown, spawn_call, spawn_on}
 use Rattle.tss_protocol.specs.State.{State, initial_state}
 use Rattle.tss_protocol.specs.MainEvent.{call_next}
@@ -25,7 +29,7 @@ use Rattle.tss_names.proofs.RunLemmas.{kept_after}
 use Rattle.tss_program_order.proofs.FlatEpoch.{take-filled}
 
 -- it has the operands that it counts, and lists no more than a task may
-pub record CountsRightly (limits : Limits) (t : Task) : Type 0 where
+record CountsRightly (limits : Limits) (t : Task) : Type 0 where
   pub count : length (operands_of t) ≡ t.count
   pub listed : t.listed ≤ limits.max_operands
 

@@ -1,5 +1,6 @@
 -- What take finds follows from the laws.
-use Rattle.std.proofs.Common.{◌≡◌, ℕ, suc, ◌+◌, ◌<◌, ◌≤◌, Bool, true, false, List, [], ◌∷◌, length, Some, None, sym, ap, inl, inr, arith, true≢false}
+use Rattle.std.proofs.Common.{◌≡◌, ℕ, suc, ◌+◌, ◌<◌, ◌≤◌, Bool, true, false, List, [], ◌∷◌, length, Some, None, sym, ap}
+use Rattle.std.proofs.Common.{inl, inr, arith, true≢false}
 use Rattle.std.specs.FinMap.{get, len}
 use Rattle.std.proofs.lemmas.List.{length_push}
 use Rattle.tss_base.specs.declared.operand.OpName.{OpName}

@@ -8,7 +8,8 @@ use Rattle.tss_base.specs.declared.machine.Machine.{Machine}
 use Rattle.tss_base.specs.declared.event.Event.{Event}
 use Rattle.tss_base.specs.declared.event.Event.TheVariants as event
 use Rattle.tss_base.specs.Image.{ImageState}
-use Rattle.tss_protocol.specs.Mail.{Source, OpenContents, ReleaseContents, IdleContents, Message, Mail, name_of, posted, posted_all, message_at, taken, message_count}
+use Rattle.tss_protocol.specs.Mail.{Source, OpenContents, ReleaseContents, IdleContents, Message, Mail, name_of, posted}
+use Rattle.tss_protocol.specs.Mail.{posted_all, message_at, taken, message_count}
 use Rattle.tss_protocol.specs.State.{State, Busy, Version, CopyState}
 use Rattle.tss_protocol.specs.Gateway.{sent_by_take}
 use Rattle.tss_protocol.specs.Stations.{after_ready, after_link, flight_after_finish}

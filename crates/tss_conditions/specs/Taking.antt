@@ -5,8 +5,6 @@ use Rattle.tss_base.specs.declared.operand.OpName.{OpName}
 use Rattle.tss_base.specs.declared.operand.Operand.{Operand}
 use Rattle.tss_base.specs.declared.operand.Task.{Task}
 use Rattle.tss_base.specs.declared.bounds.TheConstants.{MAX_OPERANDS}
-use Rattle.tss_base.specs.declared.machine.Sizes.{Sizes}
-use Rattle.tss_protocol.specs.Mail.{Decode, Mail, posted}
 use Rattle.tss_base.specs.declared.machine.Machine.{Machine}
 use Rattle.tss_base.specs.declared.event.Event.TheVariants as event
 use Rattle.tss_base.specs.Image.{ImageState}
@@ -59,12 +57,6 @@ TakingLaw =
     → IsEnabled m S event.Take
     → S.inbox ≡ Some t
     → HasRoomToTake m S t
-
--- an operand whose decode is sent enters a line: it isn't there, there is room, and so there is for n more
-pub record MayExpect (sizes : Sizes) (most n : ℕ) (mail : Mail) (o : OpName) (p : Operand) : Type 0 where
-  pub fresh : (bank : ℕ) → get (line_of sizes bank mail.decodes) o ≡ None
-  pub room : (bank : ℕ) → len (line_of sizes bank mail.decodes) < most
-  pub rest : len (posted mail (Decode o p)).decodes + n ≤ most
 
 -- no bank's line is longer than all operands that a window of tasks may have
 abbrev pub LinesLaw : Type 0
