@@ -29,7 +29,7 @@ use Rattle.tss_names.proofs.RunLemmas.{kept_after}
 use Rattle.tss_program_order.proofs.FlatEpoch.{take-filled}
 
 -- it has the operands that it counts, and lists no more than a task may
-record CountsRightly (limits : Limits) (t : Task) : Type 0 where
+pub record CountsRightly (limits : Limits) (t : Task) : Type 0 where
   pub count : length (operands_of t) ≡ t.count
   pub listed : t.listed ≤ limits.max_operands
 

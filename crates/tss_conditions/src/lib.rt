@@ -1,7 +1,7 @@
 //! What the laws say of each call of a unit: where a run of an accepted image on an admissible machine leaves a state,
 //! and an event is enabled there, each condition of the calls by which that event is done. Each statement is over the
 //! reached state and the event alone; what the laws know beside them stays below. A condition is claimed only where a
-//! function here has it as its contract.
+//! function here has it as its contract. It stands on `tss_values` and all that this stands on.
 #![tactic(auto)]
 
 ghost use Rattle.tss_conditions.specs.Reached.{FirstLaw, ReachedLaw};

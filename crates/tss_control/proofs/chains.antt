@@ -1,4 +1,5 @@
--- The versions of an object stand in a chain, after each event.
+-- The versions of an object stand in a chain, after each event: with their neighbours, the storages that they take
+-- over, and the opens and uses on their way. Stands on `rounds`.
 pub mod Alike
 pub mod Frames
 pub mod GivingWay

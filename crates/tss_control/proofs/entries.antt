@@ -1,4 +1,5 @@
 -- After each event entries know the latest version and its readers, and a version that asks may retire but for a cause.
+-- Stands on `rounds` and `chains`.
 pub mod Decoded
 pub mod QuietEvents
 pub mod RetirementDecode

@@ -1,4 +1,5 @@
--- Each operand holds what its phase says, after each event.
+-- Each operand holds what its phase says, after each event: the version that it was told, its link, and its stage.
+-- Stands on `rounds`, `chains` and `readers`.
 pub mod Runners
 pub mod Order
 pub mod Stages

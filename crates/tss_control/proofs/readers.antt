@@ -1,4 +1,4 @@
--- The readers of a version wait for one another in the order in which they came, after each event.
+-- The readers of a version wait for one another in the order in which they came, after each event. Stands on `rounds`.
 pub mod Settle
 pub mod Links
 pub mod Stations

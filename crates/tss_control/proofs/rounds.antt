@@ -1,4 +1,6 @@
--- The round of tasks since the last barrier, and what the parts of control cite of one another.
+-- The round of tasks since the last barrier: its tasks and operands by their names, the facts of a controlled state
+-- that the other folders cite, and the entries after a decode and after the events that leave them. The lowest folder:
+-- it stands on the crates below alone.
 pub mod Facts
 pub mod Rounds
 pub mod EntriesFrames

@@ -65,7 +65,7 @@ pub record HasStorage (ts : List Task) (S : State) (v : OpName) (y : Version) : 
 
 -- ---- opens and uses
 
--- what an open that follows nothing says: its object has no version
+-- what an open that follows nothing says: its version is to be at home, and no other of its object is older
 pub record OpensFirst (S : State) (o : OpName) (c : OpenContents) : Type 0 where
   pub storage : c.storage ≡ Some Home
   pub first : (q : OpName) → IsMember S c.operand.object q → o.task ≤ q.task

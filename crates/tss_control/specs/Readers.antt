@@ -91,8 +91,8 @@ abbrev pub has_arrived : Phase → Bool
 has_arrived Waiting = true
 has_arrived p = knows_version p
 
--- a reader of a version: an input on its object that was decoded after it, with no writer between, and the opener
--- itself where that reads
+-- a reader of a version: an input on its object of a later task, with no writer between, and the opener itself where
+-- that reads
 pub record IsArrival (ts : List Task) (S : State) (v : OpName) (y : Version) (a : OpName) : Type 0 where
   pub on : IsOn ts y.object Input a
   pub arrived : has_arrived (phase_of S a) ≡ true

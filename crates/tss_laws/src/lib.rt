@@ -1,6 +1,7 @@
 //! The laws over every run of the unit machine, stated over the definitions alone: refinement of the execution in
 //! program order, with what holds of every reachable state, progress, the bound on events, and no false wait. A law is
-//! claimed only where a function here has it as its contract.
+//! claimed only where a function here has it as its contract. Each is proved in one of `tss_program_order`,
+//! `tss_names`, `tss_control`, `tss_progress` and `tss_values`, and is only joined to its statement here.
 #![tactic(auto)]
 
 ghost use Rattle.tss_program_order.specs.Refinement.{ResultLaw, SizesLaw, ProducedBytesLaw, WorkerBytesLaw};
@@ -99,8 +100,8 @@ pub fn task_numbers()
     ensures { TaskNumbersLaw }
 {}
 
-/// The gateway has operands of at most one task, which was taken. An operand is in it exactly where either its decode
-/// or its ack is under way, and never are both. A decode has the operand of its name.
+/// The gateway has operands of at most `window` tasks, all of them taken. An operand is in it exactly where either its
+/// decode or its ack is under way, and never are both. A decode has the operand of its name.
 pub fn gateway()
     ensures { GatewayLaw }
 {}
@@ -162,8 +163,8 @@ pub fn reader_counts()
     ensures { ReadersLaw }
 {}
 
-/// There are never more tasks in flight than slots, no more decode and ack messages than a task may have operands, and
-/// no more open, idle, nack, retire and gone messages than places of versions.
+/// There are never more tasks in flight than slots, no more decode and ack messages together than `window` tasks may
+/// have operands, and no more open, idle, nack, retire and gone messages together than places of versions.
 pub fn message_counts()
     ensures { MessagesLaw }
 {}

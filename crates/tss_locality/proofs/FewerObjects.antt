@@ -1,5 +1,4 @@
--- Where whole objects lose their names: links stay within those that are left. In a drained state any objects may have
--- names.
+-- Nothing is anywhere in a drained state, so any objects may have names there.
 use Rattle.std.proofs.Common.{◌≡◌, ℕ, true, Option, Some, None, sym, ap, ◌∙◌, arith}
 use Rattle.std.specs.Prelude.{◌==◌, ◌&&◌, is_none, length}
 use Rattle.std.specs.declared.cmp.Ordering.{Ordering}

@@ -1,4 +1,5 @@
--- What an event leaves of other objects and other tasks, and scopes of one object with fewer tasks.
+-- The scope of an object with any tasks is closed where it is with all, and is apart from every object with another
+-- base and other addresses.
 use Rattle.std.proofs.Common.{◌≡◌, ℕ, Some, sym, ap, ◌∙◌, subst}
 use Rattle.std.proofs.lemmas.Option.{same_Some}
 use Rattle.tss_base.specs.declared.range.Range.{Range}

@@ -1,4 +1,4 @@
--- Agreement on less, and what a change leaves of the parts of other objects and of other tasks.
+-- Agreement on less, and that a change leaves the part of every object that it doesn't concern.
 use Rattle.std.proofs.Common.{ℕ, sym, ap, ◌∙◌}
 use Rattle.tss_base.specs.declared.range.Range.{Range}
 use Rattle.tss_base.specs.declared.operand.OpName.{OpName}

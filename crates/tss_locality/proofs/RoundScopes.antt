@@ -1,5 +1,4 @@
--- In a state with a round: its tasks' operands have their objects, the inbox's task isn't in flight, and what each
--- event of a task, an operand or a version changes.
+-- In a state with a round an event of an operand or version leaves the part of every object apart from its own.
 use Rattle.std.proofs.Common.{◌≡◌, ℕ, List, Some}
 use Rattle.tss_base.specs.declared.range.Range.{Range}
 use Rattle.tss_base.specs.declared.operand.OpName.{OpName}

@@ -1,4 +1,5 @@
--- In every run links stay within the objects of the tasks since the last barrier, and the objects in use are named.
+-- After every event links stay within the objects of the tasks since the last barrier, and the objects in use are
+-- named.
 use Rattle.std.proofs.Common.{◌≡◌, ℕ, ◌<◌, List, [], Option, Some, None, refl, sym, ap, ◌∙◌}
 use Rattle.std.specs.Ordering.{nat_cmp}
 use Rattle.std.proofs.lemmas.Option.{none-some}

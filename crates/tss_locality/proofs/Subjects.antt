@@ -1,5 +1,5 @@
--- An event of an operand or version concerns its object and its task; start and exec concern the objects of a task's
--- operands and that task; finish concerns that task.
+-- An event of an operand or version concerns its object and its task alone, so every other object has the same part
+-- after it.
 use Rattle.std.proofs.Common.{◌≡◌, ℕ, cond, inl, inr, Some, None, sym, ap, ◌∙◌}
 use Rattle.std.specs.Prelude.{slice_get}
 use Rattle.std.proofs.lemmas.Option.{none-some, same_Some}

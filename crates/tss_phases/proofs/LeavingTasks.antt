@@ -1,5 +1,5 @@
--- A task leaves exactly where it has finished and the farewells of all its operands are done, and the phases of its
--- operands are then all left.
+-- A task that leaves has finished, and the farewells of all its operands are done. Whether it leaves or not, its
+-- operands have the phases that its records give.
 use Rattle.std.proofs.Common.{◌≡◌, ◌≢◌, ℕ, zero, suc, Bool, true, false, List, [], ◌∷◌, Option, Some, None, refl, sym}
 use Rattle.std.proofs.Common.{ap, ◌∙◌}
 use Rattle.std.specs.Prelude.{slice_get, if◌then◌else◌}

@@ -1,5 +1,5 @@
--- What stands in a named object changes, in program order, only by the tasks that write it: where an object is named
--- without a break, the bytes that a task finds there are those that the last writer left.
+-- What stands in a named object changes, in program order, only by the tasks that write it: it stays as long as the
+-- object is named without a break and nothing writes it.
 use Rattle.std.proofs.Common.{◌≡◌, ℕ, zero, suc, ◌+◌, ◌<◌, ◌≤◌, Bool, true, false, Option, Some, None, List, [], ◌∷◌}
 use Rattle.std.proofs.Common.{refl, sym, ap, ◌∙◌, arith, nat_le, nat_lt}
 use Rattle.std.specs.Prelude.{◌&&◌, unwrap_or}

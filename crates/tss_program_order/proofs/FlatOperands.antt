@@ -1,5 +1,5 @@
 -- The operands of an accepted spawn: each lies in memory, which can be written where the operand is, has bytes and not
--- too many, and no address lies in two of them.
+-- too many, and is known by its object.
 use Rattle.std.proofs.Common.{◌≡◌, ℕ, zero, suc, ◌<◌, ◌≤◌, inl, inr, Bool, true, false, Option, Some, None, List, []}
 use Rattle.std.proofs.Common.{◌∷◌, ◌++◌, refl, sym, ap, subst, ◌∙◌, arith, nat_lt}
 use Rattle.std.specs.Prelude.{cond, if◌then◌else◌, slice_get, filter, ◌==◌, ◌%◌, ◌&&◌, ◌||◌, option_map}

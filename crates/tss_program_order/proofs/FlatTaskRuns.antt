@@ -1,6 +1,5 @@
--- A task on two memories that agree on what it has at its start: in the objects of its input and inout operands, and in
--- memory that can't be written. It has the same registers, scratch and trap after as many steps, and leaves the same
--- bytes in its objects.
+-- Where a task may load: in its operands' objects, of which some are read and the others become zeros at the start, and
+-- in memory that can't be written.
 use Rattle.std.proofs.Common.{◌≡◌, ◌⊎◌, ℕ, inl, inr, Bool, true, false, Option, Some, None, List, [], ◌∷◌, refl}
 use Rattle.std.specs.Prelude.{◌&&◌, ◌||◌, not, cond}
 use Rattle.std.specs.List.{list_any}

@@ -1,5 +1,5 @@
--- Where main follows program order: at first, wherever program order has a state with the same main, and through the
--- events of the other units. Where main has ended there, so does program order.
+-- Main follows program order at first. Where it does and has not ended, program order has the state beside it, and
+-- where main has ended there, so does program order.
 use Rattle.std.proofs.Common.{◌≡◌, false, Option, Some, refl, sym, ap, ◌∙◌}
 use Rattle.std.specs.Prelude.{is_some, unwrap_or}
 use Rattle.tss_base.specs.declared.ending.Ending.{Ending}
@@ -20,7 +20,7 @@ pub follows-initial_state : (m : Machine) (i : ImageState) → FollowsInOrder m 
 unfolding repeated
 follows-initial_state m i = record { main = refl; home = λ a may. refl }
 
--- that state is then the one beside main
+-- where main has not ended and follows program order, that has the state beside main
 pub followed_by : (m : Machine) (i : ImageState) (S : State) → is_some S.main.ending ≡ false → FollowsInOrder m i S
     → main_after i m.limits S.main.registers.done ≡ Some (flat_beside i m.limits S.main)
 followed_by m i S on follows =

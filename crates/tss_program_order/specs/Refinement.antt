@@ -106,12 +106,12 @@ HasWorkerBytes m i es S =
 
 -- ---- main
 
--- an address lies in an object that has an entry, or stands in the inbox or in a decode message
+-- an address lies in the object of an operand of the inbox's task
 abbrev pub inbox_claims : Option Task → ℕ → Bool
 inbox_claims None a = false
 inbox_claims (Some t) a = list_any (λ o. covers o.object a) (operands_of t)
 
--- it lies in one that has an entry, stands in the inbox, or is still to be decoded
+-- it lies in an object that has an entry, is of the inbox's task, or is still to be decoded
 abbrev pub is_claimed : State → ℕ → Bool
 is_claimed S a =
     list_any (λ e. covers e.object a) (values S.entries)

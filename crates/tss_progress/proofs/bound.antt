@@ -1,4 +1,4 @@
--- A measure that each event lowers.
+-- A measure that each event lowers, so that no run has more events than the first state's. Stands on no other folder.
 pub mod Measure
 pub mod Settle
 pub mod Main

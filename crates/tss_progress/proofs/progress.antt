@@ -1,4 +1,5 @@
--- A state that is not finished has an enabled event.
+-- A state that is not finished has an enabled event: without one no message but decodes is under way, and the oldest
+-- task's decode finds room. Stands on no other folder.
 pub mod Choice
 pub mod Stuck
 pub mod Versions

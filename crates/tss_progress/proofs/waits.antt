@@ -1,4 +1,4 @@
--- A task that waits needs one that has not finished.
+-- A task that waits needs one that has not finished, where no message is under way. Stands on `progress`.
 pub mod Rising
 pub mod Silent
 pub mod Operands

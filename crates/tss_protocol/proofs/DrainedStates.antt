@@ -1,4 +1,4 @@
--- In a drained state nothing is anywhere, and no event that takes a message is enabled.
+-- In a drained state nothing is anywhere, and without messages there is none of any kind.
 use Rattle.std.proofs.Common.{◌≡◌, ℕ, Bool, true, false, List, [], ◌∷◌, length, Option, Some, None, refl, arith}
 use Rattle.std.specs.Prelude.{◌==◌, ◌&&◌, is_none}
 use Rattle.std.proofs.lemmas.Bool.Decides.{nat_tests}

@@ -1,4 +1,4 @@
--- Names of the unit machine: banks and stations by number, the operands of a task, and events by their kinds.
+-- Names of the unit machine: banks and stations by number, and the operands of a task.
 use Rattle.std.specs.Prelude.{ℕ, ◌-◌, ◌/◌, ◌%◌, Bool}
 use Rattle.std.specs.Ordering.{eq_by_cmp}
 use Rattle.tss_base.specs.declared.bounds.TheConstants.{BANK_BYTES}

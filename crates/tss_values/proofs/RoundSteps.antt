@@ -29,7 +29,7 @@ use Rattle.tss_values.proofs.Values.{IsInside}
 -- ---- what becomes of the round
 
 -- it stays, with the inbox
-record RoundStays (ts us : List Task) (S T : State) : Type 0 where
+pub record RoundStays (ts us : List Task) (S T : State) : Type 0 where
   pub list : us ≡ ts
   pub inbox : T.inbox ≡ S.inbox
 
@@ -43,7 +43,7 @@ pub record RoundGrows (ts us : List Task) (S T : State) : Type 0 where
   pub home : T.home ≡ S.home
 
 -- or it is over, in a drained state
-record RoundEnds (us : List Task) (S T : State) : Type 0 where
+pub record RoundEnds (us : List Task) (S T : State) : Type 0 where
   pub list : us ≡ []
   pub drained : is_drained S ≡ true
   pub inbox : T.inbox ≡ S.inbox

@@ -25,7 +25,7 @@ use Rattle.tss_control.proofs.GroundworkControl.{Facts-Run}
 use Rattle.tss_values.proofs.WorkerFacts.{WorkerFacts}
 
 -- what an event that may happen finds in a state that a run leaves
-record Finds (m : Machine) (i : ImageState) (S : State) : Type 0 where
+pub record Finds (m : Machine) (i : ImageState) (S : State) : Type 0 where
   pub accepted : IsAccepted i
   pub admissible : IsAdmissible m
   pub work : WorkerFacts m i S

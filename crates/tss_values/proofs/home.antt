@@ -1,4 +1,5 @@
--- What stands at home, after each event.
+-- What stands at home is what program order has there, after each event, but in objects that are in use. Stands on
+-- `returns` and `workers`.
 pub mod Events
 pub mod Kept
 pub mod Decode

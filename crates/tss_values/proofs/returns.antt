@@ -1,4 +1,5 @@
--- What is on its way home, after each event.
+-- What is copied home, or has come there, is what the last version had, after each event. Stands on `workers` for what
+-- these leave.
 pub mod Returns
 pub mod Copy
 pub mod Main

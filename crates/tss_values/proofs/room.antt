@@ -1,4 +1,4 @@
--- Storages have the room of their objects, after each event.
+-- The buffers that are set have the room of their objects, after each event. Stands on the values beside the folders.
 pub mod Settle
 pub mod Versions
 pub mod Stores

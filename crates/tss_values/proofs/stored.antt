@@ -1,4 +1,5 @@
--- What stands in each storage, after each event.
+-- What stands in the storage of each version is what program order has there, after each event. Stands on `workers`,
+-- `returns` and `storages`.
 pub mod Frames
 pub mod Quiet
 pub mod Settled

@@ -1,4 +1,5 @@
--- What stands on each worker, after each event.
+-- What stands on each worker is what program order has of its task, after each event. Stands on `room`, `storages`, and
+-- for the events of others on `stored` and `returns`.
 pub mod Told
 pub mod Hold
 pub mod Apart

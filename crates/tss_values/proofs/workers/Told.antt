@@ -29,7 +29,7 @@ use Rattle.tss_control.proofs.holders.Stages.{IsRunning, waits}
 use Rattle.tss_control.proofs.rounds.Facts.{Facts}
 
 -- a task in flight is that of a worker, with the storages that it has
-record IsToldTo (flight : Numbered Flying) (b : Busy) : Type 0 where
+pub record IsToldTo (flight : Numbered Flying) (b : Busy) : Type 0 where
   pub flying : Flying
   pub there : get flight b.task.number ≡ Some flying
   pub task : flying.task ≡ b.task
