@@ -10,8 +10,6 @@ mod rows;
 mod seats;
 mod store;
 mod table;
-#[cfg(test)]
-mod tests;
 
 pub use name_table::NameTable;
 pub use seats::Seats;

@@ -1,8 +1,14 @@
 // Each kind of table opened with ample memory, filled, emptied and filled anew.
-use crate::{NameTable, Seats, Table};
+use std::fmt::Debug;
 use std::process::Abort;
 use std::test::Fail;
 use tss_base::OpName;
+use tss_tables::{NameTable, Seats, Table};
+
+/// Checks that two values are equal. A call has fewer steps than `assert_eq!`, so a test of many is proved sooner.
+fn check_eq<T: PartialEq + Debug + Copy>(rt: &impl Abort, left: T, right: T) {
+    assert_eq!(rt; left, right);
+}
 
 /// Fills a table of three with the first three keys in an order that isn't theirs, and empties it.
 fn fill_and_empty(rt: &impl Abort, table: &mut Table<u32>, value: u32) {
@@ -11,27 +17,31 @@ fn fill_and_empty(rt: &impl Abort, table: &mut Table<u32>, value: u32) {
             table.add(key, value);
         }
     }
-    assert_eq!(rt; (table.len(), table.room()), (3, false));
-    assert_eq!(rt;
+    check_eq(rt, (table.len(), table.room()), (3, false));
+    check_eq(
+        rt,
         (table.get(9).copied(), table.get(40).copied()),
-        (None, Some(value))
+        (None, Some(value)),
     );
-    assert_eq!(rt;
+    check_eq(
+        rt,
         (table.first(), table.key_at(1), table.key_at(3)),
-        (Some(7), Some(40), None)
+        (Some(7), Some(40), None),
     );
-    assert_eq!(rt;
+    check_eq(
+        rt,
         (table.next_after(8), table.next_after(40)),
-        (Some(40), Some(0xffff_ffff))
+        (Some(40), Some(0xffff_ffff)),
     );
     if let Some(value) = table.get_mut(7) {
         *value = 70;
     }
-    assert_eq!(rt;
+    check_eq(
+        rt,
         (table.remove(7), table.remove(40), table.remove(40)),
-        (Some(70), Some(value), None)
+        (Some(70), Some(value), None),
     );
-    assert_eq!(rt; table.remove(0xffff_ffff), Some(value));
+    check_eq(rt, table.remove(0xffff_ffff), Some(value));
 }
 
 #[test]
@@ -54,13 +64,15 @@ fn names_come_back_in_order(rt: HostRuntime) -> Result<(), Fail> {
             table.add(name, name.task);
         }
     }
-    assert_eq!(rt;
+    check_eq(
+        &rt,
         (table.first(), table.next_after(first)),
-        (Some(first), Some(second))
+        (Some(first), Some(second)),
     );
-    assert_eq!(rt;
+    check_eq(
+        &rt,
         (table.remove(first), table.remove(second)),
-        (Some(1), Some(2))
+        (Some(1), Some(2)),
     );
     assert!(rt; table.is_empty());
     table.close();
@@ -76,14 +88,14 @@ fn places_hold_what_must_be_taken_out(rt: HostRuntime) -> Result<(), Fail> {
     for value in 0..2 {
         if 1 < seats.size() && !seats.has(1) {
             seats.add(1, Held(value));
-            assert_eq!(rt; (seats.has(0), seats.len()), (false, 1));
+            check_eq(&rt, (seats.has(0), seats.len()), (false, 1));
             match seats.remove(1) {
-                Some(Held(held)) => assert_eq!(rt; held, value),
+                Some(Held(held)) => check_eq(&rt, held, value),
                 None => assert!(rt; false, "nothing was held"),
             }
         }
     }
-    assert_eq!(rt; seats.len(), 0);
+    assert!(rt; seats.len() == 0);
     seats.close();
     Ok(())
 }
@@ -109,14 +121,15 @@ fn a_table_of_the_greatest_size_is_filled_and_emptied(rt: HostRuntime) -> Result
             table.add(key, number);
         }
     }
-    assert_eq!(rt; (table.len(), table.room()), (MOST, false));
-    assert_eq!(rt;
+    check_eq(&rt, (table.len(), table.room()), (MOST, false));
+    check_eq(
+        &rt,
         (table.key_at(MOST.saturating_sub(1)), table.key_at(MOST)),
-        (Some(name(MOST.saturating_sub(1))), None)
+        (Some(name(MOST.saturating_sub(1))), None),
     );
     for number in 0..MOST {
         let last = MOST.saturating_sub(1).saturating_sub(number);
-        assert_eq!(rt; table.remove(name(last)), Some(last));
+        check_eq(&rt, table.remove(name(last)), Some(last));
     }
     assert!(rt; table.is_empty());
     table.close();
