@@ -368,7 +368,7 @@ workload_rows() {
     printf 'self 40 mul\nend exit 0\ntasks 11520\noutput 0\n\ndigest %s\n' \
         f44f76301ea19cd225e4a2367a6055a190ea75cb2da47a994030bd8d07a03681 >expected
     answers "40 blocks a side, with products" 0 self 40 mul
-    timeout 100 "$tss" >usage
+    timeout 100 "$tss" self >usage
     says "41 blocks a side" 6 "$(cat usage)" self 41
 }
 

@@ -24,8 +24,7 @@ need setpriv util-linux
 # Where the program is a script that builds it, that is done first: the library is for the program alone.
 tss=$(readlink -f "${TSS:-$here/../tss}") || exit 2
 if [ "$(head -c 2 "$tss")" = '#!' ]; then
-    "$tss" >/dev/null
-    [ $? = 6 ] || exit 2
+    "$(dirname "$tss")/scripts/build" || exit 2
     tss=$(dirname "$tss")/crates/tss_run/out/tss_run
 fi
 work=$(mktemp -d) || exit 2

@@ -3,6 +3,8 @@
 # The last line is `N passed, M failed`. It ends with 0 where none failed, 1 where one did, and 2 where a package isn't
 # there.
 # The simulator is ../tss, or the program that TSS names.
+# (the compiler's flags are several words each)
+# shellcheck disable=SC2086
 here=$(cd "$(dirname "$0")" && pwd) || exit 2
 tss=${TSS:-$here/../tss}
 page=$here/../docs/ANSWERS.md

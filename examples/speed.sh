@@ -34,7 +34,7 @@ host() {
 
 # The seconds for an image, the least of three runs.
 seconds() {
-    for turn in 1 2 3; do
+    for _ in 1 2 3; do
         from=$(date +%s.%N)
         "$tss" inorder "out/$1.elf" big.toml >/dev/null
         echo "$(date +%s.%N) $from"

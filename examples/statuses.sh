@@ -32,6 +32,7 @@ answers() {
 # An image like exit7.elf with the four bytes of another first instruction, in octal.
 image() {
     cp "$here/exit7.elf" "$1"
+    # shellcheck disable=SC2059
     printf "$2" | dd of="$1" bs=1 seek=116 conv=notrunc 2>/dev/null
 }
 
@@ -59,6 +60,16 @@ answers "a log of two runs" 5 "schedule bad-line 4" run "$exit7" "$machine" give
 answers "a log of the present format" 5 "schedule bad-line 1" migrate new-log newer-log
 
 answers "no words" 6 "$usage"
+if [ -z "${TSS-}" ]; then
+    # The script's own: the program's usage line, and then a line for each form.
+    for word in --help -h help; do
+        answers "$word" 0 "$usage" $word
+    done
+    lacking=$(echo "${usage#usage: }" | sed 's/ | /\n/g' | while read -r form; do
+        awk -v form="$form  " 'index($0, form) == 1 { found = 1 } END { exit !found }' said || echo "$form"
+    done)
+    judge "a line for each form" 0 0 "$lacking" ""
+fi
 answers "an unknown word" 6 "$usage" in-order "$exit7" "$machine"
 answers "one word too many" 6 "$usage" inorder "$exit7" "$machine" "$machine"
 answers "a word that isn't UTF-8" 6 "$usage" inorder "$exit7" "$(printf 'm\377')"
@@ -103,6 +114,7 @@ judge "a reader that has gone" "$(cat status)" 8 "" ""
 cp "$exit7" large.elf
 printf '\000\000\300\003' | dd of=large.elf bs=1 seek=104 conv=notrunc 2>/dev/null
 (
+    # shellcheck disable=SC3045
     ulimit -v 40000
     exec "$tss" inorder large.elf "$machine" >said 2>errors
 )
