@@ -106,6 +106,3 @@ pub fn read_image(alloc: Global, bytes: &[u8]) -> Result<Image, ImageFault>
     sort_by_address(&mut kept);
     load(alloc, bytes, &kept)
 }
-
-#[cfg(test)]
-mod tests;
