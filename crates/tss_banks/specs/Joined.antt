@@ -1,9 +1,8 @@
 -- The finite maps of all banks, joined into one.
-use Rattle.std.specs.Prelude.{◌≡◌, ◌≢◌, ℕ, suc, List, [], ◌∷◌, get_or, Some, None}
+use Rattle.std.specs.Prelude.{◌≡◌, ◌≢◌, ℕ, List, get_or, Some, None}
 use Rattle.std.specs.List.{flat_map}
 use Rattle.std.specs.declared.cmp.Ordering.{Ordering}
 use Rattle.std.specs.FinMap.{FinMap, empty, get, entries, from_entries}
-use Rattle.tss_maps.specs.Mapped.{mapped}
 
 -- a bank's map: an empty one where there is no such bank
 abbrev pub bank : {K X : Type 0} {R : K → K → Ordering} → List (FinMap R X) → ℕ → FinMap R X
@@ -26,11 +25,6 @@ IsInNoOther ms b k = (i : ℕ) → i ≢ b → get (bank ms i) k ≡ None
 abbrev pub HaveKeysOf : {K X Y : Type 0} {R : K → K → Ordering} → List (FinMap R X) → List (FinMap R Y) → Type 0
 HaveKeysOf {K} {X} {Y} ms ns =
     (i : ℕ) (k : K) (x : X) → get (bank ms i) k ≡ Some x → (y : Y) × (get (bank ns i) k ≡ Some y)
-
--- the banks' maps with the numbers of the banks, from the first one's, in the place of all values
-abbrev pub numbered : {K X : Type 0} {R : K → K → Ordering} → ℕ → List (FinMap R X) → List (FinMap R ℕ)
-numbered n [] = []
-numbered n (m ∷ ms) = mapped (λ x. n) m ∷ numbered (suc n) ms
 
 -- each value is the number of its bank
 abbrev pub AreNumbered : {K : Type 0} {R : K → K → Ordering} → List (FinMap R ℕ) → Type 0

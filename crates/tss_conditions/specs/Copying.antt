@@ -1,4 +1,4 @@
--- What copy finds of a bank's copy, and what retire finds of the bank.
+-- What copy finds of a bank's copy.
 use Rattle.std.specs.Prelude.{◌≡◌, ℕ, ◌<◌, ◌≤◌, true, Some}
 use Rattle.std.specs.FinMap.{get}
 use Rattle.tss_base.specs.declared.machine.Machine.{Machine}

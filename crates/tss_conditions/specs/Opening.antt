@@ -40,8 +40,8 @@ pub record IsBeforeOf (S : State) (whole : Range) (v q : OpName) : Type 0 where
   pub link : version.successor ≡ Some follow
   pub back : follow.version ≡ v
 
--- a registered version: it is settled, its neighbours are registered, it has no more readers than there are numbers,
--- and holds a place in the bank of its object
+-- a registered version: it is settled, its neighbours are registered, it has room for one more reader, and its place
+-- and its buffer are held in the bank of its object
 pub record IsRegistered (m : Machine) (S : State) (v : OpName) (x : Version) : Type 0 where
   pub settled : IsSettled x
   pub after : (f : Follow) → x.successor ≡ Some f → IsNextOf S x.object v f

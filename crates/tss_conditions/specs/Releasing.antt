@@ -10,8 +10,8 @@ use Rattle.tss_protocol.specs.Stations.{operand_at}
 use Rattle.tss_conditions.specs.Reached.{Reached}
 
 -- the version that a release names is registered, with a storage, and is of the object of the releasing operand, which
--- has a record. Its producer releases its own version, which is open, and a reader is one of those that haven't
--- released it
+-- has a record. Its producer releases its own version, which is open, and where a reader releases it, fewer have
+-- released it than are registered
 pub record IsReleasable (S : State) (o : OpName) (c : ReleaseContents) : Type 0 where
   pub version : Version
   pub there : get S.versions c.version ≡ Some version

@@ -1,4 +1,4 @@
--- What take finds of the task that it takes.
+-- What take finds of the task that it takes and of the banks' lines, and how long these get.
 use Rattle.std.specs.Prelude.{◌≡◌, ℕ, ◌+◌, ◌*◌, ◌<◌, ◌≤◌, true, length, Some, None}
 use Rattle.std.specs.FinMap.{get, len}
 use Rattle.tss_base.specs.declared.operand.OpName.{OpName}
