@@ -48,26 +48,26 @@ number_of kind.Retire = 15
 number_of kind.Copy = 16
 number_of kind.Gone = 17
 
--- the event that takes the message of a kind for an operand or a version
-abbrev pub event_taking : Kind → OpName → Option Event
-event_taking kind.Decode o = Some (event.Decode o)
-event_taking kind.Ack o = Some (event.Ack o)
-event_taking kind.Open o = Some (event.Open o)
-event_taking kind.Use o = Some (event.Use o)
-event_taking kind.Ready o = Some (event.Ready o)
-event_taking kind.Link o = Some (event.Link o)
-event_taking kind.Release o = Some (event.Release o)
-event_taking kind.Bye o = Some (event.Bye o)
-event_taking kind.Idle v = Some (event.Idle v)
-event_taking kind.Nack v = Some (event.Nack v)
-event_taking kind.Retire v = Some (event.Retire v)
-event_taking kind.Gone v = Some (event.Gone v)
-event_taking kind.Main o = None
-event_taking kind.Take o = None
-event_taking kind.Start o = None
-event_taking kind.Exec o = None
-event_taking kind.Finish o = None
-event_taking kind.Copy o = None
+-- the event of a kind with a name, that of an operand or a version, or of a worker or a bank by its task
+abbrev pub event_of : Kind → OpName → Event
+event_of kind.Main o = event.Main
+event_of kind.Take o = event.Take
+event_of kind.Decode o = event.Decode o
+event_of kind.Ack o = event.Ack o
+event_of kind.Open o = event.Open o
+event_of kind.Use o = event.Use o
+event_of kind.Ready o = event.Ready o
+event_of kind.Link o = event.Link o
+event_of kind.Start o = event.Start o.task
+event_of kind.Exec o = event.Exec o.task
+event_of kind.Finish o = event.Finish o.task
+event_of kind.Release o = event.Release o
+event_of kind.Bye o = event.Bye o
+event_of kind.Idle o = event.Idle o
+event_of kind.Nack o = event.Nack o
+event_of kind.Retire o = event.Retire o
+event_of kind.Copy o = event.Copy o.task
+event_of kind.Gone o = event.Gone o
 
 -- the message that an event takes, by its kind and the operand or version that it is for
 abbrev pub message_taken : Event → Option (Kind × OpName)

@@ -1,6 +1,6 @@
 // The kinds of events.
 ghost use Rattle.std.specs.Prelude.{◌≡◌, ◌<◌};
-ghost use Rattle.tss_base.specs.Kinds.{event_taking, number_of};
+ghost use Rattle.tss_base.specs.Kinds.{event_of, number_of};
 
 use crate::event::Event;
 use crate::operand::OpName;
@@ -8,8 +8,8 @@ use crate::operand::OpName;
 /// How many kinds of events there are.
 pub const KIND_COUNT: usize = 18;
 
-/// The kinds of events, in the order of the list of enabled events. A kind that takes messages is also the kind of
-/// those messages.
+/// The kinds of events, in the order of the list of enabled events. A kind whose events take messages is also the kind
+/// of those messages.
 #[derive(Clone, Copy, Debug, PartialEq, Eq)]
 pub enum Kind {
     Main,
@@ -83,25 +83,31 @@ impl Kind {
         }
     }
 
-    /// The event that takes the message of this kind for an operand or a version: none where no message is of the kind.
+    /// The event of the kind with a name: that of the operand or the version whose message it takes. Of a worker or a
+    /// bank the number stands as the name's task.
     #[inline(always)]
-    pub fn event(self, o: OpName) -> Option<Event>
-        ensures { result ≡ event_taking self o }
+    pub fn event(self, o: OpName) -> Event
+        ensures { result ≡ event_of self o }
     {
         match self {
-            Kind::Decode => Some(Event::Decode(o)),
-            Kind::Ack => Some(Event::Ack(o)),
-            Kind::Open => Some(Event::Open(o)),
-            Kind::Use => Some(Event::Use(o)),
-            Kind::Ready => Some(Event::Ready(o)),
-            Kind::Link => Some(Event::Link(o)),
-            Kind::Release => Some(Event::Release(o)),
-            Kind::Bye => Some(Event::Bye(o)),
-            Kind::Idle => Some(Event::Idle(o)),
-            Kind::Nack => Some(Event::Nack(o)),
-            Kind::Retire => Some(Event::Retire(o)),
-            Kind::Gone => Some(Event::Gone(o)),
-            Kind::Main | Kind::Take | Kind::Start | Kind::Exec | Kind::Finish | Kind::Copy => None,
+            Kind::Main => Event::Main,
+            Kind::Take => Event::Take,
+            Kind::Decode => Event::Decode(o),
+            Kind::Ack => Event::Ack(o),
+            Kind::Open => Event::Open(o),
+            Kind::Use => Event::Use(o),
+            Kind::Ready => Event::Ready(o),
+            Kind::Link => Event::Link(o),
+            Kind::Start => Event::Start(o.task),
+            Kind::Exec => Event::Exec(o.task),
+            Kind::Finish => Event::Finish(o.task),
+            Kind::Release => Event::Release(o),
+            Kind::Bye => Event::Bye(o),
+            Kind::Idle => Event::Idle(o),
+            Kind::Nack => Event::Nack(o),
+            Kind::Retire => Event::Retire(o),
+            Kind::Copy => Event::Copy(o.task),
+            Kind::Gone => Event::Gone(o),
         }
     }
 }

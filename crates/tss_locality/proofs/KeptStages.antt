@@ -57,24 +57,11 @@ module _ (f : Numbered Flying) where
 
 -- an event that changes no stage
 abbrev pub ChangesNoStage : Event → Type 0
-ChangesNoStage event.Main = Unit {0}
 ChangesNoStage event.Take = ⊥
-ChangesNoStage (event.Decode o) = Unit {0}
-ChangesNoStage (event.Ack o) = Unit {0}
-ChangesNoStage (event.Open o) = Unit {0}
-ChangesNoStage (event.Use o) = Unit {0}
 ChangesNoStage (event.Ready o) = ⊥
-ChangesNoStage (event.Link o) = Unit {0}
 ChangesNoStage (event.Start w) = ⊥
-ChangesNoStage (event.Exec w) = Unit {0}
 ChangesNoStage (event.Finish w) = ⊥
-ChangesNoStage (event.Release o) = Unit {0}
-ChangesNoStage (event.Bye o) = Unit {0}
-ChangesNoStage (event.Idle v) = Unit {0}
-ChangesNoStage (event.Nack v) = Unit {0}
-ChangesNoStage (event.Retire v) = Unit {0}
-ChangesNoStage (event.Copy b) = Unit {0}
-ChangesNoStage (event.Gone v) = Unit {0}
+ChangesNoStage e = Unit {0}
 
 module _ (m : Machine) (S : State) where
   link_kept : (o : OpName) (next : Option OpName) →
@@ -93,33 +80,10 @@ module _ (m : Machine) (S : State) where
   -- after such an event
   pub StagesKept-after_event : (e : Event) → ChangesNoStage e → StagesKept S.flight (after_event m S e).flight
   unfolding after_event
-  StagesKept-after_event event.Main no_stage =
-      left_kept (after_event m S event.Main) (λ i. (Leaves-after_event m S event.Main i).flight)
   StagesKept-after_event event.Take no_stage = absurd no_stage
-  StagesKept-after_event (event.Decode o) no_stage =
-      left_kept (after_event m S (event.Decode o)) (λ i. (Leaves-after_event m S (event.Decode o) i).flight)
-  StagesKept-after_event (event.Ack o) no_stage =
-      left_kept (after_event m S (event.Ack o)) (λ i. (Leaves-after_event m S (event.Ack o) i).flight)
-  StagesKept-after_event (event.Open o) no_stage =
-      left_kept (after_event m S (event.Open o)) (λ i. (Leaves-after_event m S (event.Open o) i).flight)
-  StagesKept-after_event (event.Use o) no_stage =
-      left_kept (after_event m S (event.Use o)) (λ i. (Leaves-after_event m S (event.Use o) i).flight)
   StagesKept-after_event (event.Ready o) no_stage = absurd no_stage
   StagesKept-after_event (event.Link o) no_stage = link_kept o (get S.mail.links o)
   StagesKept-after_event (event.Start w) no_stage = absurd no_stage
-  StagesKept-after_event (event.Exec w) no_stage =
-      left_kept (after_event m S (event.Exec w)) (λ i. (Leaves-after_event m S (event.Exec w) i).flight)
   StagesKept-after_event (event.Finish w) no_stage = absurd no_stage
-  StagesKept-after_event (event.Release o) no_stage =
-      left_kept (after_event m S (event.Release o)) (λ i. (Leaves-after_event m S (event.Release o) i).flight)
   StagesKept-after_event (event.Bye o) no_stage = bye_kept o (get S.mail.byes o)
-  StagesKept-after_event (event.Idle v) no_stage =
-      left_kept (after_event m S (event.Idle v)) (λ i. (Leaves-after_event m S (event.Idle v) i).flight)
-  StagesKept-after_event (event.Nack v) no_stage =
-      left_kept (after_event m S (event.Nack v)) (λ i. (Leaves-after_event m S (event.Nack v) i).flight)
-  StagesKept-after_event (event.Retire v) no_stage =
-      left_kept (after_event m S (event.Retire v)) (λ i. (Leaves-after_event m S (event.Retire v) i).flight)
-  StagesKept-after_event (event.Copy b) no_stage =
-      left_kept (after_event m S (event.Copy b)) (λ i. (Leaves-after_event m S (event.Copy b) i).flight)
-  StagesKept-after_event (event.Gone v) no_stage =
-      left_kept (after_event m S (event.Gone v)) (λ i. (Leaves-after_event m S (event.Gone v) i).flight)
+  StagesKept-after_event e no_stage = left_kept (after_event m S e) (λ i. (Leaves-after_event m S e i).flight)

@@ -5,7 +5,7 @@ use Rattle.std.proofs.lemmas.Bool.{and_parts}
 use Rattle.tss_base.specs.declared.operand.Task.{Task}
 use Rattle.tss_base.specs.declared.machine.Machine.{Machine}
 use Rattle.tss_base.specs.declared.event.Event.TheVariants as event
-use Rattle.tss_model.specs.MainStep.{MainState, Call, ExitCall, Spawn, Barrier, Print, Await, Unknown, main_call}
+use Rattle.tss_model.specs.MainStep.{MainState, Call, Spawn, main_call}
 use Rattle.tss_model.specs.MainStep.{main_stretch}
 use Rattle.tss_protocol.specs.State.{State}
 use Rattle.tss_protocol.specs.MainEvent.{flat_of, call_next, may_call, after_call, main_by}
@@ -31,13 +31,9 @@ module _ (c : Scope) (m : Machine) (S : State) (p : ConcernsMain c m S) where
 
   call_only : (call : Call) → call_next m S ≡ Some call → may_call S (Some call) ≡ true →
       ChangesOnly c S (after_call S (main_call m.limits S.home S.main call))
-  call_only ExitCall next on = main_changed (main_call m.limits S.home S.main ExitCall).0
   call_only Spawn next on =
       called (none_from_test S.inbox on) (main_call m.limits S.home S.main Spawn) (p.spawned Spawn next)
-  call_only Barrier next on = main_changed (main_call m.limits S.home S.main Barrier).0
-  call_only Print next on = main_changed (main_call m.limits S.home S.main Print).0
-  call_only Await next on = main_changed (main_call m.limits S.home S.main Await).0
-  call_only (Unknown n) next on = main_changed (main_call m.limits S.home S.main (Unknown n)).0
+  call_only other next on = main_changed (main_call m.limits S.home S.main other).0
 
   by_only : (call : Option Call) → call_next m S ≡ call → may_call S call ≡ true → ChangesOnly c S (main_by m S call)
   by_only None next on =

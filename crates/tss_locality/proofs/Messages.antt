@@ -199,12 +199,7 @@ module _ (c : Scope) where
   TakesIn (event.Nack o) = c.names o
   TakesIn (event.Retire o) = c.names o
   TakesIn (event.Gone o) = c.names o
-  TakesIn event.Main = Unit {0}
-  TakesIn event.Take = Unit {0}
-  TakesIn (event.Start n) = Unit {0}
-  TakesIn (event.Exec n) = Unit {0}
-  TakesIn (event.Finish n) = Unit {0}
-  TakesIn (event.Copy n) = Unit {0}
+  TakesIn e = Unit {0}
 
   -- a message of the scope is taken
   pub mail_taken : (m : Mail) (e : Event) → TakesIn e → MailOnly m (taken m e)
@@ -237,27 +232,15 @@ module _ (c : Scope) where
       (agree_removed name_order c.names m.retires o p)
   mail_taken m (event.Gone o) p =
       mail_gones Names Own m m (mail_same Names Own m) (remove m.gones o) (agree_removed name_order c.names m.gones o p)
-  mail_taken m event.Main p = mail_same Names Own m
-  mail_taken m event.Take p = mail_same Names Own m
-  mail_taken m (event.Start n) p = mail_same Names Own m
-  mail_taken m (event.Exec n) p = mail_same Names Own m
-  mail_taken m (event.Finish n) p = mail_same Names Own m
-  mail_taken m (event.Copy n) p = mail_same Names Own m
+  mail_taken m e p = mail_same Names Own m
 
   -- the name of a message of the scope
   pub named_from_in : (x : Message) → MessageIn c x → IsSentIn c x
-  named_from_in (Decode o operand) p = p.0
   named_from_in (Ack o) p = p
-  named_from_in (Open o x) p = p.0
-  named_from_in (Use o v) p = p.0
-  named_from_in (Ready o s) p = p.0
-  named_from_in (Link o next) p = p.0
-  named_from_in (Release o r) p = p.0
   named_from_in (Bye o promised) p = p
-  named_from_in (Idle v i) p = p.0
   named_from_in (Nack v) p = p
   named_from_in (Retire v) p = p
-  named_from_in (Gone v g) p = p.0
+  named_from_in other p = p.0
 
   -- of each message
   pub named_from_all_in : (xs : List Message) → MessagesIn c xs → AreSentIn c xs

@@ -11,7 +11,6 @@ use Rattle.tss_base.specs.declared.event.Event.TheVariants as event
 use Rattle.tss_base.specs.Names.{name_cmp}
 use Rattle.tss_base.specs.Image.{ImageState}
 use Rattle.tss_model.specs.MainStep.{MainState}
-use Rattle.tss_protocol.specs.Mail.{Decode}
 use Rattle.tss_protocol.specs.State.{Flying, State, initial_state}
 use Rattle.tss_protocol.specs.UnitMachine.{after_take, IsEnabled, after_event}
 use Rattle.tss_protocol.specs.Needs.{round_after_event}
@@ -87,74 +86,24 @@ module _ (m : Machine) (S : State) (ts : List Task) (r : IsRounded S ts) where
       later_event_round (event.Ack o) on tt (acked_in_use m S ts r o) tt tt
       (λ i. (Leaves-after_event m S (event.Ack o) i).main)
       (λ i. (Leaves-after_event m S (event.Ack o) i).inbox)
-  IsRounded-after_event (event.Open o) on =
-      later_event_round (event.Open o) on tt
-      (quiet_in_use m S ts r (event.Open o) refl (λ i. (Leaves-after_event m S (event.Open o) i).entries)) tt tt
-      (λ i. (Leaves-after_event m S (event.Open o) i).main)
-      (λ i. (Leaves-after_event m S (event.Open o) i).inbox)
-  IsRounded-after_event (event.Use o) on =
-      later_event_round (event.Use o) on tt
-      (quiet_in_use m S ts r (event.Use o) refl (λ i. (Leaves-after_event m S (event.Use o) i).entries)) tt tt
-      (λ i. (Leaves-after_event m S (event.Use o) i).main)
-      (λ i. (Leaves-after_event m S (event.Use o) i).inbox)
-  IsRounded-after_event (event.Ready o) on =
-      later_event_round (event.Ready o) on tt
-      (quiet_in_use m S ts r (event.Ready o) refl (λ i. (Leaves-after_event m S (event.Ready o) i).entries)) tt tt
-      (λ i. (Leaves-after_event m S (event.Ready o) i).main)
-      (λ i. (Leaves-after_event m S (event.Ready o) i).inbox)
-  IsRounded-after_event (event.Link o) on =
-      later_event_round (event.Link o) on tt
-      (quiet_in_use m S ts r (event.Link o) refl (λ i. (Leaves-after_event m S (event.Link o) i).entries)) tt tt
-      (λ i. (Leaves-after_event m S (event.Link o) i).main)
-      (λ i. (Leaves-after_event m S (event.Link o) i).inbox)
   IsRounded-after_event (event.Start w) on =
       later_event_round (event.Start w) on numbered
       (quiet_in_use m S ts r (event.Start w) refl (λ i. (Leaves-after_event m S (event.Start w) i).entries)) tt tt
       (λ i. (Leaves-after_event m S (event.Start w) i).main)
       (λ i. (Leaves-after_event m S (event.Start w) i).inbox)
-  IsRounded-after_event (event.Exec w) on =
-      later_event_round (event.Exec w) on tt
-      (quiet_in_use m S ts r (event.Exec w) refl (λ i. (Leaves-after_event m S (event.Exec w) i).entries)) tt tt
-      (λ i. (Leaves-after_event m S (event.Exec w) i).main)
-      (λ i. (Leaves-after_event m S (event.Exec w) i).inbox)
-  IsRounded-after_event (event.Finish w) on =
-      later_event_round (event.Finish w) on tt
-      (quiet_in_use m S ts r (event.Finish w) refl (λ i. (Leaves-after_event m S (event.Finish w) i).entries)) tt tt
-      (λ i. (Leaves-after_event m S (event.Finish w) i).main)
-      (λ i. (Leaves-after_event m S (event.Finish w) i).inbox)
-  IsRounded-after_event (event.Release o) on =
-      later_event_round (event.Release o) on tt
-      (quiet_in_use m S ts r (event.Release o) refl (λ i. (Leaves-after_event m S (event.Release o) i).entries)) tt tt
-      (λ i. (Leaves-after_event m S (event.Release o) i).main)
-      (λ i. (Leaves-after_event m S (event.Release o) i).inbox)
-  IsRounded-after_event (event.Bye o) on =
-      later_event_round (event.Bye o) on tt
-      (quiet_in_use m S ts r (event.Bye o) refl (λ i. (Leaves-after_event m S (event.Bye o) i).entries)) tt tt
-      (λ i. (Leaves-after_event m S (event.Bye o) i).main)
-      (λ i. (Leaves-after_event m S (event.Bye o) i).inbox)
   IsRounded-after_event (event.Idle v) on =
       later_event_round (event.Idle v) on tt (idle_in_use m S ts r v) tt tt
       (λ i. (Leaves-after_event m S (event.Idle v) i).main)
       (λ i. (Leaves-after_event m S (event.Idle v) i).inbox)
-  IsRounded-after_event (event.Nack v) on =
-      later_event_round (event.Nack v) on tt
-      (quiet_in_use m S ts r (event.Nack v) refl (λ i. (Leaves-after_event m S (event.Nack v) i).entries)) tt tt
-      (λ i. (Leaves-after_event m S (event.Nack v) i).main)
-      (λ i. (Leaves-after_event m S (event.Nack v) i).inbox)
-  IsRounded-after_event (event.Retire v) on =
-      later_event_round (event.Retire v) on tt
-      (quiet_in_use m S ts r (event.Retire v) refl (λ i. (Leaves-after_event m S (event.Retire v) i).entries)) tt tt
-      (λ i. (Leaves-after_event m S (event.Retire v) i).main)
-      (λ i. (Leaves-after_event m S (event.Retire v) i).inbox)
-  IsRounded-after_event (event.Copy b) on =
-      later_event_round (event.Copy b) on tt
-      (quiet_in_use m S ts r (event.Copy b) refl (λ i. (Leaves-after_event m S (event.Copy b) i).entries)) tt tt
-      (λ i. (Leaves-after_event m S (event.Copy b) i).main)
-      (λ i. (Leaves-after_event m S (event.Copy b) i).inbox)
   IsRounded-after_event (event.Gone v) on =
       later_event_round (event.Gone v) on tt (gone_in_use m S ts r v) tt tt
       (λ i. (Leaves-after_event m S (event.Gone v) i).main)
       (λ i. (Leaves-after_event m S (event.Gone v) i).inbox)
+  IsRounded-after_event e on =
+      later_event_round e on tt
+      (quiet_in_use e refl (λ i. (Leaves-after_event m S e i).entries)) tt tt
+      (λ i. (Leaves-after_event m S e i).main)
+      (λ i. (Leaves-after_event m S e i).inbox)
 
 -- ---- runs
 

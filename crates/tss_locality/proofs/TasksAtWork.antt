@@ -56,36 +56,7 @@ module _ (Q : Task → Type 0) (m : Machine) (S : State) (all : AllBusy Q S.work
   -- after every event
   pub AllBusy-after_event : (e : Event) → AllBusy Q (after_event m S e).workers
   unfolding after_event
-  AllBusy-after_event event.Main =
-      same_busy (after_event m S event.Main) (λ i. (Leaves-after_event m S event.Main i).workers)
-  AllBusy-after_event event.Take =
-      same_busy (after_event m S event.Take) (λ i. (Leaves-after_event m S event.Take i).workers)
-  AllBusy-after_event (event.Decode o) =
-      same_busy (after_event m S (event.Decode o)) (λ i. (Leaves-after_event m S (event.Decode o) i).workers)
-  AllBusy-after_event (event.Ack o) =
-      same_busy (after_event m S (event.Ack o)) (λ i. (Leaves-after_event m S (event.Ack o) i).workers)
-  AllBusy-after_event (event.Open o) =
-      same_busy (after_event m S (event.Open o)) (λ i. (Leaves-after_event m S (event.Open o) i).workers)
-  AllBusy-after_event (event.Use o) =
-      same_busy (after_event m S (event.Use o)) (λ i. (Leaves-after_event m S (event.Use o) i).workers)
-  AllBusy-after_event (event.Ready o) =
-      same_busy (after_event m S (event.Ready o)) (λ i. (Leaves-after_event m S (event.Ready o) i).workers)
-  AllBusy-after_event (event.Link o) =
-      same_busy (after_event m S (event.Link o)) (λ i. (Leaves-after_event m S (event.Link o) i).workers)
   AllBusy-after_event (event.Start w) = start_busy w S.queue
   AllBusy-after_event (event.Exec w) = exec_busy w (get S.workers w) refl
   AllBusy-after_event (event.Finish w) = finish_busy w (get S.workers w)
-  AllBusy-after_event (event.Release o) =
-      same_busy (after_event m S (event.Release o)) (λ i. (Leaves-after_event m S (event.Release o) i).workers)
-  AllBusy-after_event (event.Bye o) =
-      same_busy (after_event m S (event.Bye o)) (λ i. (Leaves-after_event m S (event.Bye o) i).workers)
-  AllBusy-after_event (event.Idle v) =
-      same_busy (after_event m S (event.Idle v)) (λ i. (Leaves-after_event m S (event.Idle v) i).workers)
-  AllBusy-after_event (event.Nack v) =
-      same_busy (after_event m S (event.Nack v)) (λ i. (Leaves-after_event m S (event.Nack v) i).workers)
-  AllBusy-after_event (event.Retire v) =
-      same_busy (after_event m S (event.Retire v)) (λ i. (Leaves-after_event m S (event.Retire v) i).workers)
-  AllBusy-after_event (event.Copy b) =
-      same_busy (after_event m S (event.Copy b)) (λ i. (Leaves-after_event m S (event.Copy b) i).workers)
-  AllBusy-after_event (event.Gone v) =
-      same_busy (after_event m S (event.Gone v)) (λ i. (Leaves-after_event m S (event.Gone v) i).workers)
+  AllBusy-after_event e = same_busy (after_event m S e) (λ i. (Leaves-after_event m S e i).workers)

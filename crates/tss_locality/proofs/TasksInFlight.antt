@@ -137,55 +137,16 @@ module _ (P : ℕ → Task → Type 0) (m : Machine) (S : State) (all : AllTasks
 
   -- what take needs: that it holds of the inbox's task
   abbrev pub TakesWell : Event → Type 0
-  TakesWell event.Main = Unit {0}
   TakesWell event.Take = (t : Task) → S.inbox ≡ Some t → P t.number t
-  TakesWell (event.Decode o) = Unit {0}
-  TakesWell (event.Ack o) = Unit {0}
-  TakesWell (event.Open o) = Unit {0}
-  TakesWell (event.Use o) = Unit {0}
-  TakesWell (event.Ready o) = Unit {0}
-  TakesWell (event.Link o) = Unit {0}
-  TakesWell (event.Start w) = Unit {0}
-  TakesWell (event.Exec w) = Unit {0}
-  TakesWell (event.Finish w) = Unit {0}
-  TakesWell (event.Release o) = Unit {0}
-  TakesWell (event.Bye o) = Unit {0}
-  TakesWell (event.Idle v) = Unit {0}
-  TakesWell (event.Nack v) = Unit {0}
-  TakesWell (event.Retire v) = Unit {0}
-  TakesWell (event.Copy b) = Unit {0}
-  TakesWell (event.Gone v) = Unit {0}
+  TakesWell e = Unit {0}
 
   -- after every event
   pub AllTasks-after_event : (e : Event) → TakesWell e → AllTasks P (after_event m S e).flight
   unfolding after_event
-  AllTasks-after_event event.Main number =
-      same_flight (after_event m S event.Main) (λ i. (Leaves-after_event m S event.Main i).flight)
   AllTasks-after_event event.Take number = take_held S.inbox number
-  AllTasks-after_event (event.Decode o) number =
-      same_flight (after_event m S (event.Decode o)) (λ i. (Leaves-after_event m S (event.Decode o) i).flight)
-  AllTasks-after_event (event.Ack o) number =
-      same_flight (after_event m S (event.Ack o)) (λ i. (Leaves-after_event m S (event.Ack o) i).flight)
-  AllTasks-after_event (event.Open o) number =
-      same_flight (after_event m S (event.Open o)) (λ i. (Leaves-after_event m S (event.Open o) i).flight)
-  AllTasks-after_event (event.Use o) number =
-      same_flight (after_event m S (event.Use o)) (λ i. (Leaves-after_event m S (event.Use o) i).flight)
   AllTasks-after_event (event.Ready o) number = ready_held o (get S.mail.readies o)
   AllTasks-after_event (event.Link o) number = link_held o (get S.mail.links o)
   AllTasks-after_event (event.Start w) number = start_held w S.queue
-  AllTasks-after_event (event.Exec w) number =
-      same_flight (after_event m S (event.Exec w)) (λ i. (Leaves-after_event m S (event.Exec w) i).flight)
   AllTasks-after_event (event.Finish w) number = finish_held w (get S.workers w)
-  AllTasks-after_event (event.Release o) number =
-      same_flight (after_event m S (event.Release o)) (λ i. (Leaves-after_event m S (event.Release o) i).flight)
   AllTasks-after_event (event.Bye o) number = bye_held o (get S.mail.byes o)
-  AllTasks-after_event (event.Idle v) number =
-      same_flight (after_event m S (event.Idle v)) (λ i. (Leaves-after_event m S (event.Idle v) i).flight)
-  AllTasks-after_event (event.Nack v) number =
-      same_flight (after_event m S (event.Nack v)) (λ i. (Leaves-after_event m S (event.Nack v) i).flight)
-  AllTasks-after_event (event.Retire v) number =
-      same_flight (after_event m S (event.Retire v)) (λ i. (Leaves-after_event m S (event.Retire v) i).flight)
-  AllTasks-after_event (event.Copy b) number =
-      same_flight (after_event m S (event.Copy b)) (λ i. (Leaves-after_event m S (event.Copy b) i).flight)
-  AllTasks-after_event (event.Gone v) number =
-      same_flight (after_event m S (event.Gone v)) (λ i. (Leaves-after_event m S (event.Gone v) i).flight)
+  AllTasks-after_event e number = same_flight (after_event m S e) (λ i. (Leaves-after_event m S e i).flight)

@@ -2,8 +2,8 @@
 use Rattle.std.proofs.Common.{◌≡◌, Bool, true, false, refl, ap, ◌∙◌}
 use Rattle.tss_base.specs.declared.operand.OpName.{OpName}
 use Rattle.tss_protocol.specs.State.{State}
-use Rattle.tss_phases.specs.Phase.{Phase, Ahead, Decoding, Sent, Waiting, Told, Ready, Releasing, Leaving, Promised}
-use Rattle.tss_phases.specs.Phase.{Left, phase_of}
+use Rattle.tss_phases.specs.Phase.{Phase, Ahead, Sent, Waiting, Told, Leaving}
+use Rattle.tss_phases.specs.Phase.{phase_of}
 use Rattle.tss_phases.specs.Told.{phase_told}
 use Rattle.tss_phases.specs.Leaving.{phase_linked, phase_parted}
 use Rattle.tss_phases.specs.Forward.{may_follow}
@@ -15,28 +15,12 @@ GoesOnFrom S T q = may_follow (phase_of S q) (phase_of T q) ≡ true
 -- a phase may stay
 pub stay : (p : Phase) → may_follow p p ≡ true
 stay Ahead = refl
-stay Decoding = refl
-stay Sent = refl
-stay Waiting = refl
-stay Told = refl
-stay Ready = refl
-stay Releasing = refl
-stay Leaving = refl
-stay Promised = refl
-stay Left = refl
+stay other = refl
 
 -- a phase may be linked
 pub linked : (p : Phase) → may_follow p (phase_linked p) ≡ true
 linked Ahead = refl
-linked Decoding = refl
-linked Sent = refl
-linked Waiting = refl
-linked Told = refl
-linked Ready = refl
-linked Releasing = refl
-linked Leaving = refl
-linked Promised = refl
-linked Left = refl
+linked other = refl
 
 -- a leaving operand may have left, or await a link
 pub parted : (b : Bool) → may_follow Leaving (phase_parted b) ≡ true

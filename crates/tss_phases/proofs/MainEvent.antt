@@ -17,7 +17,7 @@ use Rattle.tss_base.specs.declared.causes.TheConstants.{LOAD_DENIED}
 use Rattle.tss_base.specs.declared.refusals.TheConstants.{TOO_MANY_OPERANDS, LIST_PLACE, MAIN_TOUCH, EPOCH_FULL}
 use Rattle.tss_base.specs.declared.refusals.TheConstants.{TOO_MANY_TASKS, OUTPUT_FULL, MAIN_BUDGET_SPENT}
 use Rattle.tss_model.specs.Access.{touches}
-use Rattle.tss_model.specs.Core.{Stepped, Executed, Called, Ended, Trapped, Touched}
+use Rattle.tss_model.specs.Core.{Stepped, Called}
 use Rattle.tss_model.specs.Spawn.{SpawnCall, spawn_of, task_checked, task_of, merged_operands, name_objects, objects_of}
 use Rattle.tss_model.specs.Spawn.{entries_checked, entries_at, is_misplaced, list_range}
 use Rattle.tss_model.specs.TaskRun.{repeated}
@@ -34,11 +34,8 @@ use Rattle.tss_phases.proofs.Tests.{both}
 -- ---- a stretch spawns no task
 
 stepped : (f : Flat) (s : Stepped) → (main_on f s).main.spawned ≡ f.main.spawned
-stepped f (Executed r w) = refl
 stepped f Called = refl
-stepped f Ended = refl
-stepped f (Trapped t) = refl
-stepped f Touched = refl
+stepped f other = refl
 
 -- one step
 spawned-main_step : (code : List SegmentState) (limits : Limits) (f : Flat)

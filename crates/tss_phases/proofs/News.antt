@@ -3,8 +3,7 @@
 use Rattle.std.proofs.Common.{◌≡◌, Bool, true, false, cond, List, [], ◌∷◌, ◌++◌, Some, refl, ap, ◌∙◌}
 use Rattle.std.specs.Prelude.{◌||◌}
 use Rattle.tss_base.specs.declared.operand.OpName.{OpName}
-use Rattle.tss_protocol.specs.Mail.{Source, Message, Decode, Ack, Open, Use, Ready, Link, Release, Bye, Idle, Nack}
-use Rattle.tss_protocol.specs.Mail.{Retire, Gone}
+use Rattle.tss_protocol.specs.Mail.{Source, Message, Decode, Open, Use, Ready, Release, Bye}
 use Rattle.tss_phases.specs.Phase.{LookUps}
 use Rattle.tss_phases.specs.Told.{is_ready_for, tells}
 use Rattle.tss_phases.proofs.Received.{received, received_all}
@@ -13,17 +12,11 @@ use Rattle.tss_phases.proofs.Tests.{neither}
 -- a message is no decode, open, use, release or bye
 abbrev IsNews : Message → Type 0
 IsNews (Decode o operand) = ⊥
-IsNews (Ack o) = Unit {0}
 IsNews (Open o opening) = ⊥
 IsNews (Use o v) = ⊥
-IsNews (Ready o source) = Unit {0}
-IsNews (Link o next) = Unit {0}
 IsNews (Release o releasing) = ⊥
 IsNews (Bye o promised) = ⊥
-IsNews (Idle v asking) = Unit {0}
-IsNews (Nack v) = Unit {0}
-IsNews (Retire v) = Unit {0}
-IsNews (Gone v going) = Unit {0}
+IsNews other = Unit {0}
 
 -- none of a list is
 abbrev pub AreNews : List Message → Type 0
@@ -38,17 +31,12 @@ news_both (m ∷ ms) ns h k = (h.0, news_both ms ns h.1 k)
 -- one message: who isn't told has everything as before
 pub untold_one : (m : Message) (q : OpName) (l : LookUps) → IsNews m → is_ready_for m q ≡ false → received m q l ≡ l
 untold_one (Decode o operand) q l n e = absurd n
-untold_one (Ack o) q l n e = refl
 untold_one (Open o opening) q l n e = absurd n
 untold_one (Use o v) q l n e = absurd n
 untold_one (Ready o source) q l n e = λ i. record l { telling = cond (e i) (Some source) l.telling }
-untold_one (Link o next) q l n e = refl
 untold_one (Release o releasing) q l n e = absurd n
 untold_one (Bye o promised) q l n e = absurd n
-untold_one (Idle v asking) q l n e = refl
-untold_one (Nack v) q l n e = refl
-untold_one (Retire v) q l n e = refl
-untold_one (Gone v going) q l n e = refl
+untold_one other q l n e = refl
 
 -- what an operand is told last
 abbrev HasNews : LookUps → LookUps → Type 0
@@ -56,17 +44,7 @@ HasNews l k = (s : Source) × (k ≡ record l { telling = Some s })
 
 told_one : (m : Message) (q : OpName) (l : LookUps) → is_ready_for m q ≡ true → HasNews l (received m q l)
 told_one (Ready o source) q l e = (source, λ i. record l { telling = cond (e i) (Some source) l.telling })
-told_one (Decode o operand) q l e = absurd (cc)
-told_one (Ack o) q l e = absurd (cc)
-told_one (Open o opening) q l e = absurd (cc)
-told_one (Use o v) q l e = absurd (cc)
-told_one (Link o next) q l e = absurd (cc)
-told_one (Release o releasing) q l e = absurd (cc)
-told_one (Bye o promised) q l e = absurd (cc)
-told_one (Idle v asking) q l e = absurd (cc)
-told_one (Nack v) q l e = absurd (cc)
-told_one (Retire v) q l e = absurd (cc)
-told_one (Gone v going) q l e = absurd (cc)
+told_one other q l e = absurd (cc)
 
 -- who isn't told has everything as before
 pub untold : (ms : List Message) (q : OpName) (l : LookUps) → AreNews ms → tells ms q ≡ false → received_all ms q l ≡ l

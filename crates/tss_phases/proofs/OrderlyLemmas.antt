@@ -203,15 +203,7 @@ ahead_by_test l o a = by (phase_at l) refl o.fits
   where
     by : (p : Phase) → phase_at l ≡ p → FitsPhase p l → phase_at l ≡ Ahead
     by Ahead e h = e
-    by Decoding e h = absurd (not_both l.ahead a h.1)
-    by Sent e h = absurd (not_both l.ahead a h.1)
-    by Waiting e h = absurd (not_both l.ahead a h.1)
-    by Told e h = absurd (not_both l.ahead a h.1)
-    by Ready e h = absurd (not_both l.ahead a h.1)
-    by Releasing e h = absurd (not_both l.ahead a h.1)
-    by Leaving e h = absurd (not_both l.ahead a h.1)
-    by Promised e h = absurd (not_both l.ahead a h.1)
-    by Left e h = absurd (not_both l.ahead a h.1)
+    by other e h = absurd (not_both l.ahead a h.1)
 
 -- the task of an operand in order that has a record has been taken
 pub taken_by_record : (l : LookUps) (r : OperandState) → IsOrderly l → l.station ≡ Some r → l.ahead ≡ false
@@ -219,15 +211,7 @@ taken_by_record l r o kept = by (phase_at l) o.fits
   where
     by : (p : Phase) → FitsPhase p l → l.ahead ≡ false
     by Ahead h = absurd (none-some r (sym h.0 ∙ kept))
-    by Decoding h = h.1
-    by Sent h = h.1
-    by Waiting h = h.1
-    by Told h = h.1
-    by Ready h = h.1
-    by Releasing h = h.1
-    by Leaving h = h.1
-    by Promised h = h.1
-    by Left h = h.1
+    by other h = h.1
 
 -- an operand in order that has no record, whose task has been taken, has left
 pub left_by_absence : (l : LookUps) → IsOrderly l → l.station ≡ None → l.ahead ≡ false → phase_at l ≡ Left

@@ -27,17 +27,12 @@ other_name q o apart = other_key name_order q o apart
 -- what is looked up of an operand where a message is sent
 abbrev pub received : Message → OpName → LookUps → LookUps
 received (Decode o operand) q l = record l { decoding = cond (same_name q o) (Some operand) l.decoding }
-received (Ack o) q l = l
 received (Open o opening) q l = record l { opening = cond (same_name q o) (Some opening) l.opening }
 received (Use o v) q l = record l { using = cond (same_name q o) (Some v) l.using }
 received (Ready o source) q l = record l { telling = cond (same_name q o) (Some source) l.telling }
-received (Link o next) q l = l
 received (Release o releasing) q l = record l { releasing = cond (same_name q o) (Some releasing) l.releasing }
 received (Bye o promised) q l = record l { leaving = cond (same_name q o) (Some promised) l.leaving }
-received (Idle v asking) q l = l
-received (Nack v) q l = l
-received (Retire v) q l = l
-received (Gone v going) q l = l
+received other q l = l
 
 -- the same for a list of messages
 abbrev pub received_all : List Message → OpName → LookUps → LookUps
@@ -49,22 +44,17 @@ look_ups-posted : (S : State) (m : Message) (q : OpName)
     → look_ups (with_sent S (m ∷ [])) q ≡ received m q (look_ups S q)
 look_ups-posted S (Decode o operand) q =
     λ i. record (look_ups S q) { decoding = get-insert name_order.total S.mail.decodes o operand q i }
-look_ups-posted S (Ack o) q = refl
 look_ups-posted S (Open o opening) q =
     λ i. record (look_ups S q) { opening = get-insert name_order.total S.mail.opens o opening q i }
 look_ups-posted S (Use o v) q =
     λ i. record (look_ups S q) { using = get-insert name_order.total S.mail.uses o v q i }
 look_ups-posted S (Ready o source) q =
     λ i. record (look_ups S q) { telling = get-insert name_order.total S.mail.readies o source q i }
-look_ups-posted S (Link o next) q = refl
 look_ups-posted S (Release o releasing) q =
     λ i. record (look_ups S q) { releasing = get-insert name_order.total S.mail.releases o releasing q i }
 look_ups-posted S (Bye o promised) q =
     λ i. record (look_ups S q) { leaving = get-insert name_order.total S.mail.byes o promised q i }
-look_ups-posted S (Idle v asking) q = refl
-look_ups-posted S (Nack v) q = refl
-look_ups-posted S (Retire v) q = refl
-look_ups-posted S (Gone v going) q = refl
+look_ups-posted S other q = refl
 
 -- messages that are sent, one after the other
 pub look_ups-sent : (S : State) (ms : List Message) (q : OpName)
@@ -90,17 +80,12 @@ receiver (Gone v going) = v
 
 received_by_test : (m : Message) (q : OpName) (l : LookUps) → same_name q (receiver m) ≡ false → received m q l ≡ l
 received_by_test (Decode o operand) q l e = λ i. record l { decoding = cond (e i) (Some operand) l.decoding }
-received_by_test (Ack o) q l e = refl
 received_by_test (Open o opening) q l e = λ i. record l { opening = cond (e i) (Some opening) l.opening }
 received_by_test (Use o v) q l e = λ i. record l { using = cond (e i) (Some v) l.using }
 received_by_test (Ready o source) q l e = λ i. record l { telling = cond (e i) (Some source) l.telling }
-received_by_test (Link o next) q l e = refl
 received_by_test (Release o releasing) q l e = λ i. record l { releasing = cond (e i) (Some releasing) l.releasing }
 received_by_test (Bye o promised) q l e = λ i. record l { leaving = cond (e i) (Some promised) l.leaving }
-received_by_test (Idle v asking) q l e = refl
-received_by_test (Nack v) q l e = refl
-received_by_test (Retire v) q l e = refl
-received_by_test (Gone v going) q l e = refl
+received_by_test other q l e = refl
 
 -- a message for another operand leaves everything
 pub received_other : (m : Message) (q : OpName) (l : LookUps) → q ≢ receiver m → received m q l ≡ l
@@ -133,18 +118,7 @@ look_ups-without S (event.Release o) q =
     λ i. record (look_ups S q) { releasing = get-remove name_order.total S.mail.releases o q i }
 look_ups-without S (event.Bye o) q =
     λ i. record (look_ups S q) { leaving = get-remove name_order.total S.mail.byes o q i }
-look_ups-without S event.Main q = refl
-look_ups-without S event.Take q = refl
-look_ups-without S (event.Ack o) q = refl
-look_ups-without S (event.Link o) q = refl
-look_ups-without S (event.Start w) q = refl
-look_ups-without S (event.Exec w) q = refl
-look_ups-without S (event.Finish w) q = refl
-look_ups-without S (event.Idle v) q = refl
-look_ups-without S (event.Nack v) q = refl
-look_ups-without S (event.Retire v) q = refl
-look_ups-without S (event.Copy b) q = refl
-look_ups-without S (event.Gone v) q = refl
+look_ups-without S e q = refl
 
 -- whether the message of an event is one for an operand that tells its phase
 abbrev takes : Event → OpName → Bool
@@ -164,15 +138,4 @@ missing_other (event.Use o) q l t = λ i. record l { using = cond (t i) None l.u
 missing_other (event.Ready o) q l t = λ i. record l { telling = cond (t i) None l.telling }
 missing_other (event.Release o) q l t = λ i. record l { releasing = cond (t i) None l.releasing }
 missing_other (event.Bye o) q l t = λ i. record l { leaving = cond (t i) None l.leaving }
-missing_other event.Main q l t = refl
-missing_other event.Take q l t = refl
-missing_other (event.Ack o) q l t = refl
-missing_other (event.Link o) q l t = refl
-missing_other (event.Start w) q l t = refl
-missing_other (event.Exec w) q l t = refl
-missing_other (event.Finish w) q l t = refl
-missing_other (event.Idle v) q l t = refl
-missing_other (event.Nack v) q l t = refl
-missing_other (event.Retire v) q l t = refl
-missing_other (event.Copy b) q l t = refl
-missing_other (event.Gone v) q l t = refl
+missing_other e q l t = refl

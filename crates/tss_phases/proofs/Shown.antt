@@ -10,16 +10,12 @@ use Rattle.tss_phases.specs.Alone.{IsSilent, HasRecord}
 
 -- the phases in which no message is under way
 abbrev pub is_still : Phase → Bool
-is_still Ahead = true
 is_still Decoding = false
 is_still Sent = false
-is_still Waiting = true
 is_still Told = false
-is_still Ready = true
 is_still Releasing = false
 is_still Leaving = false
-is_still Promised = true
-is_still Left = true
+is_still other = true
 
 -- a still phase isn't one with a message
 not_still : (p q : Phase) → is_still p ≡ true → is_still q ≡ false → q ≢ p

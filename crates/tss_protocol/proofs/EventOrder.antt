@@ -12,6 +12,7 @@ use Rattle.tss_base.specs.declared.operand.OpName.{OpName}
 use Rattle.tss_base.specs.declared.machine.Machine.{Machine}
 use Rattle.tss_base.specs.declared.event.Event.{Event}
 use Rattle.tss_base.specs.declared.event.Event.TheVariants as event
+use Rattle.tss_base.specs.Kinds.{kind_of, number_of}
 use Rattle.tss_base.specs.Names.{name_cmp}
 use Rattle.tss_maps.specs.Ordered.{key_at}
 use Rattle.tss_maps.proofs.Keys.{IsKeyOrder, nat_order, name_order, less_from_below}
@@ -24,24 +25,7 @@ use Rattle.tss_protocol.specs.UnitMachine.{is_enabled, worker_events, copy_event
 
 -- the place of an event's kind
 abbrev event_rank : Event → ℕ
-event_rank event.Main = 0
-event_rank event.Take = 1
-event_rank (event.Decode o) = 2
-event_rank (event.Ack o) = 3
-event_rank (event.Open o) = 4
-event_rank (event.Use o) = 5
-event_rank (event.Ready o) = 6
-event_rank (event.Link o) = 7
-event_rank (event.Start w) = 8
-event_rank (event.Exec w) = 9
-event_rank (event.Finish w) = 10
-event_rank (event.Release o) = 11
-event_rank (event.Bye o) = 12
-event_rank (event.Idle v) = 13
-event_rank (event.Nack v) = 14
-event_rank (event.Retire v) = 15
-event_rank (event.Copy b) = 16
-event_rank (event.Gone v) = 17
+event_rank e = number_of (kind_of e)
 
 abbrev unit_name : ℕ → OpName
 unit_name n = record { task = n; place = 0 }

@@ -10,7 +10,7 @@ use Rattle.tss_base.specs.declared.marks.LinkState.{LinkState}
 use Rattle.tss_base.specs.declared.marks.LinkState.TheVariants as link
 use Rattle.tss_base.specs.Names.{Named, Numbered}
 use Rattle.tss_protocol.specs.Mail.{StorageName, Home, Buffer, Source, ReleaseContents, OpenContents, Message, Decode}
-use Rattle.tss_protocol.specs.Mail.{Ack, Open, Use, Ready, Link, Release, Bye, Idle, Nack, Retire, Gone, Mail, posted}
+use Rattle.tss_protocol.specs.Mail.{Ack, Open, Use, Ready, Release, Bye, Mail, posted}
 use Rattle.tss_protocol.specs.Mail.{posted_all}
 use Rattle.tss_base.specs.declared.range.Range.{Range}
 use Rattle.tss_model.specs.Access.{writes}
@@ -41,14 +41,7 @@ IsLater (Decode o operand) = ⊥
 IsLater (Ack o) = ⊥
 IsLater (Open o opening) = ⊥
 IsLater (Use o v) = ⊥
-IsLater (Ready o source) = Unit {0}
-IsLater (Link o next) = Unit {0}
-IsLater (Release o releasing) = Unit {0}
-IsLater (Bye o promised) = Unit {0}
-IsLater (Idle v asking) = Unit {0}
-IsLater (Nack v) = Unit {0}
-IsLater (Retire v) = Unit {0}
-IsLater (Gone v going) = Unit {0}
+IsLater other = Unit {0}
 
 -- ---- versions
 
@@ -268,14 +261,7 @@ posted-later m (Decode o operand) h = absurd h
 posted-later m (Ack o) h = absurd h
 posted-later m (Open o opening) h = absurd h
 posted-later m (Use o v) h = absurd h
-posted-later m (Ready o source) h = record { decodes = refl; acks = refl; opens = refl; uses = refl }
-posted-later m (Link o next) h = record { decodes = refl; acks = refl; opens = refl; uses = refl }
-posted-later m (Release o releasing) h = record { decodes = refl; acks = refl; opens = refl; uses = refl }
-posted-later m (Bye o promised) h = record { decodes = refl; acks = refl; opens = refl; uses = refl }
-posted-later m (Idle v asking) h = record { decodes = refl; acks = refl; opens = refl; uses = refl }
-posted-later m (Nack v) h = record { decodes = refl; acks = refl; opens = refl; uses = refl }
-posted-later m (Retire v) h = record { decodes = refl; acks = refl; opens = refl; uses = refl }
-posted-later m (Gone v going) h = record { decodes = refl; acks = refl; opens = refl; uses = refl }
+posted-later m other h = record { decodes = refl; acks = refl; opens = refl; uses = refl }
 
 -- and so do more of them
 pub posted_all-later : (m : Mail) (xs : List Message) → AllSent IsLater xs → KeepsEarly m (posted_all m xs)

@@ -59,8 +59,6 @@ module _ (c : Scope) where
         mail_closed (posted m (Decode o operand))
         (closed_put name_order c.names (λ p. c.objects p.object) m.decodes o operand f.decodes p) f.opens f.uses
         f.readies f.links f.releases f.idles f.gones
-    closed_posted (Ack o) p =
-        mail_closed (posted m (Ack o)) f.decodes f.opens f.uses f.readies f.links f.releases f.idles f.gones
     closed_posted (Open o x) p =
         mail_closed (posted m (Open o x)) f.decodes
         (closed_put name_order c.names (OpeningIn c) m.opens o x f.opens p) f.uses f.readies f.links f.releases
@@ -77,18 +75,14 @@ module _ (c : Scope) where
     closed_posted (Release o r) p =
         mail_closed (posted m (Release o r)) f.decodes f.opens f.uses f.readies f.links
         (closed_put name_order c.names (λ r. c.names r.version) m.releases o r f.releases p) f.idles f.gones
-    closed_posted (Bye o promised) p =
-        mail_closed (posted m (Bye o promised)) f.decodes f.opens f.uses f.readies f.links f.releases f.idles f.gones
     closed_posted (Idle v i) p =
         mail_closed (posted m (Idle v i)) f.decodes f.opens f.uses f.readies f.links f.releases
         (closed_put name_order c.names (λ i. IsBase c i.base) m.idles v i f.idles p) f.gones
-    closed_posted (Nack v) p =
-        mail_closed (posted m (Nack v)) f.decodes f.opens f.uses f.readies f.links f.releases f.idles f.gones
-    closed_posted (Retire v) p =
-        mail_closed (posted m (Retire v)) f.decodes f.opens f.uses f.readies f.links f.releases f.idles f.gones
     closed_posted (Gone v g) p =
         mail_closed (posted m (Gone v g)) f.decodes f.opens f.uses f.readies f.links f.releases f.idles
         (closed_put name_order c.names (GoingIn c) m.gones v g f.gones p)
+    closed_posted other p =
+        mail_closed (posted m other) f.decodes f.opens f.uses f.readies f.links f.releases f.idles f.gones
 
     -- a message is taken
     pub closed_taken : (e : Event) → ClosedMail c (taken m e)
@@ -96,8 +90,6 @@ module _ (c : Scope) where
         mail_closed (taken m (event.Decode o))
         (closed_removed name_order c.names (λ p. c.objects p.object) m.decodes o f.decodes) f.opens f.uses
         f.readies f.links f.releases f.idles f.gones
-    closed_taken (event.Ack o) =
-        mail_closed (taken m (event.Ack o)) f.decodes f.opens f.uses f.readies f.links f.releases f.idles f.gones
     closed_taken (event.Open o) =
         mail_closed (taken m (event.Open o)) f.decodes
         (closed_removed name_order c.names (OpeningIn c) m.opens o f.opens) f.uses f.readies f.links f.releases
@@ -114,15 +106,9 @@ module _ (c : Scope) where
     closed_taken (event.Release o) =
         mail_closed (taken m (event.Release o)) f.decodes f.opens f.uses f.readies f.links
         (closed_removed name_order c.names (λ r. c.names r.version) m.releases o f.releases) f.idles f.gones
-    closed_taken (event.Bye o) =
-        mail_closed (taken m (event.Bye o)) f.decodes f.opens f.uses f.readies f.links f.releases f.idles f.gones
     closed_taken (event.Idle o) =
         mail_closed (taken m (event.Idle o)) f.decodes f.opens f.uses f.readies f.links f.releases
         (closed_removed name_order c.names (λ i. IsBase c i.base) m.idles o f.idles) f.gones
-    closed_taken (event.Nack o) =
-        mail_closed (taken m (event.Nack o)) f.decodes f.opens f.uses f.readies f.links f.releases f.idles f.gones
-    closed_taken (event.Retire o) =
-        mail_closed (taken m (event.Retire o)) f.decodes f.opens f.uses f.readies f.links f.releases f.idles f.gones
     closed_taken (event.Gone o) =
         mail_closed (taken m (event.Gone o)) f.decodes f.opens f.uses f.readies f.links f.releases f.idles
         (closed_removed name_order c.names (GoingIn c) m.gones o f.gones)
@@ -132,6 +118,7 @@ module _ (c : Scope) where
     closed_taken (event.Exec n) = f
     closed_taken (event.Finish n) = f
     closed_taken (event.Copy n) = f
+    closed_taken e = mail_closed (taken m e) f.decodes f.opens f.uses f.readies f.links f.releases f.idles f.gones
 
   -- messages with such contents are sent
   pub closed_posted_all : (m : Mail) → ClosedMail c m → (xs : List Message) → KeepAllIn c xs →
@@ -141,18 +128,11 @@ module _ (c : Scope) where
 
   -- a message of the scope is one
   keeps_from_in : (x : Message) → MessageIn c x → KeepsIn c x
-  keeps_from_in (Decode o operand) p = λ q. p.1
   keeps_from_in (Ack o) p = tt
-  keeps_from_in (Open o x) p = λ q. p.1
-  keeps_from_in (Use o v) p = λ q. p.1
-  keeps_from_in (Ready o s) p = λ q. p.1
-  keeps_from_in (Link o next) p = λ q. p.1
-  keeps_from_in (Release o r) p = λ q. p.1
   keeps_from_in (Bye o promised) p = tt
-  keeps_from_in (Idle v i) p = λ q. p.1
   keeps_from_in (Nack v) p = tt
   keeps_from_in (Retire v) p = tt
-  keeps_from_in (Gone v g) p = λ q. p.1
+  keeps_from_in other p = λ q. p.1
 
   -- and each of a list
   pub keep_all_from_in : (xs : List Message) → MessagesIn c xs → KeepAllIn c xs

@@ -5,13 +5,12 @@ use Rattle.tss_isa.specs.declared.instr.LoadKind.{LoadKind}
 use Rattle.tss_isa.specs.declared.instr.StoreKind.{StoreKind}
 use Rattle.tss_isa.specs.declared.instr.StoreKind.TheVariants.{Sb, Sh, Sw}
 use Rattle.tss_isa.specs.declared.instr.Instr.{Instr}
-use Rattle.tss_isa.specs.declared.instr.Instr.TheVariants.{Lui, Auipc, Jal, Jalr, Branch, Load, Store, OpImm, Op, Fence}
-use Rattle.tss_isa.specs.declared.instr.Instr.TheVariants.{Ecall, Ebreak}
+use Rattle.tss_isa.specs.declared.instr.Instr.TheVariants.{Jal, Jalr, Branch, Load, Store}
 use Rattle.tss_isa.specs.InstrTable.{instr_of}
 use Rattle.tss_model.specs.Access.{Actor, Loads, Stores, Access, Granted, Denied, Touch, access_of}
 use Rattle.tss_model.specs.Registers.{Registers, register_at, with_register, next_pc, completed, onward, trap_of}
 use Rattle.tss_base.specs.declared.causes.TheConstants.{JUMP_MISALIGNED, LOAD_MISALIGNED, STORE_MISALIGNED}
-use Rattle.tss_model.specs.Core.{Write, Stepped, Executed, Called, Ended, Trapped, Touched, load_width, store_width}
+use Rattle.tss_model.specs.Core.{Write, Stepped, Executed, Ended, Trapped, load_width, store_width}
 use Rattle.tss_model.specs.Core.{jump_to, branch_if, load_on, loaded_value, load_range, load_from, store_on}
 use Rattle.tss_model.specs.Core.{stored_value, store_range, store_to, passes, moved, execute, execute_word}
 use Rattle.tss_model.specs.Core.{execute_fetched, core_step}
@@ -23,12 +22,8 @@ MayWrite actor w = access_of actor Stores (record { base = w.at; len = length w.
 
 -- what a step stores it may store
 abbrev pub StoresWithin : Actor → Stepped → Type 0
-StoresWithin actor (Executed r None) = Unit {0}
 StoresWithin actor (Executed r (Some w)) = MayWrite actor w
-StoresWithin actor Called = Unit {0}
-StoresWithin actor Ended = Unit {0}
-StoresWithin actor (Trapped t) = Unit {0}
-StoresWithin actor Touched = Unit {0}
+StoresWithin actor other = Unit {0}
 
 module _ (actor : Actor) where
   -- one of two
@@ -78,8 +73,6 @@ module _ (actor : Actor) where
       (Trapped (trap_of r STORE_MISALIGNED at)) (store_on_within r kind at v answer refl) tt
 
   execute_within : (byte : ℕ → ℕ) (r : Registers) (i : Instr) → StoresWithin actor (execute actor byte r i)
-  execute_within byte r (Lui rd imm) = tt
-  execute_within byte r (Auipc rd imm) = tt
   execute_within byte r (Jal rd offset) = jump_within r rd _
   execute_within byte r (Jalr rd rs1 offset) = jump_within r rd _
   execute_within byte r (Branch test rs1 rs2 offset) =
@@ -87,11 +80,7 @@ module _ (actor : Actor) where
   execute_within byte r (Load kind rd rs1 offset) = load_within byte r kind rd (moved (register_at r rs1) offset)
   execute_within byte r (Store kind rs2 rs1 offset) =
       store_within r kind (moved (register_at r rs1) offset) (register_at r rs2)
-  execute_within byte r (OpImm op rd rs1 imm) = tt
-  execute_within byte r (Op op rd rs1 rs2) = tt
-  execute_within byte r (Fence rd rs1 bits) = tt
-  execute_within byte r Ecall = tt
-  execute_within byte r Ebreak = tt
+  execute_within byte r other = tt
 
   word_within : (byte : ℕ → ℕ) (r : Registers) (w : ℕ) (i : Option Instr) →
       StoresWithin actor (execute_word actor byte r w i)

@@ -14,7 +14,7 @@ use Rattle.tss_model.specs.Memory.{MemoryRange, scratch_range, covers, list_put,
 use Rattle.tss_model.specs.Access.{Granted, Denied, TaskActor, writes, task_may_store}
 use Rattle.tss_model.specs.Registers.{trap_of}
 use Rattle.tss_base.specs.declared.causes.TheConstants.{BUDGET_SPENT}
-use Rattle.tss_model.specs.Core.{Write, Stepped, Executed, Called, Ended, Trapped, Touched, core_step}
+use Rattle.tss_model.specs.Core.{Write, Stepped, Executed, core_step}
 use Rattle.tss_model.specs.TaskRun.{repeated, TaskState, is_over, task_byte, task_write, task_trapped, task_on}
 use Rattle.tss_model.specs.TaskRun.{task_step}
 use Rattle.tss_protocol.specs.Mail.{StorageName, Home, Buffer}
@@ -142,12 +142,8 @@ module _ (c : Scope) where
 
     on_only : (x : TaskState Stores) → TaskOnly x → (y : Stepped) → StoresWithin (TaskActor ranges os) y →
         TaskOnly (task_on (worker_write (placed_in os ts)) x y)
-    on_only x f (Executed r None) within = f
     on_only x f (Executed r (Some w)) within = write_task x f w within
-    on_only x f Called within = f
-    on_only x f Ended within = f
-    on_only x f (Trapped t) within = f
-    on_only x f Touched within = f
+    on_only x f other within = f
 
     module _ (byte : Stores → ℕ → ℕ) (budget : ℕ) (code : List SegmentState) where
       step_only : (x : TaskState Stores) → TaskOnly x →
