@@ -10,8 +10,6 @@ mod fault;
 mod item;
 mod label;
 mod program;
-#[cfg(test)]
-mod tests;
 mod writing;
 
 pub use fault::AsmFault;
