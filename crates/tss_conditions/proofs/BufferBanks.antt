@@ -101,23 +101,9 @@ module _ (m : Machine) (S : State) (basis : Basis m S) (held : HoldsInBanks m.si
   held_after event.Main =
       same (spawned_by_main m S all (call_next m S)) (after_event m S event.Main) (main_by (call_next m S))
       (λ i. (Leaves-after_event m S event.Main i).buffers)
-  held_after event.Take = left event.Take (λ i. (Leaves-after_event m S event.Take i).buffers)
   held_after (event.Decode o) = bank_decode o
-  held_after (event.Ack o) = left (event.Ack o) (λ i. (Leaves-after_event m S (event.Ack o) i).buffers)
-  held_after (event.Open o) = left (event.Open o) (λ i. (Leaves-after_event m S (event.Open o) i).buffers)
-  held_after (event.Use o) = left (event.Use o) (λ i. (Leaves-after_event m S (event.Use o) i).buffers)
-  held_after (event.Ready o) = left (event.Ready o) (λ i. (Leaves-after_event m S (event.Ready o) i).buffers)
-  held_after (event.Link o) = left (event.Link o) (λ i. (Leaves-after_event m S (event.Link o) i).buffers)
-  held_after (event.Start w) = left (event.Start w) (λ i. (Leaves-after_event m S (event.Start w) i).buffers)
-  held_after (event.Exec w) = left (event.Exec w) (λ i. (Leaves-after_event m S (event.Exec w) i).buffers)
-  held_after (event.Finish w) = left (event.Finish w) (λ i. (Leaves-after_event m S (event.Finish w) i).buffers)
-  held_after (event.Release o) = left (event.Release o) (λ i. (Leaves-after_event m S (event.Release o) i).buffers)
-  held_after (event.Bye o) = left (event.Bye o) (λ i. (Leaves-after_event m S (event.Bye o) i).buffers)
-  held_after (event.Idle v) = left (event.Idle v) (λ i. (Leaves-after_event m S (event.Idle v) i).buffers)
-  held_after (event.Nack v) = left (event.Nack v) (λ i. (Leaves-after_event m S (event.Nack v) i).buffers)
-  held_after (event.Retire v) = left (event.Retire v) (λ i. (Leaves-after_event m S (event.Retire v) i).buffers)
-  held_after (event.Copy b) = left (event.Copy b) (λ i. (Leaves-after_event m S (event.Copy b) i).buffers)
   held_after (event.Gone v) = bank_gone v
+  held_after e = left e (λ i. (Leaves-after_event m S e i).buffers)
 
 -- so it is in every run
 pub banks_run : (m : Machine) (i : ImageState) (es : List Event) (S : State) → IsAccepted i → IsAdmissible m

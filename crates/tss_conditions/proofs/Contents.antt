@@ -267,52 +267,11 @@ module _ (m : Machine) (i : ImageState) (S : State) (r : Reached m i S)
   still_left e buffers contents = same (after_event m S e) buffers contents
 
   still_after : (e : Event) → AreStill (after_event m S e)
-  still_after event.Main =
-      still_left event.Main (λ i. (Leaves-after_event m S event.Main i).buffers)
-      (λ i. (Leaves-after_event m S event.Main i).contents)
-  still_after event.Take =
-      still_left event.Take (λ i. (Leaves-after_event m S event.Take i).buffers)
-      (λ i. (Leaves-after_event m S event.Take i).contents)
   still_after (event.Decode o) = still_decode o
-  still_after (event.Ack o) =
-      still_left (event.Ack o) (λ i. (Leaves-after_event m S (event.Ack o) i).buffers)
-      (λ i. (Leaves-after_event m S (event.Ack o) i).contents)
-  still_after (event.Open o) =
-      still_left (event.Open o) (λ i. (Leaves-after_event m S (event.Open o) i).buffers)
-      (λ i. (Leaves-after_event m S (event.Open o) i).contents)
-  still_after (event.Use o) =
-      still_left (event.Use o) (λ i. (Leaves-after_event m S (event.Use o) i).buffers)
-      (λ i. (Leaves-after_event m S (event.Use o) i).contents)
-  still_after (event.Ready o) =
-      still_left (event.Ready o) (λ i. (Leaves-after_event m S (event.Ready o) i).buffers)
-      (λ i. (Leaves-after_event m S (event.Ready o) i).contents)
-  still_after (event.Link o) =
-      still_left (event.Link o) (λ i. (Leaves-after_event m S (event.Link o) i).buffers)
-      (λ i. (Leaves-after_event m S (event.Link o) i).contents)
   still_after (event.Start w) = still_start w
   still_after (event.Exec w) = still_exec w
-  still_after (event.Finish w) =
-      still_left (event.Finish w) (λ i. (Leaves-after_event m S (event.Finish w) i).buffers)
-      (λ i. (Leaves-after_event m S (event.Finish w) i).contents)
-  still_after (event.Release o) =
-      still_left (event.Release o) (λ i. (Leaves-after_event m S (event.Release o) i).buffers)
-      (λ i. (Leaves-after_event m S (event.Release o) i).contents)
-  still_after (event.Bye o) =
-      still_left (event.Bye o) (λ i. (Leaves-after_event m S (event.Bye o) i).buffers)
-      (λ i. (Leaves-after_event m S (event.Bye o) i).contents)
-  still_after (event.Idle v) =
-      still_left (event.Idle v) (λ i. (Leaves-after_event m S (event.Idle v) i).buffers)
-      (λ i. (Leaves-after_event m S (event.Idle v) i).contents)
-  still_after (event.Nack v) =
-      still_left (event.Nack v) (λ i. (Leaves-after_event m S (event.Nack v) i).buffers)
-      (λ i. (Leaves-after_event m S (event.Nack v) i).contents)
-  still_after (event.Retire v) =
-      still_left (event.Retire v) (λ i. (Leaves-after_event m S (event.Retire v) i).buffers)
-      (λ i. (Leaves-after_event m S (event.Retire v) i).contents)
-  still_after (event.Copy b) =
-      still_left (event.Copy b) (λ i. (Leaves-after_event m S (event.Copy b) i).buffers)
-      (λ i. (Leaves-after_event m S (event.Copy b) i).contents)
   still_after (event.Gone v) = still_gone v
+  still_after e = still_left e (λ i. (Leaves-after_event m S e i).buffers) (λ i. (Leaves-after_event m S e i).contents)
 
 -- so they are in every run
 pub whole_run : (m : Machine) (i : ImageState) (es : List Event) (S : State) → IsAccepted i → IsAdmissible m

@@ -89,24 +89,9 @@ module _ (m : Machine) (S : State) (facts : Facts m S) (fit : HaveFitObjects m.l
   same e is = subst HaveBytesLeft (sym is) left
 
   left_after : (e : Event) → HaveBytesLeft (after_event m S e).copies
-  left_after event.Main = same event.Main (λ i. (Leaves-after_event m S event.Main i).copies)
-  left_after event.Take = same event.Take (λ i. (Leaves-after_event m S event.Take i).copies)
-  left_after (event.Decode o) = same (event.Decode o) (λ i. (Leaves-after_event m S (event.Decode o) i).copies)
-  left_after (event.Ack o) = same (event.Ack o) (λ i. (Leaves-after_event m S (event.Ack o) i).copies)
-  left_after (event.Open o) = same (event.Open o) (λ i. (Leaves-after_event m S (event.Open o) i).copies)
-  left_after (event.Use o) = same (event.Use o) (λ i. (Leaves-after_event m S (event.Use o) i).copies)
-  left_after (event.Ready o) = same (event.Ready o) (λ i. (Leaves-after_event m S (event.Ready o) i).copies)
-  left_after (event.Link o) = same (event.Link o) (λ i. (Leaves-after_event m S (event.Link o) i).copies)
-  left_after (event.Start w) = same (event.Start w) (λ i. (Leaves-after_event m S (event.Start w) i).copies)
-  left_after (event.Exec w) = same (event.Exec w) (λ i. (Leaves-after_event m S (event.Exec w) i).copies)
-  left_after (event.Finish w) = same (event.Finish w) (λ i. (Leaves-after_event m S (event.Finish w) i).copies)
-  left_after (event.Release o) = same (event.Release o) (λ i. (Leaves-after_event m S (event.Release o) i).copies)
-  left_after (event.Bye o) = same (event.Bye o) (λ i. (Leaves-after_event m S (event.Bye o) i).copies)
-  left_after (event.Idle v) = same (event.Idle v) (λ i. (Leaves-after_event m S (event.Idle v) i).copies)
-  left_after (event.Nack v) = same (event.Nack v) (λ i. (Leaves-after_event m S (event.Nack v) i).copies)
   left_after (event.Retire v) = left_retire v
   left_after (event.Copy b) = left_copy b
-  left_after (event.Gone v) = same (event.Gone v) (λ i. (Leaves-after_event m S (event.Gone v) i).copies)
+  left_after e = same e (λ i. (Leaves-after_event m S e i).copies)
 
 -- so it has in every run
 pub left_run : (m : Machine) (i : ImageState) (es : List Event) (S : State) → IsAccepted i → IsAdmissible m

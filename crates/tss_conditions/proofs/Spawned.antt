@@ -1,6 +1,6 @@
 -- The tasks that a run spawns have the operands that they count, and list no more than a task may.
 use Rattle.std.proofs.Common.{◌≡◌, ℕ, zero, suc, ◌≤◌, Bool, true, false, if◌then◌else◌, List, [], ◌∷◌, ◌++◌, length}
-use Rattle.std.proofs.Common.{replicate, Option, Some, None, Result, Ok, Err, refl, sym, ap, ◌∙◌, subst, arith}
+use Rattle.std.proofs.Common.{replicate, Option, Some, Result, Ok, Err, refl, sym, ap, ◌∙◌, subst, arith}
 use Rattle.std.specs.Prelude.{◌+◌, ◌-◌, ◌==◌, ◌&&◌, nat_lt, nat_le, cond}
 use Rattle.std.proofs.lemmas.Bool.{ltb-false}
 use Rattle.std.proofs.lemmas.Option.{none-some, same_Some}
@@ -20,7 +20,7 @@ use Rattle.tss_model.specs.Access.{operands_of, touches}
 use Rattle.tss_model.specs.Spawn.{SpawnCall, Entry, list_range, is_misplaced, entries_at, entry_checked, after_first}
 use Rattle.tss_model.specs.Spawn.{with_rest, entries_checked, merged_operands, name_objects, objects_of, no_operand}
 use Rattle.tss_model.specs.Spawn.{task_of, task_checked, spawn_of}
-use Rattle.tss_model.specs.MainStep.{Call, ExitCall, Spawn, Barrier, Print, Await, Unknown, spawn_call, spawn_on}
+use Rattle.tss_model.specs.MainStep.{Call, Spawn, spawn_call, spawn_on}
 use Rattle.tss_protocol.specs.State.{State, initial_state}
 use Rattle.tss_protocol.specs.MainEvent.{call_next}
 use Rattle.tss_protocol.specs.Run.{IsRun}
@@ -109,35 +109,14 @@ module _ (m : Machine) (all : List Task) (S : State) (right : CountRightly m.lim
       one_more t (spawn_counts (spawn_call S.main.registers) S.home S.main.epoch m.limits S.main.spawned t e)
 
   by_call : (c : Option Call) → CountRightly m.limits (spawned_by_main m S all c)
-  by_call None = right
-  by_call (Some ExitCall) = right
   by_call (Some Spawn) =
       by_spawn (spawn_of (spawn_call S.main.registers) S.home S.main.epoch m.limits S.main.spawned) refl
-  by_call (Some Barrier) = right
-  by_call (Some Print) = right
-  by_call (Some Await) = right
-  by_call (Some (Unknown n)) = right
+  by_call other = right
 
   -- after every event they do
   right_after : (e : Event) → CountRightly m.limits (spawned_after_event m S all e)
   right_after event.Main = by_call (call_next m S)
-  right_after event.Take = right
-  right_after (event.Decode o) = right
-  right_after (event.Ack o) = right
-  right_after (event.Open o) = right
-  right_after (event.Use o) = right
-  right_after (event.Ready o) = right
-  right_after (event.Link o) = right
-  right_after (event.Start w) = right
-  right_after (event.Exec w) = right
-  right_after (event.Finish w) = right
-  right_after (event.Release o) = right
-  right_after (event.Bye o) = right
-  right_after (event.Idle v) = right
-  right_after (event.Nack v) = right
-  right_after (event.Retire v) = right
-  right_after (event.Copy b) = right
-  right_after (event.Gone v) = right
+  right_after e = right
 
 -- so they do in every run
 pub counts_run : (m : Machine) (i : ImageState) (es : List Event) (S : State) → IsRun m i es S

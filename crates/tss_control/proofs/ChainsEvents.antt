@@ -35,21 +35,14 @@ module _ (m : Machine) (S : State) (facts : Facts m S) where
   -- every event leaves the chains
   pub keeps_chains : (e : Event) → IsKept m S facts e (λ ts g S. HasChains ts S)
   keeps_chains event.Main on order = keeps_main.chains m S facts on order
-  keeps_chains event.Take on order = HasChains-quiet m S ts h.chains event.Take tt
   keeps_chains (event.Decode o) on order = HasChains-decode m S facts o on
-  keeps_chains (event.Ack o) on order = HasChains-quiet m S ts h.chains (event.Ack o) tt
   keeps_chains (event.Open o) on order = HasChains-open m S facts o on
   keeps_chains (event.Use o) on order = HasChains-use m ts S h.chains o on
-  keeps_chains (event.Ready o) on order = HasChains-quiet m S ts h.chains (event.Ready o) tt
-  keeps_chains (event.Link o) on order = HasChains-quiet m S ts h.chains (event.Link o) tt
-  keeps_chains (event.Start w) on order = HasChains-quiet m S ts h.chains (event.Start w) tt
-  keeps_chains (event.Exec w) on order = HasChains-quiet m S ts h.chains (event.Exec w) tt
-  keeps_chains (event.Finish w) on order = HasChains-quiet m S ts h.chains (event.Finish w) tt
   keeps_chains (event.Release o) on order = HasChains-release m S facts o
-  keeps_chains (event.Bye o) on order = HasChains-quiet m S ts h.chains (event.Bye o) tt
   keeps_chains (event.Idle v) on order = HasChains-idle m S ts h.chains v
   keeps_chains (event.Nack v) on order = HasChains-nack m S facts v
   keeps_chains (event.Retire v) on order =
       HasChains-retire m S facts v (retire_sent m S v on)
   keeps_chains (event.Copy b) on order = HasChains-copy m S ts h.chains b
   keeps_chains (event.Gone v) on order = HasChains-gone m S ts h.chains v
+  keeps_chains e on order = HasChains-quiet m S ts h.chains e tt

@@ -36,40 +36,14 @@ module _ (m : Machine) (S : State) (facts : Facts m S) where
   -- every event leaves the entries
   pub keeps_entries : (e : Event) → IsKept m S facts e (λ ts g S. HasEntries ts S)
   keeps_entries event.Main on order = keeps_main.entries m S facts on order
-  keeps_entries event.Take on order =
-      HasEntries-quiet m S basis h.orderly event.Take tt on
-      (after m S facts event.Take on order) h.entries
   keeps_entries (event.Decode o) on order =
       HasEntries-decode m S basis h.orderly h.chains h.entries o on
-  keeps_entries (event.Ack o) on order =
-      HasEntries-quiet m S basis h.orderly (event.Ack o) tt on
-      (after m S facts (event.Ack o) on order)
-      h.entries
   keeps_entries (event.Open o) on order =
       HasEntries-open m S facts o on (after m S facts (event.Open o) on order)
   keeps_entries (event.Use o) on order =
       HasEntries-use m S facts o on (after m S facts (event.Use o) on order)
-  keeps_entries (event.Ready o) on order =
-      HasEntries-quiet m S basis h.orderly (event.Ready o) tt on
-      (after m S facts (event.Ready o) on order) h.entries
-  keeps_entries (event.Link o) on order =
-      HasEntries-quiet m S basis h.orderly (event.Link o) tt on
-      (after m S facts (event.Link o) on order) h.entries
-  keeps_entries (event.Start w) on order =
-      HasEntries-quiet m S basis h.orderly (event.Start w) tt on
-      (after m S facts (event.Start w) on order) h.entries
-  keeps_entries (event.Exec w) on order =
-      HasEntries-quiet m S basis h.orderly (event.Exec w) tt on
-      (after m S facts (event.Exec w) on order) h.entries
-  keeps_entries (event.Finish w) on order =
-      HasEntries-quiet m S basis h.orderly (event.Finish w) tt on
-      (after m S facts (event.Finish w) on order) h.entries
   keeps_entries (event.Release o) on order =
       HasEntries-release m S facts o on (after m S facts (event.Release o) on order)
-  keeps_entries (event.Bye o) on order =
-      HasEntries-quiet m S basis h.orderly (event.Bye o) tt on
-      (after m S facts (event.Bye o) on order)
-      h.entries
   keeps_entries (event.Idle v) on order =
       HasEntries-idle m S facts v on (after m S facts (event.Idle v) on order)
   keeps_entries (event.Nack v) on order =
@@ -81,6 +55,7 @@ module _ (m : Machine) (S : State) (facts : Facts m S) where
   keeps_entries (event.Gone v) on order =
       HasEntries-gone m S basis h.orderly h.chains h.entries v on
       (after m S facts (event.Gone v) on order)
+  keeps_entries e on order = HasEntries-quiet m S basis h.orderly e tt on (after m S facts e on order) h.entries
 
 module _ (m : Machine) (S : State) (facts : Facts m S) where
   open facts use {basis, ts, control as h}
@@ -88,24 +63,13 @@ module _ (m : Machine) (S : State) (facts : Facts m S) where
   -- and asks and refuses rightly
   pub keeps_retirement : (e : Event) → IsKept m S facts e (λ ts g S. HasRetirement S)
   keeps_retirement event.Main on order = keeps_main.retirement m S facts on order
-  keeps_retirement event.Take on order = HasRetirement-quiet m S event.Take tt h.retirement
   keeps_retirement (event.Decode o) on order =
       HasRetirement-decode m S basis h.orderly h.entries o on h.retirement
-  keeps_retirement (event.Ack o) on order = HasRetirement-quiet m S (event.Ack o) tt h.retirement
   keeps_retirement (event.Open o) on order =
       HasRetirement-open m S facts o on (after m S facts (event.Open o) on order)
   keeps_retirement (event.Use o) on order = HasRetirement-use m S facts o on
-  keeps_retirement (event.Ready o) on order =
-      HasRetirement-quiet m S (event.Ready o) tt h.retirement
-  keeps_retirement (event.Link o) on order = HasRetirement-quiet m S (event.Link o) tt h.retirement
-  keeps_retirement (event.Start w) on order =
-      HasRetirement-quiet m S (event.Start w) tt h.retirement
-  keeps_retirement (event.Exec w) on order = HasRetirement-quiet m S (event.Exec w) tt h.retirement
-  keeps_retirement (event.Finish w) on order =
-      HasRetirement-quiet m S (event.Finish w) tt h.retirement
   keeps_retirement (event.Release o) on order =
       HasRetirement-release m S facts o on (after m S facts (event.Release o) on order)
-  keeps_retirement (event.Bye o) on order = HasRetirement-quiet m S (event.Bye o) tt h.retirement
   keeps_retirement (event.Idle v) on order = HasRetirement-idle m S facts v on
   keeps_retirement (event.Nack v) on order =
       HasRetirement-nack m S facts v on (after m S facts (event.Nack v) on order)
@@ -115,3 +79,4 @@ module _ (m : Machine) (S : State) (facts : Facts m S) where
       HasRetirement-copy m S basis b on h.retirement
   keeps_retirement (event.Gone v) on order =
       HasRetirement-gone m S basis h.orderly h.chains h.entries v on h.retirement
+  keeps_retirement e on order = HasRetirement-quiet m S e tt h.retirement

@@ -7,7 +7,7 @@ use Rattle.tss_base.specs.declared.operand.Task.{Task}
 use Rattle.tss_base.specs.declared.machine.Machine.{Machine}
 use Rattle.tss_base.specs.declared.event.Event.TheVariants as event
 use Rattle.tss_model.specs.Spawn.{spawn_of}
-use Rattle.tss_model.specs.MainStep.{MainState, Call, ExitCall, Spawn, Barrier, Print, Await, Unknown, main_call}
+use Rattle.tss_model.specs.MainStep.{MainState, Call, Spawn, Barrier, main_call}
 use Rattle.tss_model.specs.MainStep.{spawn_call, spawn_on}
 use Rattle.tss_protocol.specs.State.{State}
 use Rattle.tss_protocol.specs.Stations.{operand_at}
@@ -49,14 +49,10 @@ module _ (m : Machine) (ts : List Task) (g : Arrivals) (S : State) (round : IsRo
 
   -- after main's call the new round controls the state before it
   controlled_call : (c : Option Call) → may_call S c ≡ true → IsControlled (round_after_main m S ts c) g S
-  controlled_call None may = h
-  controlled_call (Some ExitCall) may = h
   controlled_call (Some Spawn) may =
       by_spawn (spawn_of (spawn_call S.main.registers) S.home S.main.epoch m.limits S.main.spawned) refl
   controlled_call (Some Barrier) may = IsControlled-bare S (IsBare-drained S may) g h.orderly
-  controlled_call (Some Print) may = h
-  controlled_call (Some Await) may = h
-  controlled_call (Some (Unknown n)) may = h
+  controlled_call other may = h
 
 -- ---- the state
 

@@ -101,7 +101,7 @@ module _ (m : Machine) (S : State) (ts : List Task) (r : IsRounded S ts) where
       (λ i. (Leaves-after_event m S (event.Gone v) i).inbox)
   IsRounded-after_event e on =
       later_event_round e on tt
-      (quiet_in_use e refl (λ i. (Leaves-after_event m S e i).entries)) tt tt
+      (quiet_in_use m S ts r e refl (λ i. (Leaves-after_event m S e i).entries)) tt tt
       (λ i. (Leaves-after_event m S e i).main)
       (λ i. (Leaves-after_event m S e i).inbox)
 

@@ -33,59 +33,6 @@ arrival_task t o p e = elim (decide_key nat_order t.number o.task) [
       (other_number t.number o.task other)) ∙ e))
 ]
 
-module _ (m : Machine) (S : State) where
-  -- finish concerns its worker's task alone
-  pub ChangesOnly-finishing : (w : ℕ) (b : Busy) → get S.workers w ≡ Some b →
-      ChangesOnly (task_scope b.task.number) S (after_event m S (event.Finish w))
-  ChangesOnly-finishing w b there = ChangesOnly-finish (task_scope b.task.number) m S w (λ d e.
-      subst (ConcernsFinish (task_scope b.task.number) S) (same_Some b d (sym there ∙ e))
-      (record { task = refl; names = λ o r same e. same }))
-
-  -- take concerns the task that is taken alone
-  pub ChangesOnly-taking : (t : Task) → S.inbox ≡ Some t → get S.flight t.number ≡ None →
-      ChangesOnly (task_scope t.number) S (after_event m S event.Take)
-  ChangesOnly-taking t there fresh = ChangesOnly-take (task_scope t.number) m S (λ d e.
-      subst (ConcernsTake (task_scope t.number) S) (same_Some t d (sym there ∙ e)) (record {
-        spawned = record { task = refl; names = λ o p at. arrival_task t o p at };
-        fresh = fresh;
-      }))
-
-  accepted : (r : Result Task ℕ) →
-      spawn_of (spawn_call S.main.registers) S.home S.main.epoch m.limits S.main.spawned ≡ r → (t : Task) →
-      (spawn_on S.main r).1 ≡ Some t → t.number ≡ suc S.main.spawned
-  accepted (Ok u) there t e =
-      ap (λ (t : Task). t.number) (sym (same_Some u t e))
-      ∙ accepted_number (spawn_call S.main.registers) S.home S.main.epoch m.limits S.main.spawned u there
-  accepted (Err n) there t e = absurd (none-some t e)
-
-  -- a task that main's call spawns has the next number
-  pub spawned_number : (x : Call) (t : Task) → (main_call m.limits S.home S.main x).1 ≡ Some t →
-      t.number ≡ suc S.main.spawned
-  spawned_number Spawn t e =
-      accepted (spawn_of (spawn_call S.main.registers) S.home S.main.epoch m.limits S.main.spawned) refl t e
-  spawned_number other t e = absurd (none-some t e)
-
-  -- an address of no named object, alone
-  free_inside : (a : ℕ) → IsFree S a → IsInside (main_scope S) a
-  free_inside a free = (
-    record { base = a; len = 1 },
-    λ b covered. subst (IsFree S) (only_one b covered) free,
-    (omega arith, omega arith),
-  )
-    where
-      only_one : (b : ℕ) → Covers (record { base = a; len = 1 }) b → a ≡ b
-      only_one b covered = omega (arith, covered.0, covered.1)
-
-  -- main concerns the task that it spawns and the addresses of no object that it has named
-  pub ChangesOnly-main_event : IsEnabled m S event.Main → ChangesOnly (main_scope S) S (after_event m S event.Main)
-  ChangesOnly-main_event on = ChangesOnly-main (main_scope S) m S (record {
-    spawned = λ x next t e. record {
-      task = spawned_number x t e;
-      names = λ o p at. arrival_task t o p at ∙ spawned_number x t e;
-    };
-    addresses = free_inside;
-  }) on
-
 module _ (f : Objects) (m : Machine) (S : State) (links : LinksStay f S) where
   -- the task of a name
   abbrev OfTask : OpName → ℕ → Type 0

@@ -11,8 +11,8 @@ use Rattle.tss_base.specs.Names.{Named}
 use Rattle.tss_maps.proofs.Keys.{name_order, decide_key}
 use Rattle.tss_maps.proofs.Changes.{at_inserted, beside_inserted, from_inserted, beside_removed, from_removed}
 use Rattle.tss_maps.proofs.Changes.{decide_get}
-use Rattle.tss_protocol.specs.Mail.{IdleContents, GoneContents, Message, Decode, Ack, Open, Use, Ready, Link, Release}
-use Rattle.tss_protocol.specs.Mail.{Bye, Idle, Nack, Retire, Gone, Mail, posted, posted_all, taken}
+use Rattle.tss_protocol.specs.Mail.{IdleContents, GoneContents, Message}
+use Rattle.tss_protocol.specs.Mail.{Idle, Nack, Retire, Gone, Mail, posted, posted_all, taken}
 use Rattle.tss_protocol.specs.State.{Entry, Version}
 use Rattle.tss_protocol.specs.Gateway.{decodes_from}
 use Rattle.tss_protocol.specs.Renaming.{live_message, decode_message}
@@ -153,32 +153,16 @@ IsJoint-Asking = record {
 
 -- not of a version that asks
 abbrev pub IsAside : Message → Type 0
-IsAside (Decode o operand) = Unit {0}
-IsAside (Ack o) = Unit {0}
-IsAside (Open o c) = Unit {0}
-IsAside (Use o v) = Unit {0}
-IsAside (Ready o source) = Unit {0}
-IsAside (Link o next) = Unit {0}
-IsAside (Release o r) = Unit {0}
-IsAside (Bye o promised) = Unit {0}
 IsAside (Idle v i) = ⊥
 IsAside (Nack v) = ⊥
 IsAside (Retire v) = ⊥
-IsAside (Gone v g) = Unit {0}
+IsAside other = Unit {0}
 
 asking_posted : (vs : Named Version) (m : Mail) (x : Message) → IsAside x → Asking vs m → Asking vs (posted m x)
-asking_posted vs m (Decode o operand) aside h = h
-asking_posted vs m (Ack o) aside h = h
-asking_posted vs m (Open o c) aside h = h
-asking_posted vs m (Use o v) aside h = h
-asking_posted vs m (Ready o source) aside h = h
-asking_posted vs m (Link o next) aside h = h
-asking_posted vs m (Release o r) aside h = h
-asking_posted vs m (Bye o promised) aside h = h
 asking_posted vs m (Idle v i) aside h = absurd aside
 asking_posted vs m (Nack v) aside h = absurd aside
 asking_posted vs m (Retire v) aside h = absurd aside
-asking_posted vs m (Gone v g) aside h = h
+asking_posted vs m other aside h = h
 
 -- so do more of them
 pub asking_posted_all : (vs : Named Version) (m : Mail) (xs : List Message) → AllSent IsAside xs → Asking vs m

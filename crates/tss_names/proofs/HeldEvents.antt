@@ -21,8 +21,8 @@ use Rattle.tss_model.specs.Access.{operands_of}
 use Rattle.tss_model.specs.MainStep.{MainState, Call, main_call}
 use Rattle.tss_protocol.specs.Names.{bank_of}
 use Rattle.tss_protocol.specs.Mail.{StorageName, Home, Buffer, Source, OpenContents, ReleaseContents, IdleContents}
-use Rattle.tss_protocol.specs.Mail.{GoneContents, Message, Decode, Ack, Open, Use, Ready, Link, Release, Bye, Idle}
-use Rattle.tss_protocol.specs.Mail.{Nack, Retire, Gone, Mail, posted, posted_all, taken}
+use Rattle.tss_protocol.specs.Mail.{GoneContents, Message, Open}
+use Rattle.tss_protocol.specs.Mail.{Gone, Mail, posted, posted_all, taken}
 use Rattle.tss_protocol.specs.State.{State, Flying, Busy, Entry, Version, CopyState, initial_state}
 use Rattle.tss_protocol.specs.Gateway.{decodes_from}
 use Rattle.tss_protocol.specs.Renaming.{takes_place, places_after_decode, live_message, decode_message, may_retire}
@@ -51,34 +51,16 @@ use Rattle.tss_names.proofs.PlainLemmas.{none_from_test}
 
 -- neither open nor gone
 abbrev pub HoldsNothing : Message → Type 0
-HoldsNothing (Decode o operand) = Unit {0}
-HoldsNothing (Ack o) = Unit {0}
 HoldsNothing (Open o c) = ⊥
-HoldsNothing (Use o v) = Unit {0}
-HoldsNothing (Ready o source) = Unit {0}
-HoldsNothing (Link o next) = Unit {0}
-HoldsNothing (Release o r) = Unit {0}
-HoldsNothing (Bye o promised) = Unit {0}
-HoldsNothing (Idle v i) = Unit {0}
-HoldsNothing (Nack v) = Unit {0}
-HoldsNothing (Retire v) = Unit {0}
 HoldsNothing (Gone v g) = ⊥
+HoldsNothing other = Unit {0}
 
 -- opens and gone messages are as they were
 posted-nothing : (m : Mail) (x : Message) → HoldsNothing x
     → ((posted m x).opens ≡ m.opens) × ((posted m x).gones ≡ m.gones)
-posted-nothing m (Decode o operand) h = (refl, refl)
-posted-nothing m (Ack o) h = (refl, refl)
 posted-nothing m (Open o c) h = absurd h
-posted-nothing m (Use o v) h = (refl, refl)
-posted-nothing m (Ready o source) h = (refl, refl)
-posted-nothing m (Link o next) h = (refl, refl)
-posted-nothing m (Release o r) h = (refl, refl)
-posted-nothing m (Bye o promised) h = (refl, refl)
-posted-nothing m (Idle v i) h = (refl, refl)
-posted-nothing m (Nack v) h = (refl, refl)
-posted-nothing m (Retire v) h = (refl, refl)
 posted-nothing m (Gone v g) h = absurd h
+posted-nothing m other h = (refl, refl)
 
 -- and so do messages of which none holds a buffer
 pub posted_all-nothing : (m : Mail) (xs : List Message) → AllSent HoldsNothing xs

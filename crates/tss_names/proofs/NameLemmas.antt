@@ -123,12 +123,7 @@ module _ (Q : Message → Type 0) where
   each_taken m (event.Gone v) e =
       let f = each_removed name_order (λ v g. Q (Gone v g)) m.gones v e.10 in
       (e.0, e.1, e.2, e.3, e.4, e.5, e.6, e.7, e.8, e.9, f)
-  each_taken m event.Main e = e
-  each_taken m event.Take e = e
-  each_taken m (event.Start w) e = e
-  each_taken m (event.Exec w) e = e
-  each_taken m (event.Finish w) e = e
-  each_taken m (event.Copy b) e = e
+  each_taken m other e = e
 
   -- of none
   pub each_no_mail : EachSent Q no_mail

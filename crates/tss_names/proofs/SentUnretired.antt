@@ -9,8 +9,8 @@ use Rattle.tss_base.specs.declared.marks.Follow.{Follow}
 use Rattle.tss_base.specs.Names.{Named}
 use Rattle.tss_maps.proofs.Keys.{name_order}
 use Rattle.tss_maps.proofs.Changes.{from_inserted}
-use Rattle.tss_protocol.specs.Mail.{StorageName, ReleaseContents, OpenContents, GoneContents, Message, Decode, Ack}
-use Rattle.tss_protocol.specs.Mail.{Open, Use, Ready, Link, Release, Bye, Idle, Nack, Retire, Gone, Mail, posted}
+use Rattle.tss_protocol.specs.Mail.{StorageName, ReleaseContents, OpenContents, GoneContents, Message}
+use Rattle.tss_protocol.specs.Mail.{Bye, Gone, Mail, posted}
 use Rattle.tss_protocol.specs.Mail.{posted_all}
 use Rattle.tss_protocol.specs.State.{Version}
 use Rattle.tss_protocol.specs.Versions.{Settling, ready_with, settle_how, settle_by, settle_at, settle_asking}
@@ -22,18 +22,8 @@ use Rattle.tss_protocol.proofs.SentLemmas.{AllSent, AllSent-append}
 
 -- a message doesn't say so
 abbrev pub IsUnretired : Message → Type 0
-IsUnretired (Decode o operand) = Unit {0}
-IsUnretired (Ack o) = Unit {0}
-IsUnretired (Open o c) = Unit {0}
-IsUnretired (Use o v) = Unit {0}
-IsUnretired (Ready o s) = Unit {0}
-IsUnretired (Link o next) = Unit {0}
-IsUnretired (Release o r) = Unit {0}
-IsUnretired (Bye o promised) = Unit {0}
-IsUnretired (Idle v i) = Unit {0}
-IsUnretired (Nack v) = Unit {0}
-IsUnretired (Retire v) = Unit {0}
 IsUnretired (Gone v g) = g.retired ≡ false
+IsUnretired other = Unit {0}
 
 -- what is said to be gone as the last was said so before
 abbrev pub NoMoreRetired : Mail → Mail → Type 0
@@ -41,21 +31,11 @@ NoMoreRetired m n =
     (v : OpName) (g : GoneContents) → get n.gones v ≡ Some g → g.retired ≡ true → get m.gones v ≡ Some g
 
 posted_unretired : (m : Mail) (x : Message) → IsUnretired x → NoMoreRetired m (posted m x)
-posted_unretired m (Decode o operand) h v g e last = e
-posted_unretired m (Ack o) h v g e last = e
-posted_unretired m (Open o c) h v g e last = e
-posted_unretired m (Use o w) h v g e last = e
-posted_unretired m (Ready o s) h v g e last = e
-posted_unretired m (Link o next) h v g e last = e
-posted_unretired m (Release o r) h v g e last = e
-posted_unretired m (Bye o promised) h v g e last = e
-posted_unretired m (Idle w i) h v g e last = e
-posted_unretired m (Nack w) h v g e last = e
-posted_unretired m (Retire w) h v g e last = e
 posted_unretired m (Gone w c) h v g e last = elim (from_inserted name_order m.gones w c v g e) [
   | inl new ↦ absurd (not_both g.retired last (ap (λ (g : GoneContents). g.retired) new.1 ∙ h))
   | inr old ↦ old.1
 ]
+posted_unretired m other h v g e last = e
 
 -- by such messages
 pub posted_all_unretired : (m : Mail) (xs : List Message) → AllSent IsUnretired xs → NoMoreRetired m (posted_all m xs)

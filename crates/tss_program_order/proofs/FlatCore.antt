@@ -44,18 +44,8 @@ module _ (actor : Actor) (f g : ℕ → ℕ) (same : AgreeOnLoads actor f g) (r 
       (load_on-same kind rd at (access_of actor Loads (load_range kind at)) refl)
 
   execute-same : (i : Instr) → execute actor f r i ≡ execute actor g r i
-  execute-same (Lui rd imm) = refl
-  execute-same (Auipc rd imm) = refl
-  execute-same (Jal rd offset) = refl
-  execute-same (Jalr rd rs1 offset) = refl
-  execute-same (Branch test rs1 rs2 offset) = refl
   execute-same (Load kind rd rs1 offset) = load_from-same kind rd (moved (register_at r rs1) offset)
-  execute-same (Store kind rs2 rs1 offset) = refl
-  execute-same (OpImm op rd rs1 imm) = refl
-  execute-same (Op op rd rs1 rs2) = refl
-  execute-same (Fence rd rs1 bits) = refl
-  execute-same Ecall = refl
-  execute-same Ebreak = refl
+  execute-same other = refl
 
   word-same : (w : ℕ) (i : Option Instr) → execute_word actor f r w i ≡ execute_word actor g r w i
   word-same w (Some i) = execute-same i

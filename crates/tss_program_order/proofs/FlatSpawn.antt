@@ -246,11 +246,7 @@ main_call-accepted limits m s Spawn main t e =
         → spawn_on s r ≡ (main, Some t) → spawn_of (spawn_call s.registers) m s.epoch limits s.spawned ≡ Ok t
     by (Err n) d e = absurd (none-some t (ap (λ (p : MainState × Option Task). p.1) e))
     by (Ok u) d e = d ∙ ap Ok (same_Some u t (ap (λ (p : MainState × Option Task). p.1) e))
-main_call-accepted limits m s Barrier main t e = absurd (none-some t (ap (λ (p : MainState × Option Task). p.1) e))
-main_call-accepted limits m s Print main t e = absurd (none-some t (ap (λ (p : MainState × Option Task). p.1) e))
-main_call-accepted limits m s Await main t e = absurd (none-some t (ap (λ (p : MainState × Option Task). p.1) e))
-main_call-accepted limits m s (Unknown n) main t e =
-    absurd (none-some t (ap (λ (p : MainState × Option Task). p.1) e))
+main_call-accepted limits m s other main t e = absurd (none-some t (ap (λ (p : MainState × Option Task). p.1) e))
 
 -- ---- named objects
 

@@ -1,5 +1,5 @@
 -- A task on the flat memory: from its start to its end it changes only bytes of its output and inout operands.
-use Rattle.std.proofs.Common.{◌≡◌, ℕ, zero, suc, ◌+◌, ◌<◌, ◌≤◌, inl, inr, Bool, true, false, Some, None, List, [], ◌∷◌}
+use Rattle.std.proofs.Common.{◌≡◌, ℕ, zero, suc, ◌+◌, ◌<◌, ◌≤◌, inl, inr, Bool, true, false, Some, List, [], ◌∷◌}
 use Rattle.std.proofs.Common.{length, refl, sym, ap, subst, ◌∙◌, arith, nat_le, nat_lt}
 use Rattle.std.specs.Prelude.{◌&&◌, cond}
 use Rattle.std.specs.List.{list_any}
@@ -20,7 +20,7 @@ use Rattle.tss_model.specs.Memory.{MemoryRange, Memory, scratch_range, covers, z
 use Rattle.tss_model.specs.Registers.{trap_of}
 use Rattle.tss_model.specs.Access.{TaskActor, Stores, Granted, Denied, reads, writes, operands_of, task_may_store}
 use Rattle.tss_model.specs.Access.{task_access}
-use Rattle.tss_model.specs.Core.{Write, Stepped, Executed, Called, Ended, Trapped, Touched, core_step}
+use Rattle.tss_model.specs.Core.{Write, Stepped, Executed, core_step}
 use Rattle.tss_model.specs.TaskRun.{TaskState, repeated, is_over, task_byte, task_write, task_on, task_step}
 use Rattle.tss_model.specs.TaskRun.{task_trapped, memory_write, zeroed_outputs, task_start, task_stepped, task_end}
 use Rattle.tss_program_order.proofs.FlatRanges.{contains_parts}
@@ -124,12 +124,8 @@ module _ (ranges : List MemoryRange) (operands : List Operand) (s : TaskState Me
 
   task_on-changes : (x : Stepped) → IsStep (TaskActor ranges operands) s.registers x
       → ChangesWritten operands s.memory (task_on memory_write s x).memory
-  task_on-changes (Executed r None) step = ChangesWritten-same operands s.memory s.memory refl
   task_on-changes (Executed r (Some w)) step = task_write-changes w step.1 step.2
-  task_on-changes Called step = ChangesWritten-same operands s.memory s.memory refl
-  task_on-changes Ended step = ChangesWritten-same operands s.memory s.memory refl
-  task_on-changes (Trapped t) step = ChangesWritten-same operands s.memory s.memory refl
-  task_on-changes Touched step = ChangesWritten-same operands s.memory s.memory refl
+  task_on-changes other step = ChangesWritten-same operands s.memory s.memory refl
 
 module _ (budget : ℕ) (code : List SegmentState) (ranges : List MemoryRange) (operands : List Operand) where
   -- a step of a task

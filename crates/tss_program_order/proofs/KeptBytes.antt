@@ -277,32 +277,9 @@ module _ (a : ℕ) where
     pub kept-after_event : (e : Event) → HasByte (after_event m S e).home a
     unfolding after_event
     kept-after_event event.Main = kept_main_by (call_next m S)
-    kept-after_event event.Take = same_home (after_event m S event.Take)
-        (λ i. (Leaves-after_event m S event.Take i).home)
-    kept-after_event (event.Decode o) = same_home (after_event m S (event.Decode o))
-        (λ i. (Leaves-after_event m S (event.Decode o) i).home)
     kept-after_event (event.Ack o) = h
-    kept-after_event (event.Open o) = same_home (after_event m S (event.Open o))
-        (λ i. (Leaves-after_event m S (event.Open o) i).home)
-    kept-after_event (event.Use o) = same_home (after_event m S (event.Use o))
-        (λ i. (Leaves-after_event m S (event.Use o) i).home)
-    kept-after_event (event.Ready o) = same_home (after_event m S (event.Ready o))
-        (λ i. (Leaves-after_event m S (event.Ready o) i).home)
-    kept-after_event (event.Link o) = same_home (after_event m S (event.Link o))
-        (λ i. (Leaves-after_event m S (event.Link o) i).home)
     kept-after_event (event.Start w) = kept_start w S.queue
     kept-after_event (event.Exec w) = kept_exec w (get S.workers w)
-    kept-after_event (event.Finish w) = same_home (after_event m S (event.Finish w))
-        (λ i. (Leaves-after_event m S (event.Finish w) i).home)
-    kept-after_event (event.Release o) = same_home (after_event m S (event.Release o))
-        (λ i. (Leaves-after_event m S (event.Release o) i).home)
-    kept-after_event (event.Bye o) = same_home (after_event m S (event.Bye o))
-        (λ i. (Leaves-after_event m S (event.Bye o) i).home)
-    kept-after_event (event.Idle v) = same_home (after_event m S (event.Idle v))
-        (λ i. (Leaves-after_event m S (event.Idle v) i).home)
     kept-after_event (event.Nack v) = h
-    kept-after_event (event.Retire v) = same_home (after_event m S (event.Retire v))
-        (λ i. (Leaves-after_event m S (event.Retire v) i).home)
     kept-after_event (event.Copy b) = kept_copy b (get S.copies b)
-    kept-after_event (event.Gone v) = same_home (after_event m S (event.Gone v))
-        (λ i. (Leaves-after_event m S (event.Gone v) i).home)
+    kept-after_event e = same_home (after_event m S e) (λ i. (Leaves-after_event m S e i).home)

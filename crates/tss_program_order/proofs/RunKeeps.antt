@@ -78,44 +78,12 @@ rewritten S T code ranges main = record { main = main; ground = record { code = 
 -- it is main's event
 abbrev pub is_main : Event → Bool
 is_main event.Main = true
-is_main event.Take = false
-is_main (event.Decode o) = false
-is_main (event.Ack o) = false
-is_main (event.Open o) = false
-is_main (event.Use o) = false
-is_main (event.Ready o) = false
-is_main (event.Link o) = false
-is_main (event.Start w) = false
-is_main (event.Exec w) = false
-is_main (event.Finish w) = false
-is_main (event.Release o) = false
-is_main (event.Bye o) = false
-is_main (event.Idle v) = false
-is_main (event.Nack v) = false
-is_main (event.Retire v) = false
-is_main (event.Copy b) = false
-is_main (event.Gone v) = false
+is_main e = false
 
 -- it is main's, or it isn't
 cases_main : (e : Event) → (e ≡ event.Main) ⊎ (is_main e ≡ false)
 cases_main event.Main = inl refl
-cases_main event.Take = inr refl
-cases_main (event.Decode o) = inr refl
-cases_main (event.Ack o) = inr refl
-cases_main (event.Open o) = inr refl
-cases_main (event.Use o) = inr refl
-cases_main (event.Ready o) = inr refl
-cases_main (event.Link o) = inr refl
-cases_main (event.Start w) = inr refl
-cases_main (event.Exec w) = inr refl
-cases_main (event.Finish w) = inr refl
-cases_main (event.Release o) = inr refl
-cases_main (event.Bye o) = inr refl
-cases_main (event.Idle v) = inr refl
-cases_main (event.Nack v) = inr refl
-cases_main (event.Retire v) = inr refl
-cases_main (event.Copy b) = inr refl
-cases_main (event.Gone v) = inr refl
+cases_main e = inr refl
 
 main_by-ground : (m : Machine) (S : State) (c : Option Call) → SameGround S (main_by m S c)
 main_by-ground m S None =

@@ -5,8 +5,6 @@ use Rattle.tss_base.specs.declared.bounds.TheConstants.{BANK_BYTES}
 use Rattle.tss_base.specs.declared.range.Range.{Range}
 use Rattle.tss_base.specs.declared.operand.OpName.{OpName}
 use Rattle.tss_base.specs.declared.machine.Sizes.{Sizes}
-use Rattle.tss_base.specs.declared.event.Event.{Event}
-use Rattle.tss_base.specs.declared.event.Event.TheVariants as event
 use Rattle.tss_base.specs.Names.{name_cmp}
 
 -- the bank of an object, of the tables for renaming and versioning

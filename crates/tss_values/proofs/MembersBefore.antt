@@ -21,8 +21,8 @@ use Rattle.tss_protocol.specs.Versions.{after_open, after_use}
 use Rattle.tss_protocol.specs.UnitMachine.{IsEnabled, after_event, without, decode_message_taken, open_message_taken}
 use Rattle.tss_protocol.specs.UnitMachine.{use_message_taken}
 use Rattle.tss_protocol.proofs.SentLemmas.{posted_all-later, after_open-later, after_use-later}
-use Rattle.tss_phases.specs.Phase.{Phase, Ahead, Decoding, Sent, Waiting, Told, Ready, Releasing, Leaving, Promised}
-use Rattle.tss_phases.specs.Phase.{Left, phase_of, is_decoded}
+use Rattle.tss_phases.specs.Phase.{Phase, Ahead, Decoding}
+use Rattle.tss_phases.specs.Phase.{phase_of, is_decoded}
 use Rattle.tss_phases.specs.Forward.{may_follow}
 use Rattle.tss_phases.proofs.DecodeEvent.{decoding_before}
 use Rattle.tss_phases.proofs.ForwardEvents.{forward-after_event}
@@ -43,86 +43,9 @@ use Rattle.tss_values.proofs.Values.{IsLive}
 follows_decoded : (p r : Phase) → may_follow p r ≡ true → is_decoded r ≡ false → is_decoded p ≡ false
 follows_decoded Ahead r e early = refl
 follows_decoded Decoding r e early = refl
-follows_decoded Sent Ahead e early = absurd (true≢false (sym e))
-follows_decoded Sent Decoding e early = absurd (true≢false (sym e))
-follows_decoded Sent Sent e early = early
-follows_decoded Sent Waiting e early = early
-follows_decoded Sent Told e early = early
-follows_decoded Sent Ready e early = early
-follows_decoded Sent Releasing e early = early
-follows_decoded Sent Leaving e early = early
-follows_decoded Sent Promised e early = early
-follows_decoded Sent Left e early = early
-follows_decoded Waiting Ahead e early = absurd (true≢false (sym e))
-follows_decoded Waiting Decoding e early = absurd (true≢false (sym e))
-follows_decoded Waiting Sent e early = early
-follows_decoded Waiting Waiting e early = early
-follows_decoded Waiting Told e early = early
-follows_decoded Waiting Ready e early = early
-follows_decoded Waiting Releasing e early = early
-follows_decoded Waiting Leaving e early = early
-follows_decoded Waiting Promised e early = early
-follows_decoded Waiting Left e early = early
-follows_decoded Told Ahead e early = absurd (true≢false (sym e))
-follows_decoded Told Decoding e early = absurd (true≢false (sym e))
-follows_decoded Told Sent e early = early
-follows_decoded Told Waiting e early = early
-follows_decoded Told Told e early = early
-follows_decoded Told Ready e early = early
-follows_decoded Told Releasing e early = early
-follows_decoded Told Leaving e early = early
-follows_decoded Told Promised e early = early
-follows_decoded Told Left e early = early
-follows_decoded Ready Ahead e early = absurd (true≢false (sym e))
-follows_decoded Ready Decoding e early = absurd (true≢false (sym e))
-follows_decoded Ready Sent e early = early
-follows_decoded Ready Waiting e early = early
-follows_decoded Ready Told e early = early
-follows_decoded Ready Ready e early = early
-follows_decoded Ready Releasing e early = early
-follows_decoded Ready Leaving e early = early
-follows_decoded Ready Promised e early = early
-follows_decoded Ready Left e early = early
-follows_decoded Releasing Ahead e early = absurd (true≢false (sym e))
-follows_decoded Releasing Decoding e early = absurd (true≢false (sym e))
-follows_decoded Releasing Sent e early = early
-follows_decoded Releasing Waiting e early = early
-follows_decoded Releasing Told e early = early
-follows_decoded Releasing Ready e early = early
-follows_decoded Releasing Releasing e early = early
-follows_decoded Releasing Leaving e early = early
-follows_decoded Releasing Promised e early = early
-follows_decoded Releasing Left e early = early
-follows_decoded Leaving Ahead e early = absurd (true≢false (sym e))
-follows_decoded Leaving Decoding e early = absurd (true≢false (sym e))
-follows_decoded Leaving Sent e early = early
-follows_decoded Leaving Waiting e early = early
-follows_decoded Leaving Told e early = early
-follows_decoded Leaving Ready e early = early
-follows_decoded Leaving Releasing e early = early
-follows_decoded Leaving Leaving e early = early
-follows_decoded Leaving Promised e early = early
-follows_decoded Leaving Left e early = early
-follows_decoded Promised Ahead e early = absurd (true≢false (sym e))
-follows_decoded Promised Decoding e early = absurd (true≢false (sym e))
-follows_decoded Promised Sent e early = early
-follows_decoded Promised Waiting e early = early
-follows_decoded Promised Told e early = early
-follows_decoded Promised Ready e early = early
-follows_decoded Promised Releasing e early = early
-follows_decoded Promised Leaving e early = early
-follows_decoded Promised Promised e early = early
-follows_decoded Promised Left e early = early
-follows_decoded Left Ahead e early = absurd (true≢false (sym e))
-follows_decoded Left Decoding e early = absurd (true≢false (sym e))
-follows_decoded Left Sent e early = early
-follows_decoded Left Waiting e early = early
-follows_decoded Left Told e early = early
-follows_decoded Left Ready e early = early
-follows_decoded Left Releasing e early = early
-follows_decoded Left Leaving e early = early
-follows_decoded Left Promised e early = early
-follows_decoded Left Left e early = early
+follows_decoded p Ahead e early = absurd (true≢false (sym e))
+follows_decoded p Decoding e early = absurd (true≢false (sym e))
+follows_decoded p r e early = early
 
 module _ (m : Machine) (S : State) where
   -- an operand isn't decoded yet
@@ -301,38 +224,10 @@ module _ (m : Machine) (S : State) where
   -- every event but main's
   latest_before : (e : Event) → is_main e ≡ false → LatestFrom (after_event m S e).entries
   latest_before event.Main other = absurd (true≢false other)
-  latest_before event.Take other =
-      latest_left (after_event m S event.Take).entries (λ j. (Leaves-after_event m S event.Take j).entries)
   latest_before (event.Decode o) other = latest_decode o
-  latest_before (event.Ack o) other =
-      latest_left (after_event m S (event.Ack o)).entries (λ j. (Leaves-after_event m S (event.Ack o) j).entries)
-  latest_before (event.Open o) other =
-      latest_left (after_event m S (event.Open o)).entries (λ j. (Leaves-after_event m S (event.Open o) j).entries)
-  latest_before (event.Use o) other =
-      latest_left (after_event m S (event.Use o)).entries (λ j. (Leaves-after_event m S (event.Use o) j).entries)
-  latest_before (event.Ready o) other =
-      latest_left (after_event m S (event.Ready o)).entries (λ j. (Leaves-after_event m S (event.Ready o) j).entries)
-  latest_before (event.Link o) other =
-      latest_left (after_event m S (event.Link o)).entries (λ j. (Leaves-after_event m S (event.Link o) j).entries)
-  latest_before (event.Start w) other =
-      latest_left (after_event m S (event.Start w)).entries (λ j. (Leaves-after_event m S (event.Start w) j).entries)
-  latest_before (event.Exec w) other =
-      latest_left (after_event m S (event.Exec w)).entries (λ j. (Leaves-after_event m S (event.Exec w) j).entries)
-  latest_before (event.Finish w) other =
-      latest_left (after_event m S (event.Finish w)).entries (λ j. (Leaves-after_event m S (event.Finish w) j).entries)
-  latest_before (event.Release o) other =
-      latest_left (after_event m S (event.Release o)).entries
-      (λ j. (Leaves-after_event m S (event.Release o) j).entries)
-  latest_before (event.Bye o) other =
-      latest_left (after_event m S (event.Bye o)).entries (λ j. (Leaves-after_event m S (event.Bye o) j).entries)
   latest_before (event.Idle v) other = latest_idle v
-  latest_before (event.Nack v) other =
-      latest_left (after_event m S (event.Nack v)).entries (λ j. (Leaves-after_event m S (event.Nack v) j).entries)
-  latest_before (event.Retire v) other =
-      latest_left (after_event m S (event.Retire v)).entries (λ j. (Leaves-after_event m S (event.Retire v) j).entries)
-  latest_before (event.Copy b) other =
-      latest_left (after_event m S (event.Copy b)).entries (λ j. (Leaves-after_event m S (event.Copy b) j).entries)
   latest_before (event.Gone v) other = latest_gone v
+  latest_before e other = latest_left (after_event m S e).entries (λ j. (Leaves-after_event m S e j).entries)
 
 -- ---- operands that act on their objects
 

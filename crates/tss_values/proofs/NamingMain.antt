@@ -14,7 +14,7 @@ use Rattle.tss_base.specs.declared.event.Event.TheVariants as event
 use Rattle.tss_base.specs.Image.{ImageState}
 use Rattle.tss_model.specs.Memory.{frozen}
 use Rattle.tss_model.specs.Spawn.{spawn_of}
-use Rattle.tss_model.specs.MainStep.{MainState, Flat, Call, ExitCall, Spawn, Barrier, Print, Await, Unknown, spawn_call}
+use Rattle.tss_model.specs.MainStep.{MainState, Flat, Call, Spawn, Barrier, spawn_call}
 use Rattle.tss_model.specs.MainStep.{spawn_on}
 use Rattle.tss_model.specs.InOrder.{Started, flat_stepped, started_at, started_in, end_of_started}
 use Rattle.tss_protocol.specs.State.{State}
@@ -111,15 +111,11 @@ module _ (m : Machine) (i : ImageState) (S : State) (basis : Basis m S)
       )
 
   round_by_call : (c : Option Call) → IsRoundAfter (spawned_by_main m S all c) (round_after_main m S ts c)
-  round_by_call None = still
-  round_by_call (Some ExitCall) = still
   round_by_call (Some Spawn) =
       round_by_spawn (spawn_of (spawn_call S.main.registers) S.home S.main.epoch m.limits S.main.spawned) refl
   round_by_call (Some Barrier) =
       (λ n t o p at among. absurd (none-some p among), λ o p among. absurd (none-some p among))
-  round_by_call (Some Print) = still
-  round_by_call (Some Await) = still
-  round_by_call (Some (Unknown n)) = still
+  round_by_call other = still
 
   -- ---- where program order is cut off
 
@@ -344,20 +340,4 @@ module _ (m : Machine) (i : ImageState) (S : State) (facts : Facts m S) (code : 
   pub HasNaming-after_event : (e : Event) → IsEnabled m S e
       → HasNaming m i (spawned_after_event m S all e) (round_after_event m S ts e) (after_event m S e)
   HasNaming-after_event event.Main on = HasNaming-main on
-  HasNaming-after_event event.Take on = HasNaming-other event.Take refl on
-  HasNaming-after_event (event.Decode o) on = HasNaming-other (event.Decode o) refl on
-  HasNaming-after_event (event.Ack o) on = HasNaming-other (event.Ack o) refl on
-  HasNaming-after_event (event.Open o) on = HasNaming-other (event.Open o) refl on
-  HasNaming-after_event (event.Use o) on = HasNaming-other (event.Use o) refl on
-  HasNaming-after_event (event.Ready o) on = HasNaming-other (event.Ready o) refl on
-  HasNaming-after_event (event.Link o) on = HasNaming-other (event.Link o) refl on
-  HasNaming-after_event (event.Start w) on = HasNaming-other (event.Start w) refl on
-  HasNaming-after_event (event.Exec w) on = HasNaming-other (event.Exec w) refl on
-  HasNaming-after_event (event.Finish w) on = HasNaming-other (event.Finish w) refl on
-  HasNaming-after_event (event.Release o) on = HasNaming-other (event.Release o) refl on
-  HasNaming-after_event (event.Bye o) on = HasNaming-other (event.Bye o) refl on
-  HasNaming-after_event (event.Idle v) on = HasNaming-other (event.Idle v) refl on
-  HasNaming-after_event (event.Nack v) on = HasNaming-other (event.Nack v) refl on
-  HasNaming-after_event (event.Retire v) on = HasNaming-other (event.Retire v) refl on
-  HasNaming-after_event (event.Copy b) on = HasNaming-other (event.Copy b) refl on
-  HasNaming-after_event (event.Gone v) on = HasNaming-other (event.Gone v) refl on
+  HasNaming-after_event e on = HasNaming-other e refl on

@@ -12,7 +12,7 @@ use Rattle.tss_base.specs.Range.{end_of}
 use Rattle.tss_base.specs.Image.{ImageState}
 use Rattle.tss_model.specs.Memory.{covers}
 use Rattle.tss_model.specs.Spawn.{spawn_of}
-use Rattle.tss_model.specs.MainStep.{MainState, Flat, Call, ExitCall, Spawn, Barrier, Print, Await, Unknown, spawn_call}
+use Rattle.tss_model.specs.MainStep.{MainState, Flat, Call, Spawn, Barrier, spawn_call}
 use Rattle.tss_model.specs.MainStep.{spawn_on}
 use Rattle.tss_model.specs.InOrder.{flat_stepped}
 use Rattle.tss_protocol.specs.State.{State}
@@ -78,15 +78,11 @@ module _ (m : Machine) (ts : List Task) (S : State) where
   }))
 
   goes_on_call : (c : Option Call) → may_call S c ≡ true → RoundGoesOn ts (round_after_main m S ts c) S (main_by m S c)
-  goes_on_call None may = inl (record { list = refl; inbox = refl })
-  goes_on_call (Some ExitCall) may = inl (record { list = refl; inbox = refl })
   goes_on_call (Some Spawn) may =
       goes_on_spawn (spawn_of (spawn_call S.main.registers) S.home S.main.epoch m.limits S.main.spawned) refl
       (no_inbox S.inbox may)
   goes_on_call (Some Barrier) may = inr (inr (record { list = refl; drained = may; inbox = refl }))
-  goes_on_call (Some Print) may = inl (record { list = refl; inbox = refl })
-  goes_on_call (Some Await) may = inl (record { list = refl; inbox = refl })
-  goes_on_call (Some (Unknown n)) may = inl (record { list = refl; inbox = refl })
+  goes_on_call other may = inl (record { list = refl; inbox = refl })
 
   -- after main's event
   pub round_goes_on : IsEnabled m S event.Main

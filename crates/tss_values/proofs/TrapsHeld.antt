@@ -281,51 +281,15 @@ module _ (m : Machine) (i : ImageState) (S : State) (basis : Basis m S) (h : Has
   HasTraps-after_event workers event.Main on = HasTraps-main on
   HasTraps-after_event workers event.Take on = HasTraps-take on
   HasTraps-after_event workers (event.Finish w) on = HasTraps-finish workers w on
-  HasTraps-after_event workers (event.Decode o) on =
-      traps_left (event.Decode o) (λ w e. cc) (λ j. (Leaves-after_event m S (event.Decode o) j).trap)
-      (λ j. (Leaves-after_event m S (event.Decode o) j).main) (λ j. (Leaves-after_event m S (event.Decode o) j).inbox)
-  HasTraps-after_event workers (event.Ack o) on =
-      traps_left (event.Ack o) (λ w e. cc) (λ j. (Leaves-after_event m S (event.Ack o) j).trap)
-      (λ j. (Leaves-after_event m S (event.Ack o) j).main) (λ j. (Leaves-after_event m S (event.Ack o) j).inbox)
-  HasTraps-after_event workers (event.Open o) on =
-      traps_left (event.Open o) (λ w e. cc) (λ j. (Leaves-after_event m S (event.Open o) j).trap)
-      (λ j. (Leaves-after_event m S (event.Open o) j).main) (λ j. (Leaves-after_event m S (event.Open o) j).inbox)
-  HasTraps-after_event workers (event.Use o) on =
-      traps_left (event.Use o) (λ w e. cc) (λ j. (Leaves-after_event m S (event.Use o) j).trap)
-      (λ j. (Leaves-after_event m S (event.Use o) j).main) (λ j. (Leaves-after_event m S (event.Use o) j).inbox)
-  HasTraps-after_event workers (event.Ready o) on =
-      traps_left (event.Ready o) (λ w e. cc) (λ j. (Leaves-after_event m S (event.Ready o) j).trap)
-      (λ j. (Leaves-after_event m S (event.Ready o) j).main) (λ j. (Leaves-after_event m S (event.Ready o) j).inbox)
-  HasTraps-after_event workers (event.Link o) on =
-      traps_left (event.Link o) (λ w e. cc) (λ j. (Leaves-after_event m S (event.Link o) j).trap)
-      (λ j. (Leaves-after_event m S (event.Link o) j).main) (λ j. (Leaves-after_event m S (event.Link o) j).inbox)
   HasTraps-after_event workers (event.Start w) on =
       traps_left (event.Start w) (λ w e. cc) (λ j. (Leaves-after_event m S (event.Start w) j).trap)
       (λ j. (Leaves-after_event m S (event.Start w) j).main) (λ j. (Leaves-after_event m S (event.Start w) j).inbox)
   HasTraps-after_event workers (event.Exec w) on =
       traps_left (event.Exec w) (λ w e. cc) (λ j. (Leaves-after_event m S (event.Exec w) j).trap)
       (λ j. (Leaves-after_event m S (event.Exec w) j).main) (λ j. (Leaves-after_event m S (event.Exec w) j).inbox)
-  HasTraps-after_event workers (event.Release o) on =
-      traps_left (event.Release o) (λ w e. cc) (λ j. (Leaves-after_event m S (event.Release o) j).trap)
-      (λ j. (Leaves-after_event m S (event.Release o) j).main) (λ j. (Leaves-after_event m S (event.Release o) j).inbox)
-  HasTraps-after_event workers (event.Bye o) on =
-      traps_left (event.Bye o) (λ w e. cc) (λ j. (Leaves-after_event m S (event.Bye o) j).trap)
-      (λ j. (Leaves-after_event m S (event.Bye o) j).main) (λ j. (Leaves-after_event m S (event.Bye o) j).inbox)
-  HasTraps-after_event workers (event.Idle v) on =
-      traps_left (event.Idle v) (λ w e. cc) (λ j. (Leaves-after_event m S (event.Idle v) j).trap)
-      (λ j. (Leaves-after_event m S (event.Idle v) j).main) (λ j. (Leaves-after_event m S (event.Idle v) j).inbox)
-  HasTraps-after_event workers (event.Nack v) on =
-      traps_left (event.Nack v) (λ w e. cc) (λ j. (Leaves-after_event m S (event.Nack v) j).trap)
-      (λ j. (Leaves-after_event m S (event.Nack v) j).main) (λ j. (Leaves-after_event m S (event.Nack v) j).inbox)
-  HasTraps-after_event workers (event.Retire v) on =
-      traps_left (event.Retire v) (λ w e. cc) (λ j. (Leaves-after_event m S (event.Retire v) j).trap)
-      (λ j. (Leaves-after_event m S (event.Retire v) j).main) (λ j. (Leaves-after_event m S (event.Retire v) j).inbox)
-  HasTraps-after_event workers (event.Copy b) on =
-      traps_left (event.Copy b) (λ w e. cc) (λ j. (Leaves-after_event m S (event.Copy b) j).trap)
-      (λ j. (Leaves-after_event m S (event.Copy b) j).main) (λ j. (Leaves-after_event m S (event.Copy b) j).inbox)
-  HasTraps-after_event workers (event.Gone v) on =
-      traps_left (event.Gone v) (λ w e. cc) (λ j. (Leaves-after_event m S (event.Gone v) j).trap)
-      (λ j. (Leaves-after_event m S (event.Gone v) j).main) (λ j. (Leaves-after_event m S (event.Gone v) j).inbox)
+  HasTraps-after_event workers other on =
+      traps_left other (λ w e. cc) (λ j. (Leaves-after_event m S other j).trap)
+      (λ j. (Leaves-after_event m S other j).main) (λ j. (Leaves-after_event m S other j).inbox)
 
 -- at first no trap is held
 pub HasTraps-initial_state : (m : Machine) (i : ImageState) → HasTraps m i (initial_state i)

@@ -177,33 +177,10 @@ module _ (m : Machine) (S : State) where
   pub StayUnder-after_event : (e : Event) → ((w : ℕ) → e ≢ event.Finish w)
       → StayUnder S.flight (after_event m S e).flight
   unfolding after_event
-  StayUnder-after_event event.Main other =
-      same_flight (after_event m S event.Main) (λ i. (Leaves-after_event m S event.Main i).flight)
   StayUnder-after_event event.Take other = stay_take S.inbox
-  StayUnder-after_event (event.Decode o) other =
-      same_flight (after_event m S (event.Decode o)) (λ i. (Leaves-after_event m S (event.Decode o) i).flight)
-  StayUnder-after_event (event.Ack o) other =
-      same_flight (after_event m S (event.Ack o)) (λ i. (Leaves-after_event m S (event.Ack o) i).flight)
-  StayUnder-after_event (event.Open o) other =
-      same_flight (after_event m S (event.Open o)) (λ i. (Leaves-after_event m S (event.Open o) i).flight)
-  StayUnder-after_event (event.Use o) other =
-      same_flight (after_event m S (event.Use o)) (λ i. (Leaves-after_event m S (event.Use o) i).flight)
   StayUnder-after_event (event.Ready o) other = stay_ready o (get S.mail.readies o)
   StayUnder-after_event (event.Link o) other = stay_link o (get S.mail.links o)
   StayUnder-after_event (event.Start w) other = stay_start w S.queue
-  StayUnder-after_event (event.Exec w) other =
-      same_flight (after_event m S (event.Exec w)) (λ i. (Leaves-after_event m S (event.Exec w) i).flight)
   StayUnder-after_event (event.Finish w) other = absurd (other w refl)
-  StayUnder-after_event (event.Release o) other =
-      same_flight (after_event m S (event.Release o)) (λ i. (Leaves-after_event m S (event.Release o) i).flight)
   StayUnder-after_event (event.Bye o) other = stay_bye o (get S.mail.byes o)
-  StayUnder-after_event (event.Idle v) other =
-      same_flight (after_event m S (event.Idle v)) (λ i. (Leaves-after_event m S (event.Idle v) i).flight)
-  StayUnder-after_event (event.Nack v) other =
-      same_flight (after_event m S (event.Nack v)) (λ i. (Leaves-after_event m S (event.Nack v) i).flight)
-  StayUnder-after_event (event.Retire v) other =
-      same_flight (after_event m S (event.Retire v)) (λ i. (Leaves-after_event m S (event.Retire v) i).flight)
-  StayUnder-after_event (event.Copy b) other =
-      same_flight (after_event m S (event.Copy b)) (λ i. (Leaves-after_event m S (event.Copy b) i).flight)
-  StayUnder-after_event (event.Gone v) other =
-      same_flight (after_event m S (event.Gone v)) (λ i. (Leaves-after_event m S (event.Gone v) i).flight)
+  StayUnder-after_event e other = same_flight (after_event m S e) (λ i. (Leaves-after_event m S e i).flight)

@@ -99,54 +99,9 @@ keeps_returns (event.Start w) m i S f on =
     HasReturns-start m i S f.work f.values.returns w
 keeps_returns (event.Exec w) m i S f on =
     HasReturns-exec m i S f.work f.values.returns w
-keeps_returns event.Main m i S f on =
+keeps_returns e m i S f on =
     HasReturns-beside m i S f.facts f.fit f.values.stored f.buffers f.values.room f.values.returns
-    event.Main tt on
-keeps_returns event.Take m i S f on =
-    HasReturns-beside m i S f.facts f.fit f.values.stored f.buffers f.values.room f.values.returns
-    event.Take tt on
-keeps_returns (event.Decode o) m i S f on =
-    HasReturns-beside m i S f.facts f.fit f.values.stored f.buffers f.values.room f.values.returns
-    (event.Decode o) tt on
-keeps_returns (event.Ack o) m i S f on =
-    HasReturns-beside m i S f.facts f.fit f.values.stored f.buffers f.values.room f.values.returns
-    (event.Ack o) tt on
-keeps_returns (event.Open o) m i S f on =
-    HasReturns-beside m i S f.facts f.fit f.values.stored f.buffers f.values.room f.values.returns
-    (event.Open o) tt on
-keeps_returns (event.Use o) m i S f on =
-    HasReturns-beside m i S f.facts f.fit f.values.stored f.buffers f.values.room f.values.returns
-    (event.Use o) tt on
-keeps_returns (event.Ready o) m i S f on =
-    HasReturns-beside m i S f.facts f.fit f.values.stored f.buffers f.values.room f.values.returns
-    (event.Ready o) tt on
-keeps_returns (event.Link o) m i S f on =
-    HasReturns-beside m i S f.facts f.fit f.values.stored f.buffers f.values.room f.values.returns
-    (event.Link o) tt on
-keeps_returns (event.Finish w) m i S f on =
-    HasReturns-beside m i S f.facts f.fit f.values.stored f.buffers f.values.room f.values.returns
-    (event.Finish w) tt on
-keeps_returns (event.Release o) m i S f on =
-    HasReturns-beside m i S f.facts f.fit f.values.stored f.buffers f.values.room f.values.returns
-    (event.Release o) tt on
-keeps_returns (event.Bye o) m i S f on =
-    HasReturns-beside m i S f.facts f.fit f.values.stored f.buffers f.values.room f.values.returns
-    (event.Bye o) tt on
-keeps_returns (event.Idle v) m i S f on =
-    HasReturns-beside m i S f.facts f.fit f.values.stored f.buffers f.values.room f.values.returns
-    (event.Idle v) tt on
-keeps_returns (event.Nack v) m i S f on =
-    HasReturns-beside m i S f.facts f.fit f.values.stored f.buffers f.values.room f.values.returns
-    (event.Nack v) tt on
-keeps_returns (event.Retire v) m i S f on =
-    HasReturns-beside m i S f.facts f.fit f.values.stored f.buffers f.values.room f.values.returns
-    (event.Retire v) tt on
-keeps_returns (event.Copy b) m i S f on =
-    HasReturns-beside m i S f.facts f.fit f.values.stored f.buffers f.values.room f.values.returns
-    (event.Copy b) tt on
-keeps_returns (event.Gone v) m i S f on =
-    HasReturns-beside m i S f.facts f.fit f.values.stored f.buffers f.values.room f.values.returns
-    (event.Gone v) tt on
+    e tt on
 
 -- ---- home
 

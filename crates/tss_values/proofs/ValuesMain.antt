@@ -85,23 +85,7 @@ module _ (m : Machine) (i : ImageState) (S : State) (basis : Basis m S) (code : 
   -- every event does
   pub follows-after_event : (e : Event) → IsEnabled m S e → IsInOrder (after_event m S e).main
   follows-after_event event.Main on = follows-main on
-  follows-after_event event.Take on = follows-other event.Take refl
-  follows-after_event (event.Decode o) on = follows-other (event.Decode o) refl
-  follows-after_event (event.Ack o) on = follows-other (event.Ack o) refl
-  follows-after_event (event.Open o) on = follows-other (event.Open o) refl
-  follows-after_event (event.Use o) on = follows-other (event.Use o) refl
-  follows-after_event (event.Ready o) on = follows-other (event.Ready o) refl
-  follows-after_event (event.Link o) on = follows-other (event.Link o) refl
-  follows-after_event (event.Start w) on = follows-other (event.Start w) refl
-  follows-after_event (event.Exec w) on = follows-other (event.Exec w) refl
-  follows-after_event (event.Finish w) on = follows-other (event.Finish w) refl
-  follows-after_event (event.Release o) on = follows-other (event.Release o) refl
-  follows-after_event (event.Bye o) on = follows-other (event.Bye o) refl
-  follows-after_event (event.Idle v) on = follows-other (event.Idle v) refl
-  follows-after_event (event.Nack v) on = follows-other (event.Nack v) refl
-  follows-after_event (event.Retire v) on = follows-other (event.Retire v) refl
-  follows-after_event (event.Copy b) on = follows-other (event.Copy b) refl
-  follows-after_event (event.Gone v) on = follows-other (event.Gone v) refl
+  follows-after_event e on = follows-other e refl
 
   -- ---- the tasks of program order
 
@@ -169,20 +153,4 @@ module _ (m : Machine) (i : ImageState) (S : State) (basis : Basis m S) (code : 
   pub same-after_event : (e : Event) → IsEnabled m S e → AreSame (spawned_after_event m S all e)
   same-after_event event.Main on =
       same-spawned on (spawned_by_main m S all (call_next m S)) (spawns_main m all S on)
-  same-after_event event.Take on = main.same
-  same-after_event (event.Decode o) on = main.same
-  same-after_event (event.Ack o) on = main.same
-  same-after_event (event.Open o) on = main.same
-  same-after_event (event.Use o) on = main.same
-  same-after_event (event.Ready o) on = main.same
-  same-after_event (event.Link o) on = main.same
-  same-after_event (event.Start w) on = main.same
-  same-after_event (event.Exec w) on = main.same
-  same-after_event (event.Finish w) on = main.same
-  same-after_event (event.Release o) on = main.same
-  same-after_event (event.Bye o) on = main.same
-  same-after_event (event.Idle v) on = main.same
-  same-after_event (event.Nack v) on = main.same
-  same-after_event (event.Retire v) on = main.same
-  same-after_event (event.Copy b) on = main.same
-  same-after_event (event.Gone v) on = main.same
+  same-after_event e on = main.same

@@ -7,8 +7,8 @@ use Rattle.tss_base.specs.declared.machine.Machine.{Machine}
 use Rattle.tss_base.specs.declared.event.Event.{Event}
 use Rattle.tss_base.specs.declared.event.Event.TheVariants as event
 use Rattle.tss_model.specs.Access.{operands_of}
-use Rattle.tss_protocol.specs.Mail.{Source, Message, Decode, Ack, Open, Use, Ready, Link, Release, Bye, Idle, Nack}
-use Rattle.tss_protocol.specs.Mail.{Retire, Gone, Mail, posted, posted_all}
+use Rattle.tss_protocol.specs.Mail.{Source, Message, Idle, Nack}
+use Rattle.tss_protocol.specs.Mail.{Retire, Mail, posted, posted_all}
 use Rattle.tss_protocol.specs.State.{State, Flying, Busy}
 use Rattle.tss_protocol.specs.UnitMachine.{IsEnabled, after_event, without, after_take, ready_message_taken}
 use Rattle.tss_protocol.specs.UnitMachine.{link_message_taken, after_start, start_task, after_exec, after_finish}
@@ -42,16 +42,7 @@ module _ (m : Machine) (S : State) (basis : Basis m S) (before : AreOrderly S) w
   quiet_decodes_none (event.Finish w) q on after =
       λ o p at. later_decodes_none m all S before (event.Finish w) refl after o
   quiet_decodes_none (event.Bye a) q on after = λ o p at. later_decodes_none m all S before (event.Bye a) refl after o
-  quiet_decodes_none event.Main q on after = absurd q
-  quiet_decodes_none (event.Decode o) q on after = absurd q
-  quiet_decodes_none (event.Open o) q on after = absurd q
-  quiet_decodes_none (event.Use o) q on after = absurd q
-  quiet_decodes_none (event.Release o) q on after = absurd q
-  quiet_decodes_none (event.Idle v) q on after = absurd q
-  quiet_decodes_none (event.Nack v) q on after = absurd q
-  quiet_decodes_none (event.Retire v) q on after = absurd q
-  quiet_decodes_none (event.Copy b) q on after = absurd q
-  quiet_decodes_none (event.Gone v) q on after = absurd q
+  quiet_decodes_none e q on after = absurd q
 
   -- entries after such an event
   pub HasEntries-quiet : (e : Event) → IsQuietEvent e → IsEnabled m S e → AreOrderly (after_event m S e)
@@ -63,18 +54,10 @@ module _ (m : Machine) (S : State) (basis : Basis m S) (before : AreOrderly S) w
 -- ---- nacks
 
 posted_aside : (m : Mail) (x : Message) → IsAside x → (posted m x).nacks ≡ m.nacks
-posted_aside m (Decode o operand) q = refl
-posted_aside m (Ack o) q = refl
-posted_aside m (Open o c) q = refl
-posted_aside m (Use o v) q = refl
-posted_aside m (Ready o s) q = refl
-posted_aside m (Link o next) q = refl
-posted_aside m (Release o r) q = refl
-posted_aside m (Bye o promised) q = refl
 posted_aside m (Idle v i) q = absurd q
 posted_aside m (Nack v) q = absurd q
 posted_aside m (Retire v) q = absurd q
-posted_aside m (Gone v g) q = refl
+posted_aside m other q = refl
 
 -- messages that aren't of one that asks leave the nacks
 pub nacks_aside : (m : Mail) (xs : List Message) → AllSent IsAside xs → (posted_all m xs).nacks ≡ m.nacks
@@ -121,24 +104,15 @@ module _ (m : Machine) (S : State) where
 
   quiet_nacks : (e : Event) → IsQuietEvent e → (after_event m S e).mail.nacks ≡ S.mail.nacks
   unfolding after_event
-  quiet_nacks event.Main q = absurd q
   quiet_nacks event.Take q = nacks_taken S.inbox
-  quiet_nacks (event.Decode o) q = absurd q
   quiet_nacks (event.Ack o) q = refl
-  quiet_nacks (event.Open o) q = absurd q
-  quiet_nacks (event.Use o) q = absurd q
   quiet_nacks (event.Ready o) q = nacks_ready o (get S.mail.readies o)
   quiet_nacks (event.Link o) q = nacks_link o (get S.mail.links o)
   quiet_nacks (event.Start w) q = nacks_start w S.queue
   quiet_nacks (event.Exec w) q = nacks_exec w (get S.workers w)
   quiet_nacks (event.Finish w) q = nacks_finish w (get S.workers w)
-  quiet_nacks (event.Release o) q = absurd q
   quiet_nacks (event.Bye o) q = nacks_bye o (get S.mail.byes o)
-  quiet_nacks (event.Idle v) q = absurd q
-  quiet_nacks (event.Nack v) q = absurd q
-  quiet_nacks (event.Retire v) q = absurd q
-  quiet_nacks (event.Copy b) q = absurd q
-  quiet_nacks (event.Gone v) q = absurd q
+  quiet_nacks e q = absurd q
 
   -- asking and refusing after such an event
   pub HasRetirement-quiet : (e : Event) → IsQuietEvent e → HasRetirement S → HasRetirement (after_event m S e)

@@ -9,8 +9,8 @@ use Rattle.tss_base.specs.declared.marks.Follow.{Follow}
 use Rattle.tss_base.specs.Names.{Named}
 use Rattle.tss_maps.proofs.Keys.{name_order, decide_key}
 use Rattle.tss_maps.proofs.Changes.{beside_inserted, from_inserted}
-use Rattle.tss_protocol.specs.Mail.{StorageName, Message, Decode, Ack, Open, Use, Ready, Link, Release, Bye, Idle, Nack}
-use Rattle.tss_protocol.specs.Mail.{Retire, Gone, GoneContents, Mail, posted, posted_all}
+use Rattle.tss_protocol.specs.Mail.{StorageName, Message, Ready, Link, Release, Bye, Idle}
+use Rattle.tss_protocol.specs.Mail.{Gone, GoneContents, Mail, posted, posted_all}
 use Rattle.tss_protocol.specs.State.{State, Version}
 use Rattle.tss_protocol.specs.Versions.{Versioned, settle_asking, may_ask, put_version, ready_with, settled, unlinked}
 use Rattle.tss_control.specs.Chains.{HasChains}
@@ -26,18 +26,13 @@ use Rattle.tss_control.proofs.entries.Settling.{asking_parts, asks_to, gave_to, 
 
 -- a message of a settle of v, or of the stations: only of v it says that it has died
 abbrev pub IsOfSettle : OpName → Message → Type 0
-IsOfSettle v (Decode o operand) = ⊥
-IsOfSettle v (Ack o) = ⊥
-IsOfSettle v (Open o c) = ⊥
-IsOfSettle v (Use o w) = ⊥
 IsOfSettle v (Ready o s) = Unit {0}
 IsOfSettle v (Link o next) = Unit {0}
 IsOfSettle v (Release o r) = Unit {0}
 IsOfSettle v (Bye o promised) = Unit {0}
 IsOfSettle v (Idle w i) = Unit {0}
-IsOfSettle v (Nack w) = ⊥
-IsOfSettle v (Retire w) = ⊥
 IsOfSettle v (Gone w g) = (w ≡ v) × (g.retired ≡ false)
+IsOfSettle v other = ⊥
 
 -- what it leaves of the messages of which entries and refusals speak
 pub record KeepsSettled (v : OpName) (m n : Mail) : Type 0 where
@@ -63,17 +58,11 @@ true_false : true ≡ false → ⊥
 true_false e = cc
 
 posted_settled : (v : OpName) (m : Mail) (x : Message) → IsOfSettle v x → KeepsSettled v m (posted m x)
-posted_settled v m (Decode o operand) h = absurd h
-posted_settled v m (Ack o) h = absurd h
-posted_settled v m (Open o c) h = absurd h
-posted_settled v m (Use o w) h = absurd h
 posted_settled v m (Ready o s) h = keeps_itself v m _ refl refl refl refl refl
 posted_settled v m (Link o next) h = keeps_itself v m _ refl refl refl refl refl
 posted_settled v m (Release o r) h = keeps_itself v m _ refl refl refl refl refl
 posted_settled v m (Bye o promised) h = keeps_itself v m _ refl refl refl refl refl
 posted_settled v m (Idle w i) h = keeps_itself v m _ refl refl refl refl refl
-posted_settled v m (Nack w) h = absurd h
-posted_settled v m (Retire w) h = absurd h
 posted_settled v m (Gone q c) h = record {
   opens = refl;
   uses = refl;
@@ -85,6 +74,7 @@ posted_settled v m (Gone q c) h = record {
   ];
   still = λ w g apart at. beside_inserted name_order m.gones q c w (λ same. apart (same ∙ h.0)) ∙ at;
 }
+posted_settled v m other h = absurd h
 
 -- messages of a settle
 pub posted_all_settled : (v : OpName) (m : Mail) (xs : List Message) → AllSent (IsOfSettle v) xs

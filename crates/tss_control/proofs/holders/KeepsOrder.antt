@@ -69,26 +69,16 @@ module _ (m : Machine) (S : State) (facts : Facts m S) where
 
   -- every event
   pub keeps_order : (e : Event) → KeepsOrder S e
-  keeps_order event.Main = tt
   keeps_order event.Take = takes_spawned m all S ground.numbers
-  keeps_order (event.Decode o) = tt
-  keeps_order (event.Ack o) = tt
   keeps_order (event.Open o) = opens_waiting ts S h.chains o
-  keeps_order (event.Use o) = tt
   keeps_order (event.Ready o) = readies_waiting ts g S h.readers o
   keeps_order (event.Link o) = links_waiting ts g S h.readers h.holders o
-  keeps_order (event.Start w) = tt
-  keeps_order (event.Exec w) = tt
   keeps_order (event.Finish w) =
       finishes_ready m all S ground.stages h.orderly h.holders.runners w
   keeps_order (event.Release o) =
       releases_registered m ts g S ground.round h.orderly h.chains h.retirement h.readers h.holders o
-  keeps_order (event.Bye o) = tt
-  keeps_order (event.Idle v) = tt
   keeps_order (event.Nack v) = nacks_waiting ts g S h.chains h.holders h.retirement v
-  keeps_order (event.Retire v) = tt
-  keeps_order (event.Copy b) = tt
-  keeps_order (event.Gone v) = tt
+  keeps_order e = tt
 
 -- so operands stay in order
 pub AreOrderly-controlled : (m : Machine) (S : State) → Facts m S → (e : Event) → IsEnabled m S e

@@ -7,8 +7,8 @@ use Rattle.tss_base.specs.declared.operand.Operand.{Operand}
 use Rattle.tss_base.specs.declared.marks.Stage.TheVariants as stage
 use Rattle.tss_protocol.specs.State.{State, OperandState}
 use Rattle.tss_protocol.specs.Stations.{operand_at}
-use Rattle.tss_phases.specs.Phase.{Phase, Ahead, Decoding, Sent, Waiting, Told, Ready, Releasing, Leaving, Promised}
-use Rattle.tss_phases.specs.Phase.{Left, phase_of}
+use Rattle.tss_phases.specs.Phase.{Phase, Ahead}
+use Rattle.tss_phases.specs.Phase.{phase_of}
 use Rattle.tss_phases.specs.Told.{phase_told}
 use Rattle.tss_phases.specs.Leaving.{phase_linked}
 use Rattle.tss_phases.proofs.Records.{operand_in, task_of_record}
@@ -41,15 +41,7 @@ late_before S T q p late e l = ap is_late e ∙ late
 
 late_linked : (p : Phase) → is_late (phase_linked p) ≡ is_late p
 late_linked Ahead = refl
-late_linked Decoding = refl
-late_linked Sent = refl
-late_linked Waiting = refl
-late_linked Told = refl
-late_linked Ready = refl
-late_linked Releasing = refl
-late_linked Leaving = refl
-late_linked Promised = refl
-late_linked Left = refl
+late_linked other = refl
 
 -- that of an operand that is linked
 pub late_link : (S T : State) (q : OpName) → phase_of T q ≡ phase_linked (phase_of S q) → NoLater S T q

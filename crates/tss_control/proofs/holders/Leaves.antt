@@ -10,7 +10,7 @@ use Rattle.tss_base.specs.declared.marks.LinkState.TheVariants as link
 use Rattle.tss_protocol.specs.Mail.{Source, ReleaseContents}
 use Rattle.tss_protocol.specs.State.{OperandState}
 use Rattle.tss_protocol.specs.Stations.{operand_after_bye, has_passed}
-use Rattle.tss_phases.specs.Phase.{Phase, Ahead, Decoding, Sent, Waiting, Told, Ready, Releasing, Leaving, Promised}
+use Rattle.tss_phases.specs.Phase.{Phase, Decoding, Sent, Waiting, Told, Ready, Releasing, Leaving, Promised}
 use Rattle.tss_phases.specs.Phase.{Left, LookUps, phase_at}
 use Rattle.tss_phases.specs.Alone.{IsSilent, HasRecord}
 use Rattle.tss_phases.specs.Openers.{holds_version}
@@ -291,13 +291,8 @@ module _ (T : Source → Type 0) (O C : Type 0) (w : Bool) (l : LookUps) (k : Op
 
       true_of : (p : Phase) → phase_at l ≡ p → FitsPhase p l → (q : OperandState) (s : Source) → l.station ≡ Some q
           → q.source ≡ Some s → T s
-      true_of Ahead e a q s f g = absurd (other Ahead refl e)
-      true_of Decoding e a q s f g = absurd (other Decoding refl e)
-      true_of Sent e a q s f g = absurd (other Sent refl e)
       true_of Waiting e a q s f g = absurd (no_source q s a.0 f g)
       true_of Told e a q s f g = absurd (no_source q s a.0 f g)
       true_of Ready e a q s f g = h.ready q s f g (inl e)
       true_of Releasing e a q s f g = h.ready q s f g (inr e)
-      true_of Leaving e a q s f g = absurd (other Leaving refl e)
-      true_of Promised e a q s f g = absurd (other Promised refl e)
-      true_of Left e a q s f g = absurd (other Left refl e)
+      true_of x e a q s f g = absurd (other x refl e)

@@ -18,7 +18,7 @@ use Rattle.tss_protocol.specs.Mail.{Source, StorageName, Message}
 use Rattle.tss_protocol.specs.State.{State, OperandState, Flying, Version, Outcome}
 use Rattle.tss_protocol.specs.Stations.{operand_at, sent_by_link, is_gone, remaining_tasks}
 use Rattle.tss_protocol.specs.UnitMachine.{is_enabled, IsEnabled, after_event, with_flight, without, link_message_taken}
-use Rattle.tss_phases.specs.Phase.{Phase, Ahead, Decoding, Sent, Waiting, Told, Ready, Releasing, Leaving, Promised}
+use Rattle.tss_phases.specs.Phase.{Phase, Told, Promised}
 use Rattle.tss_phases.specs.Phase.{Left, LookUps, look_ups, phase_at, phase_of, is_ahead}
 use Rattle.tss_phases.specs.Leaving.{phase_linked}
 use Rattle.tss_phases.specs.Told.{tells, phase_told}
@@ -86,15 +86,7 @@ linked_opener y mode Promised false e = promised_open y.storage e
     promised_open : (s : Option StorageName) → open_opener s Promised ≡ true → open_opener s Left ≡ true
     promised_open None e = absurd (true≢false (sym e))
     promised_open (Some s) e = absurd (true≢false (sym e))
-linked_opener y mode Ahead b e = e
-linked_opener y mode Decoding b e = e
-linked_opener y mode Sent b e = e
-linked_opener y mode Waiting b e = e
-linked_opener y mode Told b e = e
-linked_opener y mode Ready b e = e
-linked_opener y mode Releasing b e = e
-linked_opener y mode Leaving b e = e
-linked_opener y mode Left b e = e
+linked_opener y mode other b e = e
 
 module _ (m : Machine) (S : State) (facts : Facts m S) where
   open facts use {all, ts, g, ground, control as h}

@@ -5,8 +5,7 @@ use Rattle.std.proofs.lemmas.Option.{none-some, same_Some}
 use Rattle.tss_base.specs.declared.operand.OpName.{OpName}
 use Rattle.tss_base.specs.declared.marks.LinkState.{LinkState}
 use Rattle.tss_base.specs.declared.marks.LinkState.TheVariants as link
-use Rattle.tss_protocol.specs.Mail.{Source, Message, Decode, Ack, Open, Use, Ready, Link, Release, Bye, Idle, Nack}
-use Rattle.tss_protocol.specs.Mail.{Retire, Gone}
+use Rattle.tss_protocol.specs.Mail.{Source, Message, Ready}
 use Rattle.tss_protocol.specs.State.{OperandState}
 use Rattle.tss_phases.specs.Phase.{Decoding, Sent, Waiting, Told, Promised, LookUps, phase_at}
 use Rattle.tss_phases.specs.Told.{tells}
@@ -78,37 +77,17 @@ module _ (T : Source → Type 0) (O C : Type 0) (w : Bool) (l : LookUps) (k : Op
 
 -- what a message tells an operand is true
 abbrev pub TellsTrue : OpName → (Source → Type 0) → Message → Type 0
-TellsTrue q T (Decode o operand) = Unit {0}
-TellsTrue q T (Ack o) = Unit {0}
-TellsTrue q T (Open o opening) = Unit {0}
-TellsTrue q T (Use o v) = Unit {0}
 TellsTrue q T (Ready o s) = q ≡ o → T s
-TellsTrue q T (Link o next) = Unit {0}
-TellsTrue q T (Release o r) = Unit {0}
-TellsTrue q T (Bye o b) = Unit {0}
-TellsTrue q T (Idle v i) = Unit {0}
-TellsTrue q T (Nack v) = Unit {0}
-TellsTrue q T (Retire v) = Unit {0}
-TellsTrue q T (Gone v g) = Unit {0}
+TellsTrue q T other = Unit {0}
 
 told_one : (T : Source → Type 0) (q : OpName) (m : Message) (l : LookUps) (s : Source) → TellsTrue q T m
     → (received m q l).telling ≡ Some s → (l.telling ≡ Some s → T s) → T s
-told_one T q (Decode o operand) l s t e f = f e
-told_one T q (Ack o) l s t e f = f e
-told_one T q (Open o opening) l s t e f = f e
-told_one T q (Use o v) l s t e f = f e
 told_one T q (Ready o u) l s t e f = by (same_name q o) refl e
   where
     by : (b : Bool) → same_name q o ≡ b → cond b (Some u) l.telling ≡ Some s → T s
     by true n e = subst T (same_Some u s e) (t (name_from_test q o n))
     by false n e = f e
-told_one T q (Link o next) l s t e f = f e
-told_one T q (Release o r) l s t e f = f e
-told_one T q (Bye o b) l s t e f = f e
-told_one T q (Idle v i) l s t e f = f e
-told_one T q (Nack v) l s t e f = f e
-told_one T q (Retire v) l s t e f = f e
-told_one T q (Gone v g) l s t e f = f e
+told_one T q other l s t e f = f e
 
 -- what an operand is told last is true
 pub told_true : (T : Source → Type 0) (q : OpName) (ms : List Message) (l : LookUps) (s : Source)

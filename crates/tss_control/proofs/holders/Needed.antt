@@ -11,7 +11,7 @@ use Rattle.tss_base.specs.declared.operand.Task.{Task}
 use Rattle.tss_model.specs.Access.{writes}
 use Rattle.tss_protocol.specs.Mail.{Source}
 use Rattle.tss_protocol.specs.State.{State, Version}
-use Rattle.tss_phases.specs.Phase.{Phase, Ahead, Decoding, Sent, Waiting, Told, Ready, Releasing, Leaving, Promised}
+use Rattle.tss_phases.specs.Phase.{Phase, Waiting, Leaving, Promised}
 use Rattle.tss_phases.specs.Phase.{Left, phase_of, has_released}
 use Rattle.tss_phases.specs.Openers.{holds_version, has_parted, produced_opener, version_opener, opener_by}
 use Rattle.tss_control.specs.Members.{operand_among}
@@ -24,28 +24,15 @@ use Rattle.tss_control.proofs.holders.Fits.{Needs}
 -- ---- phases
 
 released_holds : (p : Phase) → has_released p ≡ true → holds_version p ≡ true → ⊥
-released_holds Ahead r e = true≢false (sym r)
-released_holds Decoding r e = true≢false (sym r)
-released_holds Sent r e = true≢false (sym r)
-released_holds Waiting r e = true≢false (sym r)
-released_holds Told r e = true≢false (sym r)
-released_holds Ready r e = true≢false (sym r)
-released_holds Releasing r e = true≢false (sym r)
 released_holds Leaving r e = true≢false (sym e)
 released_holds Promised r e = true≢false (sym e)
 released_holds Left r e = true≢false (sym e)
+released_holds other r e = true≢false (sym r)
 
 parted_holds : (p : Phase) → has_parted p ≡ true → holds_version p ≡ true → ⊥
-parted_holds Ahead r e = true≢false (sym r)
-parted_holds Decoding r e = true≢false (sym r)
-parted_holds Sent r e = true≢false (sym r)
-parted_holds Waiting r e = true≢false (sym r)
-parted_holds Told r e = true≢false (sym r)
-parted_holds Ready r e = true≢false (sym r)
-parted_holds Releasing r e = true≢false (sym r)
 parted_holds Leaving r e = true≢false (sym e)
-parted_holds Promised r e = true≢false (sym r)
 parted_holds Left r e = true≢false (sym e)
+parted_holds other r e = true≢false (sym r)
 
 -- the writer of a produced version has parted
 pub writer_parted : (y : Version) (mode : Mode) (p : Phase) → y.produced ≡ true → writes mode ≡ true

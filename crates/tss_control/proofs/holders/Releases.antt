@@ -12,7 +12,7 @@ use Rattle.tss_model.specs.Access.{writes}
 use Rattle.tss_protocol.specs.Mail.{Source, Message}
 use Rattle.tss_protocol.specs.State.{State, Version}
 use Rattle.tss_protocol.specs.Versions.{Versioned, settled}
-use Rattle.tss_phases.specs.Phase.{Phase, Ahead, Decoding, Sent, Waiting, Told, Ready, Releasing, Leaving, Promised}
+use Rattle.tss_phases.specs.Phase.{Phase, Waiting, Releasing, Leaving, Promised}
 use Rattle.tss_phases.specs.Phase.{Left, phase_of, has_released}
 use Rattle.tss_phases.specs.Openers.{holds_version, has_parted}
 use Rattle.tss_phases.proofs.ReleaseEvent.{version_released}
@@ -37,28 +37,16 @@ use Rattle.tss_control.proofs.holders.Release.{Release, released}
 -- ---- phases
 
 gone_holds : (p : Phase) → has_released p ≡ true → holds_version p ≡ true → ⊥
-gone_holds Ahead r e = true≢false (sym r)
-gone_holds Decoding r e = true≢false (sym r)
-gone_holds Sent r e = true≢false (sym r)
-gone_holds Waiting r e = true≢false (sym r)
-gone_holds Told r e = true≢false (sym r)
-gone_holds Ready r e = true≢false (sym r)
-gone_holds Releasing r e = true≢false (sym r)
 gone_holds Leaving r e = true≢false (sym e)
 gone_holds Promised r e = true≢false (sym e)
 gone_holds Left r e = true≢false (sym e)
+gone_holds other r e = true≢false (sym r)
 
 parted_released : (p : Phase) → has_parted p ≡ true → has_released p ≡ true
-parted_released Ahead r = absurd (true≢false (sym r))
-parted_released Decoding r = absurd (true≢false (sym r))
-parted_released Sent r = absurd (true≢false (sym r))
-parted_released Waiting r = absurd (true≢false (sym r))
-parted_released Told r = absurd (true≢false (sym r))
-parted_released Ready r = absurd (true≢false (sym r))
-parted_released Releasing r = absurd (true≢false (sym r))
 parted_released Leaving r = refl
 parted_released Promised r = refl
 parted_released Left r = refl
+parted_released other r = absurd (true≢false (sym r))
 
 module _ (m : Machine) (S : State) (release : Release m S) where
   open release use {ts, g, control as h, o, c, k}

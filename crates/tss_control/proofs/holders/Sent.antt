@@ -7,8 +7,7 @@ use Rattle.tss_base.specs.declared.operand.OpName.{OpName}
 use Rattle.tss_base.specs.declared.operand.Mode.{Mode}
 use Rattle.tss_base.specs.declared.operand.Mode.TheVariants.{Input, Output, Inout}
 use Rattle.tss_base.specs.Names.{Named}
-use Rattle.tss_protocol.specs.Mail.{StorageName, Source, Message, Decode, Ack, Open, Use, Ready, Link, Release, Bye}
-use Rattle.tss_protocol.specs.Mail.{Idle, Nack, Retire, Gone}
+use Rattle.tss_protocol.specs.Mail.{StorageName, Source, Message, Ready}
 use Rattle.tss_protocol.specs.State.{Version}
 use Rattle.tss_phases.specs.Phase.{Phase, Waiting}
 use Rattle.tss_phases.specs.Told.{is_ready_for, tells}
@@ -31,18 +30,8 @@ told_own us q (m ∷ ms) all e = elim (or_cases (is_ready_for m q) (tells ms q) 
   where
     one : (m : Message) → is_ready_for m q ≡ true → TellsOwn us m
         → (s : Source) × (z : Version) × (get us q ≡ Some z) × (z.storage ≡ Some s.storage)
-    one (Decode o operand) e h = absurd (true≢false (sym e))
-    one (Ack o) e h = absurd (true≢false (sym e))
-    one (Open o c) e h = absurd (true≢false (sym e))
-    one (Use o v) e h = absurd (true≢false (sym e))
     one (Ready o s) e h = (s, h.1.0, ap (get us) (name_from_test q o e) ∙ h.1.1, h.1.2)
-    one (Link o next) e h = absurd (true≢false (sym e))
-    one (Release o r) e h = absurd (true≢false (sym e))
-    one (Bye o b) e h = absurd (true≢false (sym e))
-    one (Idle v i) e h = absurd (true≢false (sym e))
-    one (Nack v) e h = absurd (true≢false (sym e))
-    one (Retire v) e h = absurd (true≢false (sym e))
-    one (Gone v g) e h = absurd (true≢false (sym e))
+    one other e h = absurd (true≢false (sym e))
 
 -- what is told is true of who is told, where that is so of its own version
 pub tells_true : (us : Named Version) (q : OpName) (T : Source → Type 0) (ms : List Message) → AllSent (TellsOwn us) ms
@@ -52,18 +41,8 @@ tells_true us q T [] all own = tt
 tells_true us q T (m ∷ ms) all own = (one m all.0, tells_true us q T ms all.1 own)
   where
     one : (m : Message) → TellsOwn us m → TellsTrue q T m
-    one (Decode o operand) h = tt
-    one (Ack o) h = tt
-    one (Open o c) h = tt
-    one (Use o v) h = tt
     one (Ready o s) h = λ same. own s h.1.0 (h.0 ∙ sym same) (ap (get us) same ∙ h.1.1) h.1.2
-    one (Link o next) h = tt
-    one (Release o r) h = tt
-    one (Bye o b) h = tt
-    one (Idle v i) h = tt
-    one (Nack v) h = tt
-    one (Retire v) h = tt
-    one (Gone v g) h = tt
+    one other h = tt
 
 -- ---- an opener that waits
 

@@ -11,8 +11,7 @@ use Rattle.tss_base.specs.declared.marks.Follow.{Follow}
 use Rattle.tss_base.specs.Names.{Named}
 use Rattle.tss_maps.proofs.Keys.{name_order, decide_key}
 use Rattle.tss_maps.proofs.Changes.{at_inserted, beside_inserted, at_removed, beside_removed}
-use Rattle.tss_protocol.specs.Mail.{StorageName, Message, Decode, Ack, Open, Use, Ready, Link, Release, Bye, Idle, Nack}
-use Rattle.tss_protocol.specs.Mail.{Retire, Gone}
+use Rattle.tss_protocol.specs.Mail.{StorageName, Message, Ready}
 use Rattle.tss_protocol.specs.State.{Version}
 use Rattle.tss_protocol.specs.Versions.{Versioned, sending, died, buffer_of, ready_with, drop_version, change_version}
 use Rattle.tss_protocol.specs.Versions.{version_changed, change_named, followed_by, unlinked, may_die, settle_over}
@@ -167,18 +166,8 @@ pub record HasTaken (vs us : Named Version) (v w : OpName) (ms : List Message) :
 
 -- what is told is what one has now
 abbrev pub TellsOwn : Named Version → Message → Type 0
-TellsOwn us (Decode o operand) = Unit {0}
-TellsOwn us (Ack o) = Unit {0}
-TellsOwn us (Open o c) = Unit {0}
-TellsOwn us (Use o v) = Unit {0}
 TellsOwn us (Ready o s) = (s.version ≡ o) × ((z : Version) × (get us o ≡ Some z) × (z.storage ≡ Some s.storage))
-TellsOwn us (Link o next) = Unit {0}
-TellsOwn us (Release o r) = Unit {0}
-TellsOwn us (Bye o b) = Unit {0}
-TellsOwn us (Idle v i) = Unit {0}
-TellsOwn us (Nack v) = Unit {0}
-TellsOwn us (Retire v) = Unit {0}
-TellsOwn us (Gone v g) = Unit {0}
+TellsOwn us other = Unit {0}
 
 -- what a settle of v does
 pub record SettlesHeld (vs : Named Version) (v : OpName) (d : Versioned) : Type 0 where

@@ -19,7 +19,7 @@ use Rattle.tss_protocol.specs.Mail.{StorageName, Source, ReleaseContents}
 use Rattle.tss_protocol.specs.State.{State, OperandState, Version}
 use Rattle.tss_protocol.specs.Stations.{operand_at, new_operand, flight_after_take}
 use Rattle.tss_protocol.specs.UnitMachine.{is_enabled, IsEnabled, after_event, after_take, can_decode_message}
-use Rattle.tss_phases.specs.Phase.{Phase, Ahead, Decoding, Sent, Waiting, Told, Ready, Releasing, Leaving, Promised}
+use Rattle.tss_phases.specs.Phase.{Phase, Ahead, Decoding, Sent, Waiting, Promised}
 use Rattle.tss_phases.specs.Phase.{Left, LookUps, look_ups, phase_at, phase_of}
 use Rattle.tss_phases.specs.Openers.{version_opener, opener_by, produced_opener, open_opener}
 use Rattle.tss_phases.specs.Orderly.{IsOrderly}
@@ -59,15 +59,7 @@ early_promised p e same = true≢false (sym e ∙ ap is_early same)
 
 early_fits : (p : Phase) → is_early p ≡ true → link_fits p link.Nothing ≡ true
 early_fits Ahead e = refl
-early_fits Decoding e = refl
-early_fits Sent e = refl
-early_fits Waiting e = refl
-early_fits Told e = refl
-early_fits Ready e = refl
-early_fits Releasing e = refl
-early_fits Leaving e = refl
-early_fits Promised e = refl
-early_fits Left e = refl
+early_fits other e = refl
 
 -- it has no link while it decodes
 nothing_fits : (x : LinkState) → link_fits Decoding x ≡ true → x ≡ link.Nothing

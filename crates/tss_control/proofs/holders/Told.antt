@@ -15,8 +15,8 @@ use Rattle.tss_protocol.specs.Mail.{OpenContents}
 use Rattle.tss_protocol.specs.State.{State, Version}
 use Rattle.tss_protocol.specs.Versions.{put_version, may_die, version_changed, new_version, followed, after_nack}
 use Rattle.tss_protocol.specs.Versions.{refused_once, unlinked}
-use Rattle.tss_phases.specs.Phase.{Phase, Ahead, Decoding, Sent, Waiting, Told, Ready, Releasing, Leaving, Promised}
-use Rattle.tss_phases.specs.Phase.{Left, phase_of}
+use Rattle.tss_phases.specs.Phase.{Phase, Waiting}
+use Rattle.tss_phases.specs.Phase.{phase_of}
 use Rattle.tss_phases.specs.Openers.{is_waiting, opener_by}
 use Rattle.tss_phases.specs.Orderly.{TellWaiting, OpensForWaiting}
 use Rattle.tss_phases.specs.Settling.{GoesOn, SettleTells}
@@ -31,16 +31,8 @@ use Rattle.tss_protocol.proofs.SettleCases.{moved_up, at_changed, beside_changed
 
 -- a phase that waits by the test
 pub waiting_from_test : (p : Phase) → is_waiting p ≡ true → p ≡ Waiting
-waiting_from_test Ahead e = absurd (true≢false (sym e))
-waiting_from_test Decoding e = absurd (true≢false (sym e))
-waiting_from_test Sent e = absurd (true≢false (sym e))
 waiting_from_test Waiting e = refl
-waiting_from_test Told e = absurd (true≢false (sym e))
-waiting_from_test Ready e = absurd (true≢false (sym e))
-waiting_from_test Releasing e = absurd (true≢false (sym e))
-waiting_from_test Leaving e = absurd (true≢false (sym e))
-waiting_from_test Promised e = absurd (true≢false (sym e))
-waiting_from_test Left e = absurd (true≢false (sym e))
+waiting_from_test other e = absurd (true≢false (sym e))
 
 module _ (ts : List Task) (g : Arrivals) (S : State) (chains : HasChains ts S) (holders : HasHolders ts g S) where
   -- the opener of a version without a storage waits

@@ -215,24 +215,8 @@ module _ (T : Source → Type 0) (O C : Type 0) (w : Bool) (l : LookUps) (k : Op
 
       was_waiting : (p : Phase) → phase_linked p ≡ Waiting → p ≡ Waiting
       was_waiting Promised e = absurd (cc)
-      was_waiting Ahead e = e
-      was_waiting Decoding e = e
-      was_waiting Sent e = e
-      was_waiting Waiting e = e
-      was_waiting Told e = e
-      was_waiting Ready e = e
-      was_waiting Releasing e = e
-      was_waiting Leaving e = e
-      was_waiting Left e = e
+      was_waiting other e = e
 
       never_promised : (p : Phase) → phase_linked p ≡ Promised → ⊥
       never_promised Promised e = cc
-      never_promised Ahead e = cc
-      never_promised Decoding e = cc
-      never_promised Sent e = cc
-      never_promised Waiting e = cc
-      never_promised Told e = cc
-      never_promised Ready e = cc
-      never_promised Releasing e = cc
-      never_promised Leaving e = cc
-      never_promised Left e = cc
+      never_promised other e = cc

@@ -76,16 +76,11 @@ come_linked Left a b = absurd (true≢false b)
 -- and has a record
 linked_has_record : (l : LookUps) (p : Phase) → FitsPhase p l → may_be_linked p ≡ true
     → (r : OperandState) × (l.station ≡ Some r)
-linked_has_record l Ahead f a = absurd (true≢false (sym a))
-linked_has_record l Decoding f a = absurd (true≢false (sym a))
-linked_has_record l Sent f a = absurd (true≢false (sym a))
 linked_has_record l Waiting f a = (f.0.kept, f.0.there)
 linked_has_record l Told f a = (f.0.kept, f.0.there)
 linked_has_record l Ready f a = (f.0.1.kept, f.0.1.there)
 linked_has_record l Releasing f a = (f.0.1.kept, f.0.1.there)
-linked_has_record l Leaving f a = absurd (true≢false (sym a))
-linked_has_record l Promised f a = absurd (true≢false (sym a))
-linked_has_record l Left f a = absurd (true≢false (sym a))
+linked_has_record l other f a = absurd (true≢false (sym a))
 
 module _ (m : Machine) (S : State) (facts : Facts m S) (o : OpName) (on : IsEnabled m S (event.Use o))
     (v : OpName) (x : Version) (there : get S.mail.uses o ≡ Some v) (at : get S.versions v ≡ Some x) where

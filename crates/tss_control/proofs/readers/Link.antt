@@ -47,15 +47,7 @@ use Rattle.tss_control.proofs.readers.Wakes.{IsWoken, Wakes, readers_after_wake}
 -- what readers see of a phase is the same after a link
 linked_alike : (p : Phase) → LooksAlike p (phase_linked p)
 linked_alike Ahead = record { waiting = refl; told = refl; released = refl; arrived = refl }
-linked_alike Decoding = record { waiting = refl; told = refl; released = refl; arrived = refl }
-linked_alike Sent = record { waiting = refl; told = refl; released = refl; arrived = refl }
-linked_alike Waiting = record { waiting = refl; told = refl; released = refl; arrived = refl }
-linked_alike Told = record { waiting = refl; told = refl; released = refl; arrived = refl }
-linked_alike Ready = record { waiting = refl; told = refl; released = refl; arrived = refl }
-linked_alike Releasing = record { waiting = refl; told = refl; released = refl; arrived = refl }
-linked_alike Leaving = record { waiting = refl; told = refl; released = refl; arrived = refl }
-linked_alike Promised = record { waiting = refl; told = refl; released = refl; arrived = refl }
-linked_alike Left = record { waiting = refl; told = refl; released = refl; arrived = refl }
+linked_alike other = record { waiting = refl; told = refl; released = refl; arrived = refl }
 
 module _ (l : LookUps) (r : OperandState) (at : l.station ≡ Some r) (none : r.source ≡ None) where
   no_record : (s : Source) → HasRecord l (Some s) → ⊥

@@ -16,8 +16,8 @@ use Rattle.tss_base.specs.declared.marks.Follow.{Follow}
 use Rattle.tss_base.specs.Names.{Named}
 use Rattle.tss_model.specs.Access.{operands_of}
 use Rattle.tss_protocol.specs.Mail.{StorageName, Home, Buffer, Source, OpenContents, ReleaseContents, IdleContents}
-use Rattle.tss_protocol.specs.Mail.{GoneContents, Message, Decode, Ack, Open, Use, Ready, Link, Release, Bye, Idle}
-use Rattle.tss_protocol.specs.Mail.{Nack, Retire, Gone, Mail, posted, posted_all}
+use Rattle.tss_protocol.specs.Mail.{GoneContents, Message, Link, Bye}
+use Rattle.tss_protocol.specs.Mail.{Mail, posted, posted_all}
 use Rattle.tss_protocol.specs.State.{State, Busy, Flying, Entry, Version, CopyState}
 use Rattle.tss_protocol.specs.Gateway.{decodes_from}
 use Rattle.tss_protocol.specs.Renaming.{decode_message, live_message, may_retire, idle_by}
@@ -39,18 +39,8 @@ IsNoLink (Link o next) = ⊥
 IsNoLink m = Unit {0}
 
 posted-no_link : (m : Mail) (x : Message) → IsNoLink x → (posted m x).links ≡ m.links
-posted-no_link m (Decode o operand) h = refl
-posted-no_link m (Ack o) h = refl
-posted-no_link m (Open o c) h = refl
-posted-no_link m (Use o v) h = refl
-posted-no_link m (Ready o source) h = refl
 posted-no_link m (Link o next) h = absurd h
-posted-no_link m (Release o r) h = refl
-posted-no_link m (Bye o promised) h = refl
-posted-no_link m (Idle v i) h = refl
-posted-no_link m (Nack v) h = refl
-posted-no_link m (Retire v) h = refl
-posted-no_link m (Gone v g) h = refl
+posted-no_link m other h = refl
 
 -- such messages leave the links as they were
 pub links_kept : (m : Mail) (xs : List Message) → AllSent IsNoLink xs → (posted_all m xs).links ≡ m.links

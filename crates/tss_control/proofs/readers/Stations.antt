@@ -12,8 +12,8 @@ use Rattle.tss_base.specs.declared.marks.LinkState.TheVariants as link
 use Rattle.tss_base.specs.Names.{Numbered}
 use Rattle.tss_protocol.specs.State.{State, OperandState, Flying}
 use Rattle.tss_protocol.specs.Stations.{operand_at, is_gone, remaining_tasks}
-use Rattle.tss_phases.specs.Phase.{Phase, Ahead, Decoding, Sent, Waiting, Told, Ready, Releasing, Leaving, Promised}
-use Rattle.tss_phases.specs.Phase.{Left, LookUps, look_ups, phase_of}
+use Rattle.tss_phases.specs.Phase.{Phase, Waiting, Told}
+use Rattle.tss_phases.specs.Phase.{LookUps, look_ups, phase_of}
 use Rattle.tss_phases.specs.Alone.{HasRecord}
 use Rattle.tss_phases.specs.Orderly.{FitsPhase, AreOrderly}
 use Rattle.tss_phases.proofs.Records.{record_put, record_removed}
@@ -32,14 +32,7 @@ IsEarly p = (p ≡ Waiting) ⊎ (p ≡ Told)
 fits_early : (p : Phase) (next : OpName) → link_fits p (link.Held next) ≡ true → IsEarly p
 fits_early Waiting next e = inl refl
 fits_early Told next e = inr refl
-fits_early Ahead next e = absurd (cc)
-fits_early Decoding next e = absurd (cc)
-fits_early Sent next e = absurd (cc)
-fits_early Ready next e = absurd (cc)
-fits_early Releasing next e = absurd (cc)
-fits_early Leaving next e = absurd (cc)
-fits_early Promised next e = absurd (cc)
-fits_early Left next e = absurd (cc)
+fits_early other next e = absurd (cc)
 
 -- who holds a link waits, or is told
 held_early : (ts : List Task) (g : Arrivals) (S : State) → HasHolders ts g S → (a c : OpName) (p : Operand)

@@ -11,15 +11,15 @@ use Rattle.tss_base.specs.declared.event.Event.TheVariants as event
 use Rattle.tss_base.specs.declared.marks.Farewell.{Farewell}
 use Rattle.tss_base.specs.declared.marks.Farewell.TheVariants as farewell
 use Rattle.tss_model.specs.Access.{operands_of}
-use Rattle.tss_protocol.specs.Mail.{Source, Message, Decode, Ack, Open, Use, Ready, Link, Release, Bye, Idle, Nack}
+use Rattle.tss_protocol.specs.Mail.{Source, Message, Open, Use}
 use Rattle.tss_protocol.specs.Mail.{Retire, Gone, Mail, posted, posted_all}
 use Rattle.tss_protocol.specs.State.{State, OperandState, Flying, Busy}
 use Rattle.tss_protocol.specs.Gateway.{decodes_from}
 use Rattle.tss_protocol.specs.UnitMachine.{after_event, with_sent, without, after_take, ready_message_taken}
 use Rattle.tss_protocol.specs.UnitMachine.{link_message_taken, after_start, start_task, after_exec, after_finish}
 use Rattle.tss_protocol.specs.UnitMachine.{bye_message_taken}
-use Rattle.tss_phases.specs.Phase.{Phase, Ahead, Decoding, Sent, Waiting, Told, Ready, Releasing, Leaving, Promised}
-use Rattle.tss_phases.specs.Phase.{Left, LookUps, look_ups, where_there, absent_phase, record_phase, station_phase}
+use Rattle.tss_phases.specs.Phase.{Phase, Ahead, Decoding, Sent, Told, Releasing, Leaving}
+use Rattle.tss_phases.specs.Phase.{LookUps, look_ups, where_there, absent_phase, record_phase, station_phase}
 use Rattle.tss_phases.specs.Phase.{phase_at, phase_of, is_ahead, is_decoded}
 use Rattle.tss_phases.specs.Orderly.{FitsPhase, IsOrderly, AreOrderly}
 use Rattle.tss_phases.proofs.PhaseLemmas.{phase_decoding}
@@ -34,14 +34,7 @@ module _ (l : LookUps) (o : IsOrderly l) where
   ahead_by : (p : Phase) → FitsPhase p l → is_decoded p ≡ true → l.ahead ≡ false
   ahead_by Ahead f d = absurd (true≢false (sym d))
   ahead_by Decoding f d = absurd (true≢false (sym d))
-  ahead_by Sent f d = f.1
-  ahead_by Waiting f d = f.1
-  ahead_by Told f d = f.1
-  ahead_by Ready f d = f.1
-  ahead_by Releasing f d = f.1
-  ahead_by Leaving f d = f.1
-  ahead_by Promised f d = f.1
-  ahead_by Left f d = f.1
+  ahead_by other f d = f.1
 
   -- of an operand that has been decoded no decode is under way, and its task was taken
   pub decoded_shows : is_decoded (phase_at l) ≡ true → (l.decoding ≡ None) × (l.ahead ≡ false)
@@ -86,14 +79,7 @@ module _ (l : LookUps) (o : IsOrderly l) (none : l.decoding ≡ None) (taken : l
   decoded_by : (p : Phase) → FitsPhase p l → p ≢ Decoding → is_decoded p ≡ true
   decoded_by Ahead f apart = absurd (not_both l.ahead f.1 taken)
   decoded_by Decoding f apart = absurd (apart refl)
-  decoded_by Sent f apart = refl
-  decoded_by Waiting f apart = refl
-  decoded_by Told f apart = refl
-  decoded_by Ready f apart = refl
-  decoded_by Releasing f apart = refl
-  decoded_by Leaving f apart = refl
-  decoded_by Promised f apart = refl
-  decoded_by Left f apart = refl
+  decoded_by other f apart = refl
 
   -- and the other way round
   pub decoded_from : is_decoded (phase_at l) ≡ true
@@ -118,18 +104,11 @@ decoded_before S T before after o same ahead d =
 
 -- a message of which entries don't speak
 abbrev pub IsQuiet : Message → Type 0
-IsQuiet (Decode o operand) = Unit {0}
-IsQuiet (Ack o) = Unit {0}
 IsQuiet (Open o c) = ⊥
 IsQuiet (Use o v) = ⊥
-IsQuiet (Ready o s) = Unit {0}
-IsQuiet (Link o next) = Unit {0}
-IsQuiet (Release o r) = Unit {0}
-IsQuiet (Bye o promised) = Unit {0}
-IsQuiet (Idle v i) = Unit {0}
-IsQuiet (Nack v) = Unit {0}
 IsQuiet (Retire v) = ⊥
 IsQuiet (Gone v g) = ⊥
+IsQuiet other = Unit {0}
 
 -- the messages of which they do are left
 pub record SameMail (m n : Mail) : Type 0 where
@@ -142,18 +121,11 @@ mail_itself : (m : Mail) → SameMail m m
 mail_itself m = record { opens = refl; uses = refl; retires = refl; gones = refl }
 
 mail_posted : (m : Mail) (x : Message) → IsQuiet x → SameMail m (posted m x)
-mail_posted m (Decode o operand) q = record { opens = refl; uses = refl; retires = refl; gones = refl }
-mail_posted m (Ack o) q = record { opens = refl; uses = refl; retires = refl; gones = refl }
 mail_posted m (Open o c) q = absurd q
 mail_posted m (Use o v) q = absurd q
-mail_posted m (Ready o s) q = record { opens = refl; uses = refl; retires = refl; gones = refl }
-mail_posted m (Link o next) q = record { opens = refl; uses = refl; retires = refl; gones = refl }
-mail_posted m (Release o r) q = record { opens = refl; uses = refl; retires = refl; gones = refl }
-mail_posted m (Bye o promised) q = record { opens = refl; uses = refl; retires = refl; gones = refl }
-mail_posted m (Idle v i) q = record { opens = refl; uses = refl; retires = refl; gones = refl }
-mail_posted m (Nack v) q = record { opens = refl; uses = refl; retires = refl; gones = refl }
 mail_posted m (Retire v) q = absurd q
 mail_posted m (Gone v g) q = absurd q
+mail_posted m other q = record { opens = refl; uses = refl; retires = refl; gones = refl }
 
 -- by quiet messages
 pub mail_posted_all : (m : Mail) (xs : List Message) → AllSent IsQuiet xs → SameMail m (posted_all m xs)
@@ -240,65 +212,38 @@ module _ (m : Machine) (S : State) where
 
 -- the events that change nothing of which entries speak
 abbrev pub IsQuietEvent : Event → Type 0
-IsQuietEvent event.Main = ⊥
 IsQuietEvent event.Take = Unit {0}
-IsQuietEvent (event.Decode o) = ⊥
 IsQuietEvent (event.Ack o) = Unit {0}
-IsQuietEvent (event.Open o) = ⊥
-IsQuietEvent (event.Use o) = ⊥
 IsQuietEvent (event.Ready o) = Unit {0}
 IsQuietEvent (event.Link o) = Unit {0}
 IsQuietEvent (event.Start w) = Unit {0}
 IsQuietEvent (event.Exec w) = Unit {0}
 IsQuietEvent (event.Finish w) = Unit {0}
-IsQuietEvent (event.Release o) = ⊥
 IsQuietEvent (event.Bye o) = Unit {0}
-IsQuietEvent (event.Idle v) = ⊥
-IsQuietEvent (event.Nack v) = ⊥
-IsQuietEvent (event.Retire v) = ⊥
-IsQuietEvent (event.Copy b) = ⊥
-IsQuietEvent (event.Gone v) = ⊥
+IsQuietEvent e = ⊥
 
 -- none of it is changed by one of them
 pub quiet_objects : (m : Machine) (S : State) (e : Event) → IsQuietEvent e → SameObjects S (after_event m S e)
 unfolding after_event
-quiet_objects m S event.Main q = absurd q
 quiet_objects m S event.Take q = quiet_taken m S S.inbox
-quiet_objects m S (event.Decode o) q = absurd q
 quiet_objects m S (event.Ack o) q =
     record { versions = refl; copies = refl; opens = refl; uses = refl; retires = refl; gones = refl }
-quiet_objects m S (event.Open o) q = absurd q
-quiet_objects m S (event.Use o) q = absurd q
 quiet_objects m S (event.Ready o) q = quiet_ready m S o (get S.mail.readies o)
 quiet_objects m S (event.Link o) q = quiet_link m S o (get S.mail.links o)
 quiet_objects m S (event.Start w) q = quiet_start m S w S.queue
 quiet_objects m S (event.Exec w) q = quiet_exec m S w (get S.workers w)
 quiet_objects m S (event.Finish w) q = quiet_finish m S w (get S.workers w)
-quiet_objects m S (event.Release o) q = absurd q
 quiet_objects m S (event.Bye o) q = quiet_bye m S o (get S.mail.byes o)
-quiet_objects m S (event.Idle v) q = absurd q
-quiet_objects m S (event.Nack v) q = absurd q
-quiet_objects m S (event.Retire v) q = absurd q
-quiet_objects m S (event.Copy b) q = absurd q
-quiet_objects m S (event.Gone v) q = absurd q
+quiet_objects m S e q = absurd q
 
 -- nor are the entries
 pub quiet_entries : (m : Machine) (S : State) (e : Event) → IsQuietEvent e → (after_event m S e).entries ≡ S.entries
-quiet_entries m S event.Main q = absurd q
 quiet_entries m S event.Take q = λ i. (Leaves-after_event m S event.Take i).entries
-quiet_entries m S (event.Decode o) q = absurd q
 quiet_entries m S (event.Ack o) q = λ i. (Leaves-after_event m S (event.Ack o) i).entries
-quiet_entries m S (event.Open o) q = absurd q
-quiet_entries m S (event.Use o) q = absurd q
 quiet_entries m S (event.Ready o) q = λ i. (Leaves-after_event m S (event.Ready o) i).entries
 quiet_entries m S (event.Link o) q = λ i. (Leaves-after_event m S (event.Link o) i).entries
 quiet_entries m S (event.Start w) q = λ i. (Leaves-after_event m S (event.Start w) i).entries
 quiet_entries m S (event.Exec w) q = λ i. (Leaves-after_event m S (event.Exec w) i).entries
 quiet_entries m S (event.Finish w) q = λ i. (Leaves-after_event m S (event.Finish w) i).entries
-quiet_entries m S (event.Release o) q = absurd q
 quiet_entries m S (event.Bye o) q = λ i. (Leaves-after_event m S (event.Bye o) i).entries
-quiet_entries m S (event.Idle v) q = absurd q
-quiet_entries m S (event.Nack v) q = absurd q
-quiet_entries m S (event.Retire v) q = absurd q
-quiet_entries m S (event.Copy b) q = absurd q
-quiet_entries m S (event.Gone v) q = absurd q
+quiet_entries m S e q = absurd q

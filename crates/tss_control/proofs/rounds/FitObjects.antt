@@ -1,5 +1,5 @@
 -- The objects of spawned tasks have bytes, and no more than an object may have.
-use Rattle.std.proofs.Common.{◌≡◌, ℕ, suc, ◌<◌, ◌≤◌, Bool, true, false, List, [], ◌∷◌, length, Option, Some, None, refl}
+use Rattle.std.proofs.Common.{◌≡◌, ℕ, suc, ◌<◌, ◌≤◌, Bool, true, false, List, [], ◌∷◌, length, Option, Some, refl}
 use Rattle.std.proofs.Common.{subst}
 use Rattle.std.specs.Prelude.{◌==◌, cond, slice_get, Result, Ok, Err}
 use Rattle.std.proofs.lemmas.Option.{none-some, same_Some}
@@ -11,7 +11,7 @@ use Rattle.tss_base.specs.declared.event.Event.{Event}
 use Rattle.tss_base.specs.declared.event.Event.TheVariants as event
 use Rattle.tss_model.specs.Access.{operands_of}
 use Rattle.tss_model.specs.Spawn.{spawn_of}
-use Rattle.tss_model.specs.MainStep.{Call, ExitCall, Spawn, Barrier, Print, Await, Unknown, spawn_call, spawn_on}
+use Rattle.tss_model.specs.MainStep.{Call, Spawn, spawn_call, spawn_on}
 use Rattle.tss_protocol.specs.State.{State}
 use Rattle.tss_protocol.specs.MainEvent.{call_next}
 use Rattle.tss_names.specs.Tasks.{task_at, with_spawned, spawned_by_main, spawned_after_event}
@@ -53,32 +53,11 @@ module _ (m : Machine) (all : List Task) (S : State) (fit : HaveFitObjects m.lim
       (own.some, own.short))
 
   fit_by_call : (c : Option Call) → HaveFitObjects m.limits (spawned_by_main m S all c)
-  fit_by_call None = fit
-  fit_by_call (Some ExitCall) = fit
   fit_by_call (Some Spawn) =
       fit_by_spawn (spawn_of (spawn_call S.main.registers) S.home S.main.epoch m.limits S.main.spawned) refl
-  fit_by_call (Some Barrier) = fit
-  fit_by_call (Some Print) = fit
-  fit_by_call (Some Await) = fit
-  fit_by_call (Some (Unknown n)) = fit
+  fit_by_call other = fit
 
   -- after every event they are
   pub HaveFitObjects-after_event : (e : Event) → HaveFitObjects m.limits (spawned_after_event m S all e)
   HaveFitObjects-after_event event.Main = fit_by_call (call_next m S)
-  HaveFitObjects-after_event event.Take = fit
-  HaveFitObjects-after_event (event.Decode o) = fit
-  HaveFitObjects-after_event (event.Ack o) = fit
-  HaveFitObjects-after_event (event.Open o) = fit
-  HaveFitObjects-after_event (event.Use o) = fit
-  HaveFitObjects-after_event (event.Ready o) = fit
-  HaveFitObjects-after_event (event.Link o) = fit
-  HaveFitObjects-after_event (event.Start w) = fit
-  HaveFitObjects-after_event (event.Exec w) = fit
-  HaveFitObjects-after_event (event.Finish w) = fit
-  HaveFitObjects-after_event (event.Release o) = fit
-  HaveFitObjects-after_event (event.Bye o) = fit
-  HaveFitObjects-after_event (event.Idle v) = fit
-  HaveFitObjects-after_event (event.Nack v) = fit
-  HaveFitObjects-after_event (event.Retire v) = fit
-  HaveFitObjects-after_event (event.Copy b) = fit
-  HaveFitObjects-after_event (event.Gone v) = fit
+  HaveFitObjects-after_event e = fit

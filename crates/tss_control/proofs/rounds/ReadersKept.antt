@@ -7,8 +7,8 @@ use Rattle.tss_base.specs.declared.operand.Mode.TheVariants.{Input}
 use Rattle.tss_base.specs.declared.operand.Task.{Task}
 use Rattle.tss_protocol.specs.State.{State, OperandState, Version}
 use Rattle.tss_protocol.specs.Stations.{operand_at}
-use Rattle.tss_phases.specs.Phase.{Phase, Ahead, Decoding, Sent, Waiting, Told, Ready, Releasing, Leaving, Promised}
-use Rattle.tss_phases.specs.Phase.{Left, phase_of, has_released}
+use Rattle.tss_phases.specs.Phase.{Phase, Waiting, Told}
+use Rattle.tss_phases.specs.Phase.{phase_of, has_released}
 use Rattle.tss_phases.specs.Openers.{is_waiting}
 use Rattle.tss_control.specs.Members.{IsOn, IsWriterOn}
 use Rattle.tss_control.specs.Readers.{Has, head_of, has_arrived, IsArrival, Holds, AreNeighbours, IsNewest, HasArrivals}
@@ -26,28 +26,12 @@ is_told p = false
 -- a phase that passes the test is waiting
 pub waiting_from_test : (p : Phase) → is_waiting p ≡ true → p ≡ Waiting
 waiting_from_test Waiting e = refl
-waiting_from_test Ahead e = absurd (cc)
-waiting_from_test Decoding e = absurd (cc)
-waiting_from_test Sent e = absurd (cc)
-waiting_from_test Told e = absurd (cc)
-waiting_from_test Ready e = absurd (cc)
-waiting_from_test Releasing e = absurd (cc)
-waiting_from_test Leaving e = absurd (cc)
-waiting_from_test Promised e = absurd (cc)
-waiting_from_test Left e = absurd (cc)
+waiting_from_test other e = absurd (cc)
 
 -- and one that passes the other is told
 pub told_from_test : (p : Phase) → is_told p ≡ true → p ≡ Told
 told_from_test Told e = refl
-told_from_test Waiting e = absurd (cc)
-told_from_test Ahead e = absurd (cc)
-told_from_test Decoding e = absurd (cc)
-told_from_test Sent e = absurd (cc)
-told_from_test Ready e = absurd (cc)
-told_from_test Releasing e = absurd (cc)
-told_from_test Leaving e = absurd (cc)
-told_from_test Promised e = absurd (cc)
-told_from_test Left e = absurd (cc)
+told_from_test other e = absurd (cc)
 
 -- what is seen of a phase is the same of another
 pub record LooksAlike (p q : Phase) : Type 0 where

@@ -11,7 +11,7 @@ use Rattle.tss_base.specs.declared.event.Event.{Event}
 use Rattle.tss_base.specs.declared.event.Event.TheVariants as event
 use Rattle.tss_model.specs.Access.{operands_of}
 use Rattle.tss_model.specs.Spawn.{spawn_of}
-use Rattle.tss_model.specs.MainStep.{Call, ExitCall, Spawn, Barrier, Print, Await, Unknown, spawn_call, spawn_on}
+use Rattle.tss_model.specs.MainStep.{Call, Spawn, Barrier, spawn_call, spawn_on}
 use Rattle.tss_protocol.specs.State.{State}
 use Rattle.tss_protocol.specs.MainEvent.{call_next}
 use Rattle.tss_protocol.specs.Needs.{round_after_main, round_after_event}
@@ -127,33 +127,13 @@ module _ (m : Machine) (all ts : List Task) (S : State) (h : HasTaskNumbers m al
       (spawn_of-spawned call S.home S.main.epoch m.limits S.main.spawned t e))
 
   round_by_call : (c : Option Call) → AreOfSpawned (spawned_by_main m S all c) (round_after_main m S ts c)
-  round_by_call None = r
-  round_by_call (Some ExitCall) = r
   round_by_call (Some Spawn) =
       round_by_spawn (spawn_of (spawn_call S.main.registers) S.home S.main.epoch m.limits S.main.spawned) refl
   round_by_call (Some Barrier) = no_round all
-  round_by_call (Some Print) = r
-  round_by_call (Some Await) = r
-  round_by_call (Some (Unknown n)) = r
+  round_by_call other = r
 
   -- after every event they are
   pub AreOfSpawned-after_event : (e : Event)
       → AreOfSpawned (spawned_after_event m S all e) (round_after_event m S ts e)
   AreOfSpawned-after_event event.Main = round_by_call (call_next m S)
-  AreOfSpawned-after_event event.Take = r
-  AreOfSpawned-after_event (event.Decode o) = r
-  AreOfSpawned-after_event (event.Ack o) = r
-  AreOfSpawned-after_event (event.Open o) = r
-  AreOfSpawned-after_event (event.Use o) = r
-  AreOfSpawned-after_event (event.Ready o) = r
-  AreOfSpawned-after_event (event.Link o) = r
-  AreOfSpawned-after_event (event.Start w) = r
-  AreOfSpawned-after_event (event.Exec w) = r
-  AreOfSpawned-after_event (event.Finish w) = r
-  AreOfSpawned-after_event (event.Release o) = r
-  AreOfSpawned-after_event (event.Bye o) = r
-  AreOfSpawned-after_event (event.Idle v) = r
-  AreOfSpawned-after_event (event.Nack v) = r
-  AreOfSpawned-after_event (event.Retire v) = r
-  AreOfSpawned-after_event (event.Copy b) = r
-  AreOfSpawned-after_event (event.Gone v) = r
+  AreOfSpawned-after_event e = r

@@ -33,17 +33,13 @@ use Rattle.tss_protocol.specs.Counts.{pieces_of_object, task_events}
 -- a message, by its kind
 abbrev pub message_left : ℕ → Message → ℕ
 message_left c (Decode o operand) = 6 + c
-message_left c (Ack o) = 1
 message_left c (Open o opening) = 4 + c
 message_left c (Use o v) = 3
 message_left c (Ready o source) = 0
 message_left c (Link o next) = 0
 message_left c (Release o releasing) = 2
-message_left c (Bye o promised) = 1
 message_left c (Idle v asking) = 2
-message_left c (Nack v) = 1
-message_left c (Retire v) = 1
-message_left c (Gone v going) = 1
+message_left c other = 1
 
 -- the messages of a list
 abbrev pub messages_left : ℕ → List Message → ℕ

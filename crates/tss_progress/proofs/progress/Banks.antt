@@ -17,7 +17,7 @@ use Rattle.tss_protocol.specs.Names.{bank_of}
 use Rattle.tss_protocol.specs.State.{State, OperandState, Flying, Entry, Version}
 use Rattle.tss_protocol.specs.Stations.{is_ready}
 use Rattle.tss_locality.proofs.Flights.{from_mapped}
-use Rattle.tss_phases.specs.Phase.{Phase, Ahead, Decoding, Sent, Waiting, Told, Ready, Releasing, Leaving, Promised}
+use Rattle.tss_phases.specs.Phase.{Phase, Ahead, Decoding}
 use Rattle.tss_phases.specs.Phase.{Left, phase_of, is_decoded}
 use Rattle.tss_names.specs.Tasks.{task_at}
 use Rattle.tss_control.specs.Members.{operand_among}
@@ -57,14 +57,7 @@ passes_or_none {X} t (x ∷ xs) = by (t x) refl (passes_or_none t xs)
 pub arrived_decoded : (p : Phase) → has_arrived p ≡ true → is_decoded p ≡ true
 arrived_decoded Ahead e = e
 arrived_decoded Decoding e = e
-arrived_decoded Sent e = refl
-arrived_decoded Waiting e = refl
-arrived_decoded Told e = refl
-arrived_decoded Ready e = refl
-arrived_decoded Releasing e = refl
-arrived_decoded Leaving e = refl
-arrived_decoded Promised e = refl
-arrived_decoded Left e = refl
+arrived_decoded other e = refl
 
 module _ (m : Machine) (S : State) (facts : Facts m S) (quiet : IsQuiet S) (gone : HasLetGo S) (n : ℕ)
     (x : Flying) (flies : get S.flight n ≡ Some x)

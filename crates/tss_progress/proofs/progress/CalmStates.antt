@@ -19,7 +19,7 @@ use Rattle.tss_protocol.specs.Names.{same_name}
 use Rattle.tss_protocol.specs.Mail.{Source}
 use Rattle.tss_protocol.specs.State.{State, OperandState, Version}
 use Rattle.tss_protocol.specs.Stations.{operand_at}
-use Rattle.tss_phases.specs.Phase.{Phase, Ahead, Decoding, Sent, Waiting, Told, Ready, Releasing, Leaving, Promised}
+use Rattle.tss_phases.specs.Phase.{Phase, Ahead, Decoding, Waiting, Told, Ready, Promised}
 use Rattle.tss_phases.specs.Phase.{Left, is_ahead, record_phase, station_phase, look_ups, phase_of, has_released}
 use Rattle.tss_phases.proofs.PhaseLemmas.{phase_decoding, phase_silent}
 use Rattle.tss_control.specs.Members.{operand_among, registered_of, opening_reader, uses_of, total}
@@ -65,16 +65,9 @@ calm_station (Some r) ahead = calm_record r.farewell r.source
 
 -- those that hold a link
 calm_holder : (p : Phase) (b : OpName) → is_calm p ≡ true → link_fits p (link.Held b) ≡ true → p ≡ Waiting
-calm_holder Ahead b c l = absurd (true≢false (sym l))
-calm_holder Decoding b c l = absurd (true≢false (sym l))
-calm_holder Sent b c l = absurd (true≢false (sym l))
 calm_holder Waiting b c l = refl
 calm_holder Told b c l = absurd (true≢false (sym c))
-calm_holder Ready b c l = absurd (true≢false (sym l))
-calm_holder Releasing b c l = absurd (true≢false (sym l))
-calm_holder Leaving b c l = absurd (true≢false (sym l))
-calm_holder Promised b c l = absurd (true≢false (sym l))
-calm_holder Left b c l = absurd (true≢false (sym l))
+calm_holder other b c l = absurd (true≢false (sym l))
 
 -- ---- numbers
 

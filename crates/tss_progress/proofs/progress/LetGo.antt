@@ -23,7 +23,7 @@ use Rattle.tss_protocol.specs.UnitMachine.{start_task, after_start, after_event}
 use Rattle.tss_protocol.specs.Workers.{can_finish}
 use Rattle.tss_locality.proofs.KeptStages.{ChangesNoStage, StagesKept-after_event}
 use Rattle.tss_locality.proofs.LeftFields.{Leaves-after_event}
-use Rattle.tss_phases.specs.Phase.{Phase, Ahead, Decoding, Sent, Waiting, Told, Ready, Releasing, Leaving, Promised}
+use Rattle.tss_phases.specs.Phase.{Phase, Releasing, Leaving, Promised}
 use Rattle.tss_phases.specs.Phase.{Left, phase_of}
 use Rattle.tss_phases.specs.Forward.{may_follow}
 use Rattle.tss_phases.specs.Orderly.{AreOrderly, KeepsOrder}
@@ -51,52 +51,15 @@ beside_remaining m n y q other =
 
 -- what has let go doesn't come back
 still_late : (p q : Phase) → is_late p ≡ true → may_follow p q ≡ true → is_late q ≡ true
-still_late Ahead q late goes = absurd (true≢false (sym late))
-still_late Decoding q late goes = absurd (true≢false (sym late))
-still_late Sent q late goes = absurd (true≢false (sym late))
-still_late Waiting q late goes = absurd (true≢false (sym late))
-still_late Told q late goes = absurd (true≢false (sym late))
-still_late Ready q late goes = absurd (true≢false (sym late))
-still_late Releasing Ahead late goes = goes
-still_late Releasing Decoding late goes = goes
-still_late Releasing Sent late goes = goes
-still_late Releasing Waiting late goes = goes
-still_late Releasing Told late goes = goes
-still_late Releasing Ready late goes = goes
-still_late Releasing Releasing late goes = refl
-still_late Releasing Leaving late goes = refl
-still_late Releasing Promised late goes = refl
-still_late Releasing Left late goes = refl
-still_late Leaving Ahead late goes = goes
-still_late Leaving Decoding late goes = goes
-still_late Leaving Sent late goes = goes
-still_late Leaving Waiting late goes = goes
-still_late Leaving Told late goes = goes
-still_late Leaving Ready late goes = goes
-still_late Leaving Releasing late goes = refl
-still_late Leaving Leaving late goes = refl
-still_late Leaving Promised late goes = refl
-still_late Leaving Left late goes = refl
-still_late Promised Ahead late goes = goes
-still_late Promised Decoding late goes = goes
-still_late Promised Sent late goes = goes
-still_late Promised Waiting late goes = goes
-still_late Promised Told late goes = goes
-still_late Promised Ready late goes = goes
-still_late Promised Releasing late goes = refl
-still_late Promised Leaving late goes = refl
-still_late Promised Promised late goes = refl
-still_late Promised Left late goes = refl
-still_late Left Ahead late goes = goes
-still_late Left Decoding late goes = goes
-still_late Left Sent late goes = goes
-still_late Left Waiting late goes = goes
-still_late Left Told late goes = goes
-still_late Left Ready late goes = goes
-still_late Left Releasing late goes = refl
-still_late Left Leaving late goes = refl
-still_late Left Promised late goes = refl
-still_late Left Left late goes = refl
+still_late p Releasing late goes = refl
+still_late p Leaving late goes = refl
+still_late p Promised late goes = refl
+still_late p Left late goes = refl
+still_late Releasing q late goes = goes
+still_late Leaving q late goes = goes
+still_late Promised q late goes = goes
+still_late Left q late goes = goes
+still_late p q late goes = absurd (true≢false (sym late))
 
 -- ---- stages
 
@@ -266,35 +229,12 @@ module _ (m : Machine) (S : State) (orderly : AreOrderly S) (gone : HasLetGo S) 
 
   -- every event keeps it
   pub HasLetGo-after_event : (e : Event) → IsEnabled m S e → KeepsOrder S e → HasLetGo (after_event m S e)
-  HasLetGo-after_event event.Main on needs =
-      by_same event.Main on needs tt (λ i. (Leaves-after_event m S event.Main i).flight)
   HasLetGo-after_event event.Take on needs = take_kept on needs
-  HasLetGo-after_event (event.Decode o) on needs =
-      by_same (event.Decode o) on needs tt (λ i. (Leaves-after_event m S (event.Decode o) i).flight)
-  HasLetGo-after_event (event.Ack o) on needs =
-      by_same (event.Ack o) on needs tt (λ i. (Leaves-after_event m S (event.Ack o) i).flight)
-  HasLetGo-after_event (event.Open o) on needs =
-      by_same (event.Open o) on needs tt (λ i. (Leaves-after_event m S (event.Open o) i).flight)
-  HasLetGo-after_event (event.Use o) on needs =
-      by_same (event.Use o) on needs tt (λ i. (Leaves-after_event m S (event.Use o) i).flight)
   HasLetGo-after_event (event.Ready o) on needs = ready_kept o on needs
   HasLetGo-after_event (event.Link o) on needs =
       by_front (event.Link o) on needs tt (KeepsFront-after_event m S (event.Link o) refl)
   HasLetGo-after_event (event.Start w) on needs = start_kept w on needs
-  HasLetGo-after_event (event.Exec w) on needs =
-      by_same (event.Exec w) on needs tt (λ i. (Leaves-after_event m S (event.Exec w) i).flight)
   HasLetGo-after_event (event.Finish w) on needs = finish_kept w on needs
-  HasLetGo-after_event (event.Release o) on needs =
-      by_same (event.Release o) on needs tt (λ i. (Leaves-after_event m S (event.Release o) i).flight)
   HasLetGo-after_event (event.Bye o) on needs =
       by_front (event.Bye o) on needs tt (KeepsFront-after_event m S (event.Bye o) refl)
-  HasLetGo-after_event (event.Idle v) on needs =
-      by_same (event.Idle v) on needs tt (λ i. (Leaves-after_event m S (event.Idle v) i).flight)
-  HasLetGo-after_event (event.Nack v) on needs =
-      by_same (event.Nack v) on needs tt (λ i. (Leaves-after_event m S (event.Nack v) i).flight)
-  HasLetGo-after_event (event.Retire v) on needs =
-      by_same (event.Retire v) on needs tt (λ i. (Leaves-after_event m S (event.Retire v) i).flight)
-  HasLetGo-after_event (event.Copy b) on needs =
-      by_same (event.Copy b) on needs tt (λ i. (Leaves-after_event m S (event.Copy b) i).flight)
-  HasLetGo-after_event (event.Gone v) on needs =
-      by_same (event.Gone v) on needs tt (λ i. (Leaves-after_event m S (event.Gone v) i).flight)
+  HasLetGo-after_event e on needs = by_same e on needs tt (λ i. (Leaves-after_event m S e i).flight)

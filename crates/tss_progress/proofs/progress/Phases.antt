@@ -35,16 +35,11 @@ HasLetGo S =
 -- ---- phases
 
 calm_late : (p : Phase) → is_calm p ≡ true → is_late p ≡ true → (p ≡ Promised) ⊎ (p ≡ Left)
-calm_late Ahead c l = absurd (true≢false (sym l))
-calm_late Decoding c l = absurd (true≢false (sym l))
-calm_late Sent c l = absurd (true≢false (sym l))
-calm_late Waiting c l = absurd (true≢false (sym l))
-calm_late Told c l = absurd (true≢false (sym l))
-calm_late Ready c l = absurd (true≢false (sym l))
 calm_late Releasing c l = absurd (true≢false (sym c))
 calm_late Leaving c l = absurd (true≢false (sym c))
 calm_late Promised c l = inl refl
 calm_late Left c l = inr refl
+calm_late other c l = absurd (true≢false (sym l))
 
 -- an operand in flight whose task waits
 abbrev Stands : Phase → Type 0

@@ -1,5 +1,5 @@
 -- The tasks of a round stand in their order, in every run.
-use Rattle.std.proofs.Common.{◌≡◌, ℕ, suc, ◌<◌, List, [], ◌∷◌, ◌++◌, append-nil, Option, Some, None, refl, sym, subst}
+use Rattle.std.proofs.Common.{◌≡◌, ℕ, suc, ◌<◌, List, [], ◌∷◌, ◌++◌, append-nil, Option, Some, refl, sym, subst}
 use Rattle.std.proofs.Common.{inl, inr, arith}
 use Rattle.std.specs.Prelude.{option_to_list, slice_get, Result, Ok, Err}
 use Rattle.std.proofs.lemmas.Option.{none-some}
@@ -9,7 +9,7 @@ use Rattle.tss_base.specs.declared.event.Event.{Event}
 use Rattle.tss_base.specs.declared.event.Event.TheVariants as event
 use Rattle.tss_base.specs.Image.{ImageState}
 use Rattle.tss_model.specs.Spawn.{spawn_of}
-use Rattle.tss_model.specs.MainStep.{Call, ExitCall, Spawn, Barrier, Print, Await, Unknown, spawn_call, spawn_on}
+use Rattle.tss_model.specs.MainStep.{Call, Spawn, Barrier, spawn_call, spawn_on}
 use Rattle.tss_protocol.specs.State.{State, initial_state}
 use Rattle.tss_protocol.specs.MainEvent.{call_next}
 use Rattle.tss_protocol.specs.Needs.{round_after_main, round_after_event, round_of}
@@ -43,35 +43,15 @@ module _ (m : Machine) (ts : List Task) (S : State) (round : IsRounded S ts) (ri
       rising_more ts t rise (λ k u at. let low = round.numbers k u at in omega (arith, number, low))
 
   rising_by_call : (c : Option Call) → AreRising (round_after_main m S ts c)
-  rising_by_call None = rise
-  rising_by_call (Some ExitCall) = rise
   rising_by_call (Some Spawn) =
       rising_by_spawn (spawn_of (spawn_call S.main.registers) S.home S.main.epoch m.limits S.main.spawned) refl
   rising_by_call (Some Barrier) = tt
-  rising_by_call (Some Print) = rise
-  rising_by_call (Some Await) = rise
-  rising_by_call (Some (Unknown n)) = rise
+  rising_by_call other = rise
 
   -- every event keeps the order
   rising_after_event : (e : Event) → AreRising (round_after_event m S ts e)
   rising_after_event event.Main = rising_by_call (call_next m S)
-  rising_after_event event.Take = rise
-  rising_after_event (event.Decode o) = rise
-  rising_after_event (event.Ack o) = rise
-  rising_after_event (event.Open o) = rise
-  rising_after_event (event.Use o) = rise
-  rising_after_event (event.Ready o) = rise
-  rising_after_event (event.Link o) = rise
-  rising_after_event (event.Start w) = rise
-  rising_after_event (event.Exec w) = rise
-  rising_after_event (event.Finish w) = rise
-  rising_after_event (event.Release o) = rise
-  rising_after_event (event.Bye o) = rise
-  rising_after_event (event.Idle v) = rise
-  rising_after_event (event.Nack v) = rise
-  rising_after_event (event.Retire v) = rise
-  rising_after_event (event.Copy b) = rise
-  rising_after_event (event.Gone v) = rise
+  rising_after_event e = rise
 
 -- in every run they stand in order
 pub rising_of_runs : (m : Machine) (i : ImageState) (es : List Event) (S : State) → IsRun m i es S

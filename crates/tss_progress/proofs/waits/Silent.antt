@@ -77,16 +77,11 @@ still_station (Some r) ahead = still_record r.farewell r.source
 
 -- one whose release was sent has released
 still_late : (p : Phase) → is_still p ≡ true → is_late p ≡ true → has_released p ≡ true
-still_late Ahead s l = absurd (true≢false (sym l))
-still_late Decoding s l = absurd (true≢false (sym l))
-still_late Sent s l = absurd (true≢false (sym l))
-still_late Waiting s l = absurd (true≢false (sym l))
-still_late Told s l = absurd (true≢false (sym l))
-still_late Ready s l = absurd (true≢false (sym l))
 still_late Releasing s l = absurd (true≢false (sym s))
 still_late Leaving s l = refl
 still_late Promised s l = refl
 still_late Left s l = refl
+still_late other s l = absurd (true≢false (sym l))
 
 not_told : (l : LookUps) (r : OperandState) → WasTold l → l.station ≡ Some r → is_ready r ≡ false → ⊥
 not_told l r told there unready =
@@ -97,17 +92,13 @@ not_told l r told there unready =
 unready_waits : (p : Phase) (l : LookUps) (r : OperandState) → is_still p ≡ true → FitsPhase p l → l.station ≡ Some r
     → is_ready r ≡ false → p ≡ Waiting
 unready_waits Ahead l r s h there unready = absurd (none-some r (sym h.0 ∙ there))
-unready_waits Decoding l r s h there unready = absurd (true≢false (sym s))
-unready_waits Sent l r s h there unready = absurd (true≢false (sym s))
 unready_waits Waiting l r s h there unready = refl
-unready_waits Told l r s h there unready = absurd (true≢false (sym s))
 unready_waits Ready l r s h there unready =
     absurd (not_told l r (h.0.1.kept, h.0.1.there, (h.0.0, h.0.1.told)) there unready)
-unready_waits Releasing l r s h there unready = absurd (true≢false (sym s))
-unready_waits Leaving l r s h there unready = absurd (true≢false (sym s))
 unready_waits Promised l r s h there unready = absurd (not_told l r h.0 there unready)
 unready_waits Left l r s (inl absent, taken) there unready = absurd (none-some r (sym absent ∙ there))
 unready_waits Left l r s (inr told, taken) there unready = absurd (not_told l r told there unready)
+unready_waits other l r s h there unready = absurd (true≢false (sym s))
 
 -- who has released a version doesn't hold it, nor waits for it
 pub released_open : (s : Option StorageName) (p : Phase) → has_released p ≡ true → open_opener s p ≡ false

@@ -14,7 +14,7 @@ use Rattle.tss_base.specs.declared.event.Event.TheVariants as event
 use Rattle.tss_base.specs.Names.{name_cmp}
 use Rattle.tss_base.specs.Image.{ImageState}
 use Rattle.tss_maps.proofs.Entries.{absent_empty}
-use Rattle.tss_model.specs.MainStep.{MainState, Call, ExitCall, Spawn, Barrier, Print, Await, Unknown, main_call}
+use Rattle.tss_model.specs.MainStep.{MainState, Call, Spawn, Barrier, main_call}
 use Rattle.tss_model.specs.MainStep.{spawn_call, spawn_on}
 use Rattle.tss_model.specs.Spawn.{spawn_of}
 use Rattle.tss_protocol.specs.State.{State, initial_state}
@@ -90,14 +90,10 @@ module _ (m : Machine) (ts : List Task) (S : State) (round : IsRounded S ts) (h 
       buffers_longer S.main.spawned ts (ts ++ t ∷ []) S (IsLonger-spawn S ts t round next.number) h
 
   by_call : (c : Option Call) → may_call S c ≡ true → HasBuffers (round_after_main m S ts c) S
-  by_call None may = h
-  by_call (Some ExitCall) may = h
   by_call (Some Spawn) may =
       by_spawn (spawn_of (spawn_call S.main.registers) S.home S.main.epoch m.limits S.main.spawned) refl
   by_call (Some Barrier) may = buffers_empty ts [] S (no_buffers S may) h
-  by_call (Some Print) may = h
-  by_call (Some Await) may = h
-  by_call (Some (Unknown n)) may = h
+  by_call other may = h
 
   same_main : (us : List Task) (d : MainState × Option Task) → HasBuffers us S → HasBuffers us (after_call S d)
   same_main us (x, None) k =
@@ -130,23 +126,16 @@ module _ (m : Machine) (S : State) (facts : Facts m S) where
   HasBuffers-after_event : HasBuffers ts S → (e : Event) → IsEnabled m S e
       → HasBuffers (round_after_event m S ts e) (after_event m S e)
   HasBuffers-after_event h event.Main on = HasBuffers-main m ts S ground.round h on
-  HasBuffers-after_event h event.Take on = HasBuffers-quiet m ts S h event.Take tt
   HasBuffers-after_event h (event.Decode o) on = HasBuffers-decode m S facts h o
-  HasBuffers-after_event h (event.Ack o) on = HasBuffers-quiet m ts S h (event.Ack o) tt
   HasBuffers-after_event h (event.Open o) on = HasBuffers-open m S facts h o on
   HasBuffers-after_event h (event.Use o) on = HasBuffers-use m ts S h o
-  HasBuffers-after_event h (event.Ready o) on = HasBuffers-quiet m ts S h (event.Ready o) tt
-  HasBuffers-after_event h (event.Link o) on = HasBuffers-quiet m ts S h (event.Link o) tt
-  HasBuffers-after_event h (event.Start w) on = HasBuffers-quiet m ts S h (event.Start w) tt
-  HasBuffers-after_event h (event.Exec w) on = HasBuffers-quiet m ts S h (event.Exec w) tt
-  HasBuffers-after_event h (event.Finish w) on = HasBuffers-quiet m ts S h (event.Finish w) tt
   HasBuffers-after_event h (event.Release o) on = HasBuffers-release m S facts h o on
-  HasBuffers-after_event h (event.Bye o) on = HasBuffers-quiet m ts S h (event.Bye o) tt
   HasBuffers-after_event h (event.Idle v) on = HasBuffers-idle m ts S h v
   HasBuffers-after_event h (event.Nack v) on = HasBuffers-nack m S facts h v on
   HasBuffers-after_event h (event.Retire v) on = HasBuffers-retire m ts S h v on
   HasBuffers-after_event h (event.Copy b) on = HasBuffers-copy m ts S h b
   HasBuffers-after_event h (event.Gone v) on = HasBuffers-gone m ts S h all ground.places v on
+  HasBuffers-after_event h e on = HasBuffers-quiet m ts S h e tt
 
 -- the first state has no buffer
 HasBuffers-initial_state : (i : ImageState) → HasBuffers [] (initial_state i)

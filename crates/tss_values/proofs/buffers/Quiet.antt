@@ -37,24 +37,15 @@ same_storages : (vs us : Named Version) → us ≡ vs → KeepsStorages vs us
 same_storages vs us e w z at = (z, sym (ap (λ vs. get vs w) e) ∙ at, refl)
 
 quiet_buffers : (m : Machine) (S : State) (e : Event) → IsQuietEvent e → (after_event m S e).buffers ≡ S.buffers
-quiet_buffers m S event.Main q = absurd q
 quiet_buffers m S event.Take q = λ i. (Leaves-after_event m S event.Take i).buffers
-quiet_buffers m S (event.Decode o) q = absurd q
 quiet_buffers m S (event.Ack o) q = λ i. (Leaves-after_event m S (event.Ack o) i).buffers
-quiet_buffers m S (event.Open o) q = absurd q
-quiet_buffers m S (event.Use o) q = absurd q
 quiet_buffers m S (event.Ready o) q = λ i. (Leaves-after_event m S (event.Ready o) i).buffers
 quiet_buffers m S (event.Link o) q = λ i. (Leaves-after_event m S (event.Link o) i).buffers
 quiet_buffers m S (event.Start w) q = λ i. (Leaves-after_event m S (event.Start w) i).buffers
 quiet_buffers m S (event.Exec w) q = λ i. (Leaves-after_event m S (event.Exec w) i).buffers
 quiet_buffers m S (event.Finish w) q = λ i. (Leaves-after_event m S (event.Finish w) i).buffers
-quiet_buffers m S (event.Release o) q = absurd q
 quiet_buffers m S (event.Bye o) q = λ i. (Leaves-after_event m S (event.Bye o) i).buffers
-quiet_buffers m S (event.Idle v) q = absurd q
-quiet_buffers m S (event.Nack v) q = absurd q
-quiet_buffers m S (event.Retire v) q = absurd q
-quiet_buffers m S (event.Copy b) q = absurd q
-quiet_buffers m S (event.Gone v) q = absurd q
+quiet_buffers m S e q = absurd q
 
 -- take, ack, ready, link, start, exec, finish and bye
 pub HasBuffers-quiet : (m : Machine) (ts : List Task) (S : State) → HasBuffers ts S → (e : Event) → IsQuietEvent e

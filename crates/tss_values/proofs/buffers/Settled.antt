@@ -8,8 +8,8 @@ use Rattle.tss_base.specs.declared.marks.Follow.{Follow}
 use Rattle.tss_base.specs.Names.{Named}
 use Rattle.tss_maps.proofs.Keys.{name_order}
 use Rattle.tss_maps.proofs.Changes.{from_inserted, from_removed}
-use Rattle.tss_protocol.specs.Mail.{StorageName, GoneContents, Message, Decode, Ack, Open, Use, Ready, Link, Release}
-use Rattle.tss_protocol.specs.Mail.{Bye, Idle, Nack, Retire, Gone, Mail, posted, posted_all}
+use Rattle.tss_protocol.specs.Mail.{StorageName, GoneContents, Message}
+use Rattle.tss_protocol.specs.Mail.{Gone, Mail, posted, posted_all}
 use Rattle.tss_protocol.specs.State.{Version}
 use Rattle.tss_protocol.specs.Versions.{Versioned, put_version, drop_version, change_named, buffer_of, followed_by}
 use Rattle.tss_protocol.specs.Versions.{unlinked, settle_over, settled, ready_with}
@@ -76,18 +76,8 @@ IsNoGone (Gone v g) = ⊥
 IsNoGone m = Unit {0}
 
 posted-no_gone : (m : Mail) (x : Message) → IsNoGone x → (posted m x).gones ≡ m.gones
-posted-no_gone m (Decode o operand) h = refl
-posted-no_gone m (Ack o) h = refl
-posted-no_gone m (Open o c) h = refl
-posted-no_gone m (Use o v) h = refl
-posted-no_gone m (Ready o source) h = refl
-posted-no_gone m (Link o next) h = refl
-posted-no_gone m (Release o r) h = refl
-posted-no_gone m (Bye o promised) h = refl
-posted-no_gone m (Idle v i) h = refl
-posted-no_gone m (Nack v) h = refl
-posted-no_gone m (Retire v) h = refl
 posted-no_gone m (Gone v g) h = absurd h
+posted-no_gone m other h = refl
 
 -- such messages leave those
 pub gones_kept : (m : Mail) (xs : List Message) → AllSent IsNoGone xs → (posted_all m xs).gones ≡ m.gones

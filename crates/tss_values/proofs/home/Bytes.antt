@@ -1,6 +1,6 @@
 -- Home and the memory of program order have a byte at each address of an object of the round: it lies in a range of
 -- memory, and what was loaded stays.
-use Rattle.std.proofs.Common.{◌≡◌, ℕ, suc, Bool, true, false, List, [], ◌∷◌, length, Option, Some, None, refl, sym, ap}
+use Rattle.std.proofs.Common.{◌≡◌, ℕ, suc, Bool, true, false, List, [], ◌∷◌, length, Option, Some, refl, sym, ap}
 use Rattle.std.proofs.Common.{◌∙◌, subst}
 use Rattle.std.specs.Prelude.{◌==◌, cond, slice_get, Result, Ok, Err}
 use Rattle.std.proofs.lemmas.Option.{none-some, same_Some}
@@ -17,7 +17,7 @@ use Rattle.tss_model.specs.Access.{operands_of}
 use Rattle.tss_model.specs.Memory.{Memory, range_of, memory_ranges, loaded}
 use Rattle.tss_model.specs.Spawn.{spawn_of}
 use Rattle.tss_model.specs.InOrder.{flat_stepped}
-use Rattle.tss_model.specs.MainStep.{Call, ExitCall, Spawn, Barrier, Print, Await, Unknown, spawn_call, spawn_on}
+use Rattle.tss_model.specs.MainStep.{Call, Spawn, spawn_call, spawn_on}
 use Rattle.tss_protocol.specs.State.{State, initial_state}
 use Rattle.tss_protocol.specs.MainEvent.{call_next}
 use Rattle.tss_protocol.specs.UnitMachine.{after_event}
@@ -87,35 +87,14 @@ module _ (m : Machine) (i : ImageState) (all : List Task) (S : State) (code : Ha
       (own.writable, ap (λ ranges. range_of ranges o.object) (sym code.ranges) ∙ own.placed))
 
   placed_by_call : (c : Option Call) → HavePlacedObjects i (spawned_by_main m S all c)
-  placed_by_call None = placed
-  placed_by_call (Some ExitCall) = placed
   placed_by_call (Some Spawn) =
       placed_by_spawn (spawn_of (spawn_call S.main.registers) S.home S.main.epoch m.limits S.main.spawned) refl
-  placed_by_call (Some Barrier) = placed
-  placed_by_call (Some Print) = placed
-  placed_by_call (Some Await) = placed
-  placed_by_call (Some (Unknown n)) = placed
+  placed_by_call other = placed
 
   -- after every event they do
   pub HavePlacedObjects-after_event : (e : Event) → HavePlacedObjects i (spawned_after_event m S all e)
   HavePlacedObjects-after_event event.Main = placed_by_call (call_next m S)
-  HavePlacedObjects-after_event event.Take = placed
-  HavePlacedObjects-after_event (event.Decode o) = placed
-  HavePlacedObjects-after_event (event.Ack o) = placed
-  HavePlacedObjects-after_event (event.Open o) = placed
-  HavePlacedObjects-after_event (event.Use o) = placed
-  HavePlacedObjects-after_event (event.Ready o) = placed
-  HavePlacedObjects-after_event (event.Link o) = placed
-  HavePlacedObjects-after_event (event.Start w) = placed
-  HavePlacedObjects-after_event (event.Exec w) = placed
-  HavePlacedObjects-after_event (event.Finish w) = placed
-  HavePlacedObjects-after_event (event.Release o) = placed
-  HavePlacedObjects-after_event (event.Bye o) = placed
-  HavePlacedObjects-after_event (event.Idle v) = placed
-  HavePlacedObjects-after_event (event.Nack v) = placed
-  HavePlacedObjects-after_event (event.Retire v) = placed
-  HavePlacedObjects-after_event (event.Copy b) = placed
-  HavePlacedObjects-after_event (event.Gone v) = placed
+  HavePlacedObjects-after_event e = placed
 
 -- so the addresses of an operand's object were loaded
 pub object_loaded : (i : ImageState) (all ts : List Task) → KnowsRound all ts → HavePlacedObjects i all → (o : OpName)

@@ -51,35 +51,12 @@ module _ (m : Machine) (i : ImageState) (S : State) (facts : Facts m S) where
     pub HasReturns-beside : (e : Event) → IsBesideWorkers e → IsEnabled m S e
         → HasReturns m i (round_after_event m S ts e) (after_event m S e)
     HasReturns-beside event.Main q on = HasReturns-main m i S facts h
-    HasReturns-beside event.Take q on =
-        returns_kept m i ts S (after_event m S event.Take) (returns_left m S event.Take tt) h
-    HasReturns-beside (event.Decode o) q on =
-        returns_kept m i ts S (after_event m S (event.Decode o)) (returns_left m S (event.Decode o) tt) h
-    HasReturns-beside (event.Ack o) q on =
-        returns_kept m i ts S (after_event m S (event.Ack o)) (returns_left m S (event.Ack o) tt) h
-    HasReturns-beside (event.Open o) q on =
-        returns_kept m i ts S (after_event m S (event.Open o)) (returns_left m S (event.Open o) tt) h
-    HasReturns-beside (event.Use o) q on =
-        returns_kept m i ts S (after_event m S (event.Use o)) (returns_left m S (event.Use o) tt) h
-    HasReturns-beside (event.Ready o) q on =
-        returns_kept m i ts S (after_event m S (event.Ready o)) (returns_left m S (event.Ready o) tt) h
-    HasReturns-beside (event.Link o) q on =
-        returns_kept m i ts S (after_event m S (event.Link o)) (returns_left m S (event.Link o) tt) h
     HasReturns-beside (event.Start w) q on = absurd q
     HasReturns-beside (event.Exec w) q on = absurd q
-    HasReturns-beside (event.Finish w) q on =
-        returns_kept m i ts S (after_event m S (event.Finish w)) (returns_left m S (event.Finish w) tt) h
-    HasReturns-beside (event.Release o) q on =
-        returns_kept m i ts S (after_event m S (event.Release o)) (returns_left m S (event.Release o) tt) h
-    HasReturns-beside (event.Bye o) q on =
-        returns_kept m i ts S (after_event m S (event.Bye o)) (returns_left m S (event.Bye o) tt) h
-    HasReturns-beside (event.Idle v) q on =
-        returns_kept m i ts S (after_event m S (event.Idle v)) (returns_left m S (event.Idle v) tt) h
-    HasReturns-beside (event.Nack v) q on =
-        returns_kept m i ts S (after_event m S (event.Nack v)) (returns_left m S (event.Nack v) tt) h
     HasReturns-beside (event.Retire v) q on = HasReturns-retire m i S facts stored h v on
     HasReturns-beside (event.Copy b) q on = HasReturns-copy m i S facts (copied_room fit room) h b on
     HasReturns-beside (event.Gone v) q on = HasReturns-gone m i S basis buffers h v on
+    HasReturns-beside e q on = returns_kept m i ts S (after_event m S e) (returns_left m S e tt) h
 
 -- in the first state nothing comes home
 pub HasReturns-initial_state : (m : Machine) (i : ImageState) (ts : List Task) → HasReturns m i ts (initial_state i)

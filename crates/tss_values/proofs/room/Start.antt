@@ -13,7 +13,7 @@ use Rattle.tss_model.specs.Access.{operands_of, reads, writes}
 use Rattle.tss_protocol.specs.Mail.{Source, Buffer}
 use Rattle.tss_protocol.specs.State.{State, OperandState, Flying, Version}
 use Rattle.tss_protocol.specs.Stations.{storage_of, storages_of}
-use Rattle.tss_phases.specs.Phase.{Phase, Ahead, Decoding, Sent, Waiting, Told, Ready, Releasing, Leaving, Promised}
+use Rattle.tss_phases.specs.Phase.{Phase, Told, Ready, Releasing, Leaving}
 use Rattle.tss_phases.specs.Phase.{Left, phase_of, look_ups}
 use Rattle.tss_phases.specs.Openers.{holds_version, has_parted, version_opener, opener_by, open_opener}
 use Rattle.tss_phases.specs.Alone.{HasRecord}
@@ -32,16 +32,9 @@ from_mapped f None y e = absurd (cc)
 from_mapped f (Some x) y e = (x, refl)
 
 parted_late : (p : Phase) → has_parted p ≡ true → is_late p ≡ true
-parted_late Ahead e = absurd (cc)
-parted_late Decoding e = absurd (cc)
-parted_late Sent e = absurd (cc)
-parted_late Waiting e = absurd (cc)
-parted_late Told e = absurd (cc)
-parted_late Ready e = absurd (cc)
-parted_late Releasing e = absurd (cc)
 parted_late Leaving e = refl
-parted_late Promised e = absurd (cc)
 parted_late Left e = refl
+parted_late other e = absurd (cc)
 
 module _ (m : Machine) (S : State) (facts : Facts m S) where
   open facts use {ts, g, ground, control}
@@ -133,16 +126,10 @@ module _ (m : Machine) (S : State) (facts : Facts m S) where
 
     by_phase : (k : Phase) → phase_of S v ≡ k → FitsPhase k (look_ups S v) → holds_version k ≡ true
         → slice_get (storages_of x) v.place ≡ Some (Buffer b)
-    by_phase Ahead e fits holds = absurd (cc)
-    by_phase Decoding e fits holds = absurd (cc)
-    by_phase Sent e fits holds = absurd (cc)
-    by_phase Waiting e fits holds = absurd (cc)
     by_phase Told e fits holds = absurd (not_untold v x flies queued fits.0)
     by_phase Ready e fits holds = told_storage fits.0.0 fits.0.1 (inl e)
     by_phase Releasing e fits holds = told_storage fits.0.0 fits.0.1 (inr e)
-    by_phase Leaving e fits holds = absurd (cc)
-    by_phase Promised e fits holds = absurd (cc)
-    by_phase Left e fits holds = absurd (cc)
+    by_phase other e fits holds = absurd (cc)
 
     by_produced : (made : Bool) → y.produced ≡ made → opener_by y Output (phase_of S v) made ≡ true
         → slice_get (storages_of x) v.place ≡ Some (Buffer b)

@@ -16,7 +16,7 @@ use Rattle.tss_base.specs.Image.{ImageState, IsAccepted}
 use Rattle.tss_model.specs.Access.{operands_of, writes}
 use Rattle.tss_model.specs.Memory.{MemoryRange, Memory, covers, byte_at, memory_ranges, loaded}
 use Rattle.tss_model.specs.Spawn.{spawn_of}
-use Rattle.tss_model.specs.MainStep.{MainState, Call, ExitCall, Spawn, Barrier, Print, Await, Unknown, main_call}
+use Rattle.tss_model.specs.MainStep.{MainState, Call, Spawn, main_call}
 use Rattle.tss_model.specs.MainStep.{spawn_call, spawn_on}
 use Rattle.tss_protocol.specs.Mail.{StorageName, Home, Buffer}
 use Rattle.tss_protocol.specs.State.{State, Flying, Busy, CopyState, initial_state}
@@ -76,36 +76,15 @@ module _ (m : Machine) (i : ImageState) (all : List Task) (S : State) (image : H
       (spawn_of-spawned call S.home S.main.epoch m.limits S.main.spawned t e) k o at))
 
   fit_by_call : (c : Option Call) → HaveFitOperands m.limits (memory_ranges i) (spawned_by_main m S all c)
-  fit_by_call None = fit
-  fit_by_call (Some ExitCall) = fit
   fit_by_call (Some Spawn) =
       fit_by_spawn (spawn_of (spawn_call S.main.registers) S.home S.main.epoch m.limits S.main.spawned) refl
-  fit_by_call (Some Barrier) = fit
-  fit_by_call (Some Print) = fit
-  fit_by_call (Some Await) = fit
-  fit_by_call (Some (Unknown n)) = fit
+  fit_by_call other = fit
 
   -- after every event they are
   pub HaveFitOperands-after_event : (e : Event)
       → HaveFitOperands m.limits (memory_ranges i) (spawned_after_event m S all e)
   HaveFitOperands-after_event event.Main = fit_by_call (call_next m S)
-  HaveFitOperands-after_event event.Take = fit
-  HaveFitOperands-after_event (event.Decode o) = fit
-  HaveFitOperands-after_event (event.Ack o) = fit
-  HaveFitOperands-after_event (event.Open o) = fit
-  HaveFitOperands-after_event (event.Use o) = fit
-  HaveFitOperands-after_event (event.Ready o) = fit
-  HaveFitOperands-after_event (event.Link o) = fit
-  HaveFitOperands-after_event (event.Start w) = fit
-  HaveFitOperands-after_event (event.Exec w) = fit
-  HaveFitOperands-after_event (event.Finish w) = fit
-  HaveFitOperands-after_event (event.Release o) = fit
-  HaveFitOperands-after_event (event.Bye o) = fit
-  HaveFitOperands-after_event (event.Idle v) = fit
-  HaveFitOperands-after_event (event.Nack v) = fit
-  HaveFitOperands-after_event (event.Retire v) = fit
-  HaveFitOperands-after_event (event.Copy b) = fit
-  HaveFitOperands-after_event (event.Gone v) = fit
+  HaveFitOperands-after_event e = fit
 
 -- ---- fixed memory
 
@@ -212,25 +191,7 @@ module _ (m : Machine) (i : ImageState) (accepted : IsAccepted i) (S : State) (w
   pub same_fixed : (a : ℕ) → IsFixed i a → (e : Event) → byte_at (after_event m S e).home a ≡ byte_at S.home a
   unfolding after_event
   same_fixed a fixed event.Main = same-main a fixed (call_next m S)
-  same_fixed a fixed event.Take = same-home a (after_event m S event.Take) (left_home m S event.Take refl)
-  same_fixed a fixed (event.Decode o) =
-      same-home a (after_event m S (event.Decode o)) (left_home m S (event.Decode o) refl)
-  same_fixed a fixed (event.Ack o) = same-home a (after_event m S (event.Ack o)) (left_home m S (event.Ack o) refl)
-  same_fixed a fixed (event.Open o) = same-home a (after_event m S (event.Open o)) (left_home m S (event.Open o) refl)
-  same_fixed a fixed (event.Use o) = same-home a (after_event m S (event.Use o)) (left_home m S (event.Use o) refl)
-  same_fixed a fixed (event.Ready o) =
-      same-home a (after_event m S (event.Ready o)) (left_home m S (event.Ready o) refl)
-  same_fixed a fixed (event.Link o) = same-home a (after_event m S (event.Link o)) (left_home m S (event.Link o) refl)
   same_fixed a fixed (event.Start w) = same-start a fixed w S.queue refl
   same_fixed a fixed (event.Exec w) = same-exec a fixed w (get S.workers w) refl
-  same_fixed a fixed (event.Finish w) =
-      same-home a (after_event m S (event.Finish w)) (left_home m S (event.Finish w) refl)
-  same_fixed a fixed (event.Release o) =
-      same-home a (after_event m S (event.Release o)) (left_home m S (event.Release o) refl)
-  same_fixed a fixed (event.Bye o) = same-home a (after_event m S (event.Bye o)) (left_home m S (event.Bye o) refl)
-  same_fixed a fixed (event.Idle v) = same-home a (after_event m S (event.Idle v)) (left_home m S (event.Idle v) refl)
-  same_fixed a fixed (event.Nack v) = same-home a (after_event m S (event.Nack v)) (left_home m S (event.Nack v) refl)
-  same_fixed a fixed (event.Retire v) =
-      same-home a (after_event m S (event.Retire v)) (left_home m S (event.Retire v) refl)
   same_fixed a fixed (event.Copy b) = same-copy a fixed b (get S.copies b) refl
-  same_fixed a fixed (event.Gone v) = same-home a (after_event m S (event.Gone v)) (left_home m S (event.Gone v) refl)
+  same_fixed a fixed e = same-home a (after_event m S e) (left_home m S e refl)

@@ -18,7 +18,7 @@ use Rattle.tss_base.specs.Names.{Named, name_cmp}
 use Rattle.tss_maps.proofs.Keys.{name_order}
 use Rattle.tss_maps.proofs.Changes.{from_inserted, from_removed}
 use Rattle.tss_maps.proofs.Entries.{absent_empty}
-use Rattle.tss_model.specs.MainStep.{Call, ExitCall, Spawn, Barrier, Print, Await, Unknown, main_call}
+use Rattle.tss_model.specs.MainStep.{Call, Spawn, Barrier, main_call}
 use Rattle.tss_protocol.specs.Names.{bank_of}
 use Rattle.tss_protocol.specs.Mail.{GoneContents}
 use Rattle.tss_protocol.specs.State.{State, Entry, initial_state}
@@ -119,13 +119,9 @@ module _ (m : Machine) (S : State) (basis : Basis m S) (orderly : AreOrderly S)
   spawned (Some t) b k at = let q = outputs b k at in (q.0, operand_among-more ts t b q.0 q.1, q.2)
 
   main_by_call : (c : Option Call) → may_call S c ≡ true → HoldsOutputs (round_after_main m S ts c) S.buffers
-  main_by_call None may = outputs
-  main_by_call (Some ExitCall) may = outputs
   main_by_call (Some Spawn) may = spawned (main_call m.limits S.home S.main Spawn).1
   main_by_call (Some Barrier) may = λ b k at. absurd (none-some k (sym (no_buffer may b) ∙ at))
-  main_by_call (Some Print) may = outputs
-  main_by_call (Some Await) may = outputs
-  main_by_call (Some (Unknown n)) may = outputs
+  main_by_call other may = outputs
 
   outputs-main : IsEnabled m S event.Main
       → HasOutputs (round_after_event m S ts event.Main) (after_event m S event.Main)
@@ -150,34 +146,6 @@ module _ (m : Machine) (S : State) (basis : Basis m S) (orderly : AreOrderly S)
   pub HasOutputs-after_event : (e : Event) → IsEnabled m S e
       → HasOutputs (round_after_event m S ts e) (after_event m S e)
   HasOutputs-after_event event.Main on = outputs-main on
-  HasOutputs-after_event event.Take on = same_outputs (after_event m S event.Take) (left_buffers m S event.Take refl)
   HasOutputs-after_event (event.Decode o) on = outputs-decode o
-  HasOutputs-after_event (event.Ack o) on =
-      same_outputs (after_event m S (event.Ack o)) (left_buffers m S (event.Ack o) refl)
-  HasOutputs-after_event (event.Open o) on =
-      same_outputs (after_event m S (event.Open o)) (left_buffers m S (event.Open o) refl)
-  HasOutputs-after_event (event.Use o) on =
-      same_outputs (after_event m S (event.Use o)) (left_buffers m S (event.Use o) refl)
-  HasOutputs-after_event (event.Ready o) on =
-      same_outputs (after_event m S (event.Ready o)) (left_buffers m S (event.Ready o) refl)
-  HasOutputs-after_event (event.Link o) on =
-      same_outputs (after_event m S (event.Link o)) (left_buffers m S (event.Link o) refl)
-  HasOutputs-after_event (event.Start w) on =
-      same_outputs (after_event m S (event.Start w)) (left_buffers m S (event.Start w) refl)
-  HasOutputs-after_event (event.Exec w) on =
-      same_outputs (after_event m S (event.Exec w)) (left_buffers m S (event.Exec w) refl)
-  HasOutputs-after_event (event.Finish w) on =
-      same_outputs (after_event m S (event.Finish w)) (left_buffers m S (event.Finish w) refl)
-  HasOutputs-after_event (event.Release o) on =
-      same_outputs (after_event m S (event.Release o)) (left_buffers m S (event.Release o) refl)
-  HasOutputs-after_event (event.Bye o) on =
-      same_outputs (after_event m S (event.Bye o)) (left_buffers m S (event.Bye o) refl)
-  HasOutputs-after_event (event.Idle v) on =
-      same_outputs (after_event m S (event.Idle v)) (left_buffers m S (event.Idle v) refl)
-  HasOutputs-after_event (event.Nack v) on =
-      same_outputs (after_event m S (event.Nack v)) (left_buffers m S (event.Nack v) refl)
-  HasOutputs-after_event (event.Retire v) on =
-      same_outputs (after_event m S (event.Retire v)) (left_buffers m S (event.Retire v) refl)
-  HasOutputs-after_event (event.Copy b) on =
-      same_outputs (after_event m S (event.Copy b)) (left_buffers m S (event.Copy b) refl)
   HasOutputs-after_event (event.Gone v) on = outputs-gone v
+  HasOutputs-after_event e on = same_outputs (after_event m S e) (left_buffers m S e refl)

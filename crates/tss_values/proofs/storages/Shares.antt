@@ -14,8 +14,8 @@ use Rattle.tss_model.specs.Access.{writes}
 use Rattle.tss_protocol.specs.Mail.{StorageName, Home, Buffer, Source}
 use Rattle.tss_protocol.specs.State.{State, OperandState, Version}
 use Rattle.tss_protocol.specs.Stations.{operand_at}
-use Rattle.tss_phases.specs.Phase.{Phase, Ahead, Decoding, Sent, Waiting, Told, Ready, Releasing, Leaving, Promised}
-use Rattle.tss_phases.specs.Phase.{Left, phase_of}
+use Rattle.tss_phases.specs.Phase.{Phase, Waiting, Told, Ready, Releasing}
+use Rattle.tss_phases.specs.Phase.{phase_of}
 use Rattle.tss_phases.specs.Openers.{holds_version, has_parted, produced_opener, opener_by}
 use Rattle.tss_phases.proofs.Tests.{not_both}
 use Rattle.tss_control.specs.Members.{operand_among}
@@ -84,13 +84,7 @@ holds_apart : (p : Phase) → holds_version p ≡ true → (p ≡ Waiting → �
 holds_apart Told e = (λ f. cc, refl)
 holds_apart Ready e = (λ f. cc, refl)
 holds_apart Releasing e = (λ f. cc, refl)
-holds_apart Ahead e = absurd (cc)
-holds_apart Decoding e = absurd (cc)
-holds_apart Sent e = absurd (cc)
-holds_apart Waiting e = absurd (cc)
-holds_apart Leaving e = absurd (cc)
-holds_apart Promised e = absurd (cc)
-holds_apart Left e = absurd (cc)
+holds_apart other e = absurd (cc)
 
 writer_parted : (mode : Mode) (p : Phase) → writes mode ≡ true → produced_opener mode p ≡ true → has_parted p ≡ true
 writer_parted Input p w e = absurd (cc)

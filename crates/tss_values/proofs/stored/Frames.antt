@@ -12,7 +12,7 @@ use Rattle.tss_model.specs.Access.{writes}
 use Rattle.tss_model.specs.InOrder.{Started}
 use Rattle.tss_protocol.specs.Mail.{StorageName}
 use Rattle.tss_protocol.specs.State.{State, Version}
-use Rattle.tss_phases.specs.Phase.{Phase, Ahead, Decoding, Sent, Waiting, Told, Ready, Releasing, Leaving, Promised}
+use Rattle.tss_phases.specs.Phase.{Phase, Told, Ready, Releasing, Leaving, Promised}
 use Rattle.tss_phases.specs.Phase.{Left, phase_of}
 use Rattle.tss_phases.specs.Openers.{holds_version, has_parted, open_opener, opener_by, version_opener}
 use Rattle.tss_phases.specs.Forward.{may_follow}
@@ -92,40 +92,27 @@ module _ (m : Machine) (i : ImageState) (ts : List Task) (S T : State) (v : OpNa
 no_true : false ≡ true → ⊥
 no_true e = true≢false (sym e)
 
+neither : (false ≡ true) ⊎ (false ≡ true) → ⊥
+neither (inl e) = no_true e
+neither (inr e) = no_true e
+
 -- an opener that holds its version, or has parted from it, was told it before where it was told it afterwards
 told_by : (p : Phase) → (holds_version p ≡ true) ⊎ (has_parted p ≡ true)
     → (may_follow p Told ≡ true) ⊎ (may_follow p Ready ≡ true) → (p ≡ Told) ⊎ (p ≡ Ready)
-told_by Ahead (inl h) f = absurd (no_true h)
-told_by Ahead (inr h) f = absurd (no_true h)
-told_by Decoding (inl h) f = absurd (no_true h)
-told_by Decoding (inr h) f = absurd (no_true h)
-told_by Sent (inl h) f = absurd (no_true h)
-told_by Sent (inr h) f = absurd (no_true h)
-told_by Waiting (inl h) f = absurd (no_true h)
-told_by Waiting (inr h) f = absurd (no_true h)
 told_by Told h f = inl refl
 told_by Ready h f = inr refl
-told_by Releasing h (inl f) = absurd (no_true f)
-told_by Releasing h (inr f) = absurd (no_true f)
-told_by Leaving h (inl f) = absurd (no_true f)
-told_by Leaving h (inr f) = absurd (no_true f)
-told_by Promised (inl h) f = absurd (no_true h)
-told_by Promised (inr h) f = absurd (no_true h)
-told_by Left h (inl f) = absurd (no_true f)
-told_by Left h (inr f) = absurd (no_true f)
+told_by Releasing h f = absurd (neither f)
+told_by Leaving h f = absurd (neither f)
+told_by Left h f = absurd (neither f)
+told_by other h f = absurd (neither h)
 
 -- and one that is late, and lets go afterwards, let go before
 lets_by : (p : Phase) → is_late p ≡ true → may_follow p Releasing ≡ true → p ≡ Releasing
-lets_by Ahead l f = absurd (no_true l)
-lets_by Decoding l f = absurd (no_true l)
-lets_by Sent l f = absurd (no_true l)
-lets_by Waiting l f = absurd (no_true l)
-lets_by Told l f = absurd (no_true l)
-lets_by Ready l f = absurd (no_true l)
 lets_by Releasing l f = refl
 lets_by Leaving l f = absurd (no_true f)
 lets_by Promised l f = absurd (no_true f)
 lets_by Left l f = absurd (no_true f)
+lets_by other l f = absurd (no_true l)
 
 -- the opener of a version with a storage holds it, or has parted from it, or is an input
 pub opener_holds : (y : Version) (mode : Mode) (st : StorageName) (p : Phase) → y.storage ≡ Some st

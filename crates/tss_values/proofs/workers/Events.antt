@@ -46,55 +46,18 @@ module _ (m : Machine) (i : ImageState) (S : State) (work : WorkerFacts m i S) (
   runs_event : (e : Event) → AllRun m i (after_event m S e)
   runs_event event.Main =
       runs_main m i S work (same event.Main)
-  runs_event event.Take =
-      runs_still (after_event m S event.Take) (λ j. (Leaves-after_event m S event.Take j).home)
-      (λ j. (Leaves-after_event m S event.Take j).contents) (λ j. (Leaves-after_event m S event.Take j).workers)
-  runs_event (event.Decode o) =
-      runs_still (after_event m S (event.Decode o)) (λ j. (Leaves-after_event m S (event.Decode o) j).home)
-      (λ j. (Leaves-after_event m S (event.Decode o) j).contents)
-      (λ j. (Leaves-after_event m S (event.Decode o) j).workers)
-  runs_event (event.Ack o) =
-      runs_still (after_event m S (event.Ack o)) (λ j. (Leaves-after_event m S (event.Ack o) j).home)
-      (λ j. (Leaves-after_event m S (event.Ack o) j).contents) (λ j. (Leaves-after_event m S (event.Ack o) j).workers)
-  runs_event (event.Open o) =
-      runs_still (after_event m S (event.Open o)) (λ j. (Leaves-after_event m S (event.Open o) j).home)
-      (λ j. (Leaves-after_event m S (event.Open o) j).contents) (λ j. (Leaves-after_event m S (event.Open o) j).workers)
-  runs_event (event.Use o) =
-      runs_still (after_event m S (event.Use o)) (λ j. (Leaves-after_event m S (event.Use o) j).home)
-      (λ j. (Leaves-after_event m S (event.Use o) j).contents) (λ j. (Leaves-after_event m S (event.Use o) j).workers)
-  runs_event (event.Ready o) =
-      runs_still (after_event m S (event.Ready o)) (λ j. (Leaves-after_event m S (event.Ready o) j).home)
-      (λ j. (Leaves-after_event m S (event.Ready o) j).contents)
-      (λ j. (Leaves-after_event m S (event.Ready o) j).workers)
-  runs_event (event.Link o) =
-      runs_still (after_event m S (event.Link o)) (λ j. (Leaves-after_event m S (event.Link o) j).home)
-      (λ j. (Leaves-after_event m S (event.Link o) j).contents) (λ j. (Leaves-after_event m S (event.Link o) j).workers)
   runs_event (event.Start w) =
       runs_start m i S work accepted fixed values.stored values.room
       finds values.main w (same (event.Start w))
   runs_event (event.Exec w) =
       runs_exec m i S work w (same (event.Exec w))
   runs_event (event.Finish w) = runs_finish w
-  runs_event (event.Release o) =
-      runs_still (after_event m S (event.Release o)) (λ j. (Leaves-after_event m S (event.Release o) j).home)
-      (λ j. (Leaves-after_event m S (event.Release o) j).contents)
-      (λ j. (Leaves-after_event m S (event.Release o) j).workers)
-  runs_event (event.Bye o) =
-      runs_still (after_event m S (event.Bye o)) (λ j. (Leaves-after_event m S (event.Bye o) j).home)
-      (λ j. (Leaves-after_event m S (event.Bye o) j).contents) (λ j. (Leaves-after_event m S (event.Bye o) j).workers)
-  runs_event (event.Idle v) =
-      runs_still (after_event m S (event.Idle v)) (λ j. (Leaves-after_event m S (event.Idle v) j).home)
-      (λ j. (Leaves-after_event m S (event.Idle v) j).contents) (λ j. (Leaves-after_event m S (event.Idle v) j).workers)
-  runs_event (event.Nack v) =
-      runs_still (after_event m S (event.Nack v)) (λ j. (Leaves-after_event m S (event.Nack v) j).home)
-      (λ j. (Leaves-after_event m S (event.Nack v) j).contents) (λ j. (Leaves-after_event m S (event.Nack v) j).workers)
-  runs_event (event.Retire v) =
-      runs_still (after_event m S (event.Retire v)) (λ j. (Leaves-after_event m S (event.Retire v) j).home)
-      (λ j. (Leaves-after_event m S (event.Retire v) j).contents)
-      (λ j. (Leaves-after_event m S (event.Retire v) j).workers)
   runs_event (event.Copy b) =
       runs_copy m i S work values.returns b (same (event.Copy b))
   runs_event (event.Gone v) = runs_gone m i S work v
+  runs_event e =
+      runs_still (after_event m S e) (λ j. (Leaves-after_event m S e j).home)
+      (λ j. (Leaves-after_event m S e j).contents) (λ j. (Leaves-after_event m S e j).workers)
 
   -- what they were told
   told_before : AreTold (standing_of S)
