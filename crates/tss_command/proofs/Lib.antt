@@ -1,0 +1,10 @@
+mod ReadingLemmas
+mod AnswerLemmas
+mod OutcomeLemmas
+mod CallLemmas
+mod ReportLemmas
+mod NumberLemmas
+mod WordLemmas
+mod StateLemmas
+mod GivenLemmas
+mod RunStateLemmas

@@ -1,9 +1,0 @@
-mod ReadingLemmas
-mod AnswerLemmas
-mod OutcomeLemmas
-mod CallLemmas
-mod ReportLemmas
-mod NumberLemmas
-mod StateLemmas
-mod GivenLemmas
-mod RunStateLemmas
