@@ -6,4 +6,3 @@ mod MergingLemmas
 mod ReadingLemmas
 mod FreshLemmas
 mod SpawnLemmas
-pub mod ImageLemmas

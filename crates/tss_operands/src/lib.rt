@@ -12,8 +12,6 @@ mod merging;
 mod reading;
 mod search;
 mod spawn;
-#[cfg(test)]
-mod tests;
 
 pub use epoch::Epoch;
 pub use spawn::{SpawnFault, SpawnWords, read_spawn};

@@ -1,8 +1,8 @@
 -- The two segments make an image.
 use Rattle.std.proofs.Common.{rules, ◌≡◌, ap, sym, subst, ◌∙◌, [], ◌∷◌, ◌++◌, length, arith}
 use Rattle.tss_base.specs.Image.{IsAccepted}
-use Rattle.tss_operands.proofs.ImageLemmas.{IsAccepted-pair}
-use Rattle.tss_operands.proofs.tests.space.Goals as goal
+use Rattle.tss_operands_tests.proofs.ImageLemmas.{IsAccepted-pair}
+use Rattle.tss_operands_tests.proofs.tests.space.Goals as goal
 
 pub new-requires-3 : goal.new-requires-3
 new-requires-3 c =

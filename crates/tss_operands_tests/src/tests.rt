@@ -2,13 +2,19 @@
 // outside.
 ghost use Rattle.std.specs.Prelude.{◌<◌};
 
-use crate::{Epoch, SpawnFault, SpawnWords, read_spawn};
 use std::alloc::Global;
+use std::fmt::Debug;
 use std::process::Abort;
 use std::test::Fail;
 use tss_base::lists::ENTRY_BYTES;
 use tss_base::{Image, Limits, Mode, Operand, Range, Segment, Task};
 use tss_memory::Space;
+use tss_operands::{Epoch, SpawnFault, SpawnWords, read_spawn};
+
+/// Checks that two values are equal. A call has fewer steps than `assert_eq!`, so a test of many is proved sooner.
+fn check_eq<T: PartialEq + Debug + Copy>(rt: &impl Abort, left: T, right: T) {
+    assert_eq!(rt; left, right);
+}
 
 /// The base of the data, which can be written: 4,096 bytes.
 const DATA: u32 = 0x20000;
@@ -182,10 +188,10 @@ fn distinct_objects_fill_an_epoch(rt: HostRuntime) -> Result<(), Fail> {
     assert!(rt; spawn(&rt, &mut space, &epoch, &limits, &again).is_ok());
     let more = [(DATA, 4, 1), (DATA + 4, 4, 1), (DATA + 8, 4, 1)];
     let answer = spawn(&rt, &mut space, &epoch, &limits, &more);
-    assert_eq!(rt; answer, Err(SpawnFault(9)));
+    check_eq(&rt, answer, Err(SpawnFault(9)));
     epoch.clear();
     let answer = spawn(&rt, &mut space, &epoch, &limits, &more);
-    assert_eq!(rt; answer, Err(SpawnFault(9)));
+    check_eq(&rt, answer, Err(SpawnFault(9)));
     assert!(rt;
         spawn(
             &rt,
@@ -239,14 +245,14 @@ fn equal_operands_are_merged(rt: HostRuntime) -> Result<(), Fail> {
         ],
     };
     let answer = spawn(&rt, &mut space, &epoch, &LIMITS, &listed);
-    assert_eq!(rt; answer, Ok(task));
-    assert_eq!(rt; epoch.count(), 0);
+    check_eq(&rt, answer, Ok(task));
+    check_eq(&rt, epoch.count(), 0);
     for base in [x, y, z] {
         let len = if base == y { 8 } else { 4 };
         name(&rt, &mut epoch, Range { base, len });
     }
     let answer = spawn(&rt, &mut space, &epoch, &LIMITS, &listed);
-    assert_eq!(rt; answer, Ok(task));
+    check_eq(&rt, answer, Ok(task));
     Ok(())
 }
 
@@ -264,7 +270,7 @@ fn the_objects_of_a_task_are_named(rt: HostRuntime) -> Result<(), Fail> {
         Ok(task) => epoch.name_all(&task),
         Err(_) => assert!(rt; false),
     }
-    assert_eq!(rt; epoch.count(), 0);
+    check_eq(&rt, epoch.count(), 0);
     Ok(())
 }
 
@@ -288,10 +294,10 @@ fn the_most_objects_are_named_in_any_order(rt: HostRuntime) -> Result<(), Fail> 
         name(&rt, &mut epoch, word_object(k));
     }
     assert!(rt; epoch.is_full());
-    assert_eq!(rt; epoch.count(), 65536);
-    assert_eq!(rt; epoch.at(0), Some(Range { base: 2000, len: 4 }));
-    assert_eq!(rt; epoch.at(65535), Some(Range { base: 0, len: 4 }));
-    assert_eq!(rt; epoch.at(65536), None);
+    check_eq(&rt, epoch.count(), 65536);
+    check_eq(&rt, epoch.at(0), Some(Range { base: 2000, len: 4 }));
+    check_eq(&rt, epoch.at(65535), Some(Range { base: 0, len: 4 }));
+    check_eq(&rt, epoch.at(65536), None);
     for k in 0..65536 {
         let object = word_object(k);
         let last = Range {
@@ -313,7 +319,7 @@ fn the_most_objects_are_named_in_any_order(rt: HostRuntime) -> Result<(), Fail> 
         })
     );
     epoch.clear();
-    assert_eq!(rt; epoch.count(), 0);
+    check_eq(&rt, epoch.count(), 0);
     assert!(rt;
         !epoch.touches(&Range {
             base: 0,
@@ -340,7 +346,7 @@ fn the_object_with_a_base_is_found_and_unnamed(rt: HostRuntime) -> Result<(), Fa
     let mut epoch = Epoch::open(rt.alloc(), 3)?;
     for object in [first, awaited, highest] {
         name(&rt, &mut epoch, object);
-        assert_eq!(rt; epoch.find(object.base), Some(object));
+        check_eq(&rt, epoch.find(object.base), Some(object));
     }
     for base in [0, 0xFF, 0x101, 0x110, 0x1FF, 0x208, 0xFFFFFFFB, 0xFFFFFFFF] {
         assert_eq!(rt; epoch.find(base), None, "{base}");
@@ -349,15 +355,15 @@ fn the_object_with_a_base_is_found_and_unnamed(rt: HostRuntime) -> Result<(), Fa
     assert!(rt; epoch.is_full());
     assert!(rt; epoch.unname(awaited.base));
     assert!(rt; !epoch.unname(awaited.base));
-    assert_eq!(rt; epoch.find(awaited.base), None);
+    check_eq(&rt, epoch.find(awaited.base), None);
     assert!(rt; !epoch.touches(&awaited));
-    assert_eq!(rt; epoch.at(0), Some(first));
-    assert_eq!(rt; epoch.at(1), Some(highest));
-    assert_eq!(rt; epoch.at(2), None);
+    check_eq(&rt, epoch.at(0), Some(first));
+    check_eq(&rt, epoch.at(1), Some(highest));
+    check_eq(&rt, epoch.at(2), None);
     name(&rt, &mut epoch, awaited);
-    assert_eq!(rt; epoch.at(2), Some(awaited));
+    check_eq(&rt, epoch.at(2), Some(awaited));
     assert!(rt; epoch.unname(highest.base) && epoch.unname(first.base));
-    assert_eq!(rt; epoch.at(0), Some(awaited));
-    assert_eq!(rt; epoch.count(), 1);
+    check_eq(&rt, epoch.at(0), Some(awaited));
+    check_eq(&rt, epoch.count(), 1);
     Ok(())
 }
