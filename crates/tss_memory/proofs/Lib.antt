@@ -8,4 +8,3 @@ mod LoadLemmas
 mod LoadingLemmas
 mod SegmentLemmas
 mod KeptLemmas
-mod StripedLemmas

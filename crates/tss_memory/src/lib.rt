@@ -10,8 +10,6 @@ mod found;
 mod loading;
 mod placing;
 mod space;
-#[cfg(test)]
-mod tests;
 
 pub use code::Code;
 pub use found::Found;

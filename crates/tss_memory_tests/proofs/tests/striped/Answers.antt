@@ -1,8 +1,8 @@
 -- One segment more lies at the end of those before.
 use Rattle.std.proofs.Common.{◌≡◌, ◌+◌, ◌≤◌, List, length, sym, ap, subst, ◌∙◌, arith, rules}
 use Rattle.tss_base.specs.Image.{SegmentState}
-use Rattle.tss_memory.proofs.StripedLemmas.{AreStriped, AreStriped-more}
-use Rattle.tss_memory.proofs.tests.striped.Goals as goal
+use Rattle.tss_memory_tests.proofs.StripedLemmas.{AreStriped, AreStriped-more}
+use Rattle.tss_memory_tests.proofs.tests.striped.Goals as goal
 
 pub loop-k-preserved : goal.loop-k-preserved
 loop-k-preserved g c =

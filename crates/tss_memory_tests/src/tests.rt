@@ -2,12 +2,18 @@
 ghost use Rattle.std.specs.Prelude.{◌≡◌};
 ghost use Rattle.tss_model.specs.Memory.{loaded};
 
-use crate::{Space, copy_as_loaded};
 use std::alloc::Global;
+use std::fmt::Debug;
 use std::process::Abort;
 use std::test::Fail;
 use tss_base::{Image, Range, Segment};
 use tss_isa::{ImmOp, Instr};
+use tss_memory::{Space, copy_as_loaded};
+
+/// Checks that two values are equal. A call has fewer steps than `assert_eq!`, so a test of many is proved sooner.
+fn check_eq<T: PartialEq + Debug + Copy>(rt: &impl Abort, left: T, right: T) {
+    assert_eq!(rt; left, right);
+}
 
 /// The base of the first segment.
 const FIRST: u32 = 0x10000;
@@ -34,9 +40,9 @@ fn striped(rt: &impl Abort, alloc: Global, count: u8, len: u32) -> Result<Image,
 fn write_and_read(rt: &impl Abort, space: &mut Space, at: u32)
     ensures { space.new.ranges ≡ space.old.ranges }
 {
-    assert_eq!(rt; space.range_of(&Range { base: at, len: 1 }), Some(true));
+    assert!(rt; space.range_of(&Range { base: at, len: 1 }) == Some(true));
     space.set(at, 0xA5);
-    assert_eq!(rt; space.byte(at), 0xA5);
+    check_eq(rt, space.byte(at), 0xA5);
 }
 
 /// Reads the four bytes from an address on as they were loaded.
@@ -49,7 +55,7 @@ fn is_loaded(rt: &impl Abort, image: &Image, space: &Space, at: u32, expected: [
     if let Some(found) = found {
         let mut bytes = [0xEE; 4];
         copy_as_loaded(image, found.index, &r, &mut bytes);
-        assert_eq!(rt; bytes, expected);
+        check_eq(rt, bytes, expected);
     }
 }
 
@@ -65,12 +71,12 @@ fn a_space_of_64_mib_loads(rt: HostRuntime) -> Result<(), Fail> {
         base: 0xFFFE0000,
         len: 0x10000,
     };
-    assert_eq!(rt; space.range_at(0), Some((all, true)));
-    assert_eq!(rt; space.range_at(1), Some((stack, true)));
-    assert_eq!(rt; space.range_at(2), None);
+    check_eq(&rt, space.range_at(0), Some((all, true)));
+    check_eq(&rt, space.range_at(1), Some((stack, true)));
+    check_eq(&rt, space.range_at(2), None);
     write_and_read(&rt, &mut space, LIMIT - 1);
-    assert_eq!(rt; code.fetch(LIMIT - 4), Some(0x01010101));
-    assert_eq!(rt; code.fetch(LIMIT), None);
+    check_eq(&rt, code.fetch(LIMIT - 4), Some(0x01010101));
+    check_eq(&rt, code.fetch(LIMIT), None);
     Ok(())
 }
 
@@ -84,9 +90,9 @@ fn each_of_the_most_ranges_is_written_at_both_ends(rt: HostRuntime) -> Result<()
         let last = r.base + (r.len - 1);
         write_and_read(&rt, &mut space, r.base);
         write_and_read(&rt, &mut space, last);
-        assert_eq!(rt; space.range_of(&Range { base: last, len: 2 }), None);
+        check_eq(&rt, space.range_of(&Range { base: last, len: 2 }), None);
     }
-    assert_eq!(rt; space.range_at(256), None);
+    check_eq(&rt, space.range_at(256), None);
     Ok(())
 }
 
@@ -98,13 +104,13 @@ fn overwritten_code_is_fetched_as_loaded(rt: HostRuntime) -> Result<(), Fail> {
         base: FIRST,
         len: 4,
     };
-    assert_eq!(rt; space.range_of(&word), Some(true));
+    assert!(rt; space.range_of(&word) == Some(true));
     space.zero(&word);
-    assert_eq!(rt; space.bytes(&word), [0, 0, 0, 0].as_slice());
-    assert_eq!(rt; code.fetch(FIRST), Some(0x01010101));
-    assert_eq!(rt; code.fetch(FIRST + 4), None);
-    assert_eq!(rt; code.fetch(FIRST + 8), Some(0x02020202));
-    assert_eq!(rt; code.fetch(FIRST + 10), None);
+    check_eq(&rt, space.bytes(&word), [0, 0, 0, 0].as_slice());
+    check_eq(&rt, code.fetch(FIRST), Some(0x01010101));
+    check_eq(&rt, code.fetch(FIRST + 4), None);
+    check_eq(&rt, code.fetch(FIRST + 8), Some(0x02020202));
+    check_eq(&rt, code.fetch(FIRST + 10), None);
     Ok(())
 }
 
@@ -119,19 +125,17 @@ fn numbers_have_their_lowest_byte_first(rt: HostRuntime) -> Result<(), Fail> {
     let found = space.find(&word, 9).ok_or("not found")?;
     assert!(rt; found.writable);
     space.set_number(found, &word, 0x0D0C0B0A);
-    assert_eq!(rt; space.number(found, &word), 0x0D0C0B0A);
+    check_eq(&rt, space.number(found, &word), 0x0D0C0B0A);
     let mut bytes = [0; 8];
-    assert_eq!(rt;
-        space.range_of(&Range {
-            base: FIRST,
-            len: 8
-        }),
-        Some(true)
-    );
+    let whole = Range {
+        base: FIRST,
+        len: 8,
+    };
+    assert!(rt; space.range_of(&whole) == Some(true));
     space.copy_out(FIRST, &mut bytes);
-    assert_eq!(rt; bytes, [1, 1, 0x0A, 0x0B, 0x0C, 0x0D, 1, 1]);
+    check_eq(&rt, bytes, [1, 1, 0x0A, 0x0B, 0x0C, 0x0D, 1, 1]);
     space.copy_in(FIRST, &[7; 8]);
-    assert_eq!(rt; space.number(found, &word), 0x07070707);
+    check_eq(&rt, space.number(found, &word), 0x07070707);
     Ok(())
 }
 
@@ -162,7 +166,7 @@ fn the_first_segment_keeps_its_instructions(rt: HostRuntime) -> Result<(), Fail>
         rs1: 5,
         imm: -1,
     };
-    assert_eq!(rt; code.kept(FIRST), Some(decrement));
+    check_eq(&rt, code.kept(FIRST), Some(decrement));
     for at in [FIRST - 4, FIRST + 2, FIRST + 4, FIRST + 8, FIRST + 12] {
         assert_eq!(rt; code.kept(at), None, "at {at}");
     }
