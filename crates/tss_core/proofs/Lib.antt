@@ -1,5 +1,3 @@
 pub mod WordsLemmas
 pub mod PutLemmas
-pub mod PlainLemmas
-pub mod TaskLemmas
 pub mod KeptLemmas

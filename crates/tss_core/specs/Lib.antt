@@ -1,4 +1,3 @@
 pub mod Rule
 pub mod Views
 pub mod Steps
-pub mod Plain

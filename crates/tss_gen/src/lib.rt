@@ -6,8 +6,6 @@
 mod building;
 mod form;
 mod tasks;
-#[cfg(test)]
-mod tests;
 
 pub use building::{workload, workload_mul};
 pub use form::Form;

@@ -9,8 +9,6 @@ mod lines;
 mod log;
 mod migrating;
 mod piece;
-#[cfg(test)]
-mod tests;
 
 pub use file_log::FileLog;
 pub use lines::{Lines, line_count};

@@ -11,8 +11,6 @@ mod mem_sink;
 mod moving;
 mod real;
 mod sink;
-#[cfg(test)]
-mod tests;
 
 pub use files::{Failed, FileFault, Files};
 pub use honest::{HonestFiles, HonestSink};

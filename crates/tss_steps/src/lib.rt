@@ -11,8 +11,6 @@ mod placing;
 mod printed;
 mod scratch;
 mod tasks;
-#[cfg(test)]
-mod tests;
 
 pub use main_state::Main;
 pub use placing::task_place;

@@ -7,4 +7,3 @@ pub mod CallLemmas
 pub mod StepLemmas
 pub mod NumberLemmas
 pub mod EmptyLemmas
-mod CheckLemmas

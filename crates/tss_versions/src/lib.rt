@@ -8,8 +8,6 @@ mod calls;
 mod kept;
 mod settling;
 mod status;
-#[cfg(test)]
-mod tests;
 mod version_view;
 mod versions;
 

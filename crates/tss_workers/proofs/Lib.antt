@@ -8,4 +8,3 @@ pub mod SightLemmas
 pub mod RunLemmas
 pub mod ScratchLemmas
 pub mod PlacedLemmas
-pub mod CheckLemmas

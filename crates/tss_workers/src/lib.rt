@@ -9,8 +9,6 @@ mod queue;
 mod running;
 mod spots;
 mod starting;
-#[cfg(test)]
-mod tests;
 mod views;
 mod workers;
 

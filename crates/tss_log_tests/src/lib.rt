@@ -1,0 +1,5 @@
+//! Tests of the calls of `tss_log`.
+#![tactic(auto)]
+
+#[cfg(test)]
+mod tests;

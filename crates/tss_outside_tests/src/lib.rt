@@ -1,0 +1,5 @@
+//! Tests of the calls of `tss_outside`.
+#![tactic(auto)]
+
+#[cfg(test)]
+mod tests;
