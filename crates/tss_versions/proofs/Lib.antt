@@ -7,3 +7,4 @@ pub mod CallLemmas
 pub mod StepLemmas
 pub mod NumberLemmas
 pub mod EmptyLemmas
+mod CheckLemmas

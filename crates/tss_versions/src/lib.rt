@@ -8,6 +8,8 @@ mod calls;
 mod kept;
 mod settling;
 mod status;
+#[cfg(test)]
+mod tests;
 mod version_view;
 mod versions;
 

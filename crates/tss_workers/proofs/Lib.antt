@@ -8,3 +8,4 @@ pub mod SightLemmas
 pub mod RunLemmas
 pub mod ScratchLemmas
 pub mod PlacedLemmas
+pub mod CheckLemmas

@@ -9,6 +9,8 @@ mod queue;
 mod running;
 mod spots;
 mod starting;
+#[cfg(test)]
+mod tests;
 mod views;
 mod workers;
 

@@ -1,2 +1,0 @@
-mod StandingLemmas
-mod CheckLemmas
