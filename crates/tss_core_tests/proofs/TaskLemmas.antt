@@ -13,7 +13,8 @@ use Rattle.std.specs.Int.{bytes_low_first}
 use Rattle.tss_model.specs.Core.{Write, low_bytes}
 use Rattle.tss_core.specs.Views.{Sight, IsAfter, is_width, byte_after, access_at, write_on, stored}
 use Rattle.tss_core_tests.specs.Plain.{plain_range, plain_ranges, task_byte, task_sight, are_inside, lies_in, task_bytes_after, scratch_after}
-use Rattle.tss_core_tests.proofs.PutLemmas.{byte_after-by, length-list_put, list_put-below, list_put-above, list_put-in}
+use Rattle.tss_core.proofs.PutLemmas.{list_put-below}
+use Rattle.tss_core_tests.proofs.PutLemmas.{byte_after-by, length-list_put, list_put-above, list_put-in}
 
 -- ---- where an access lies
 

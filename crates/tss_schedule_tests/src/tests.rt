@@ -1,4 +1,7 @@
 // Schedules of seeds and of logs that are given, over programs with names.
+ghost use Rattle.std.specs.Prelude.{IfOk};
+ghost use Rattle.tss_base.specs.Machine.{IsAdmissible};
+
 mod faults;
 mod logs;
 mod rows;
@@ -9,15 +12,34 @@ use std::alloc::Global;
 use std::fmt::Debug;
 use std::process::Abort;
 use std::test::Fail;
-use tss_base::Event;
+use tss_base::{Event, Key, Machine};
+use tss_elf::read_image;
 use tss_events::read_event;
+use tss_machine::read_machine;
 use tss_outside::MemFiles;
 use tss_pipeline::Pipeline;
+use tss_programs::description;
 use tss_schedule::{Pick, Schedule};
 
 /// Checks that two values are equal. A call has fewer steps than `assert_eq!`, so a test of many is proved sooner.
 fn check_eq<T: PartialEq + Debug + Copy>(rt: &impl Abort, left: T, right: T) {
     assert_eq!(rt; left, right);
+}
+
+/// The small machine with some keys changed.
+fn machine(alloc: Global, changes: &[(Key, &str)]) -> Result<Machine, Fail>
+    ensures { IfOk result IsAdmissible }
+{
+    let text = description(alloc, changes)?;
+    Ok(read_machine(alloc, text.as_bytes())?)
+}
+
+/// A pipeline for an image's bytes.
+fn opened(alloc: Global, bytes: &[u8], machine: &Machine) -> Result<Pipeline, Fail>
+    requires { IsAdmissible machine.now }
+{
+    let image = read_image(alloc, bytes)?;
+    Ok(Pipeline::open(alloc, &image, machine)?)
 }
 
 /// Files in which a log has room.

@@ -14,14 +14,23 @@ use std::test::Fail;
 use tss_base::{Event, Image, Key, Machine};
 use tss_elf::read_image;
 use tss_events::read_event;
+use tss_machine::read_machine;
 use tss_outside::{Failed, MemSink};
 use tss_pipeline::Pipeline;
+use tss_programs::description;
 use tss_state_text::write_state;
-use tss_testing::machine;
 
 /// Checks that two values are equal. A call has fewer steps than `assert_eq!`, so a test of many is proved sooner.
 fn check_eq<T: PartialEq + Debug + Copy>(rt: &impl Abort, left: T, right: T) {
     assert_eq!(rt; left, right);
+}
+
+/// The small machine with some keys changed.
+fn machine(alloc: Global, changes: &[(Key, &str)]) -> Result<Machine, Fail>
+    ensures { IfOk result IsAdmissible }
+{
+    let text = description(alloc, changes)?;
+    Ok(read_machine(alloc, text.as_bytes())?)
 }
 
 /// The event of a text.

@@ -7,6 +7,8 @@
 mod faults;
 mod finished;
 mod running;
+#[cfg(test)]
+mod tests;
 
 pub use faults::{GivenFault, LineFault, LoggedFault};
 pub use finished::FinishedRun;

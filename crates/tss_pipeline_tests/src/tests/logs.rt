@@ -1,7 +1,7 @@
 // The worked logs: endings, tasks, output, numbers of events and peaks.
 ghost use Rattle.tss_base.specs.Machine.{IsAdmissible};
 
-use super::{check_eq, event, follow};
+use super::{check_eq, event, follow, machine, opened};
 use std::alloc::Global;
 use std::process::Abort;
 use std::test::Fail;
@@ -11,7 +11,6 @@ use tss_programs::{
     HI_LOG, IDLE_RACE_LOG, LATE_TRAP_LOG, MANY_READERS_LOG, RENAMED_OUTPUT_LOG, hi, idle_race,
     late_trap, many_readers, renamed_output,
 };
-use tss_testing::{machine, opened};
 
 /// What a run comes to.
 #[derive(Drop)]

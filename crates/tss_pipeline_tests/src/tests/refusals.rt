@@ -1,10 +1,9 @@
 // Events that may not happen change nothing.
-use super::{check_eq, event, follow};
+use super::{check_eq, event, follow, machine, opened};
 use std::test::Fail;
 use tss_base::{Event, Key, OpName};
 use tss_pipeline::NotEnabled;
 use tss_programs::{FULL_TABLES_LOG, IDLE_RACE_LOG, full_tables, idle_race};
-use tss_testing::{machine, opened};
 
 #[test]
 fn a_decode_waits_for_full_tables(rt: HostRuntime) -> Result<(), Fail> {

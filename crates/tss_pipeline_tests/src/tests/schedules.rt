@@ -2,14 +2,13 @@
 // and the greatest machine opened and ended.
 ghost use Rattle.tss_base.specs.Machine.{IsAdmissible};
 
-use super::check_eq;
+use super::{check_eq, machine, opened};
 use std::alloc::Global;
 use std::process::Abort;
 use std::test::Fail;
 use tss_base::{Ending, Event, Key, Machine};
 use tss_pipeline::Pipeline;
 use tss_programs::{full_tables, hi, idle_race, many_readers, renamed_output};
-use tss_testing::{machine, opened};
 
 /// Which of the events that may happen is done.
 #[derive(Clone, Copy, Debug, PartialEq, Eq)]

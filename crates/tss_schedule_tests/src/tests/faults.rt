@@ -1,7 +1,7 @@
 // Schedules that don't come to the end of a run, and logs that can't be written.
 ghost use Rattle.tss_base.specs.Machine.{IsAdmissible};
 
-use super::{check_eq, roomy_files};
+use super::{check_eq, machine, opened, roomy_files};
 use std::alloc::Global;
 use std::process::Abort;
 use std::test::Fail;
@@ -10,7 +10,6 @@ use tss_log::{FileLog, Log, NoLog};
 use tss_outside::MemFiles;
 use tss_programs::{FULL_TABLES_LOG, HI_LOG, exit_seven, full_tables, hi, spinning_reader};
 use tss_schedule::{Given, Schedule, ScheduleFault, Seeded, drive};
-use tss_testing::{machine, opened};
 
 /// What driving a program by a log answers.
 fn driven(

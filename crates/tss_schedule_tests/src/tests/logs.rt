@@ -1,5 +1,5 @@
 // Logs that are given, of both formats, and lines that are no event's text.
-use super::{check_eq, follows};
+use super::{check_eq, follows, machine, opened};
 use std::alloc::Global;
 use std::process::Abort;
 use std::test::Fail;
@@ -7,7 +7,6 @@ use tss_base::{Ending, Event};
 use tss_pipeline::Pipeline;
 use tss_programs::{HI_LOG, exit_seven, hi};
 use tss_schedule::{Given, Pick, Schedule};
-use tss_testing::{machine, opened};
 
 /// A pipeline that is at its start.
 fn fresh(alloc: Global) -> Result<Pipeline, Fail> {

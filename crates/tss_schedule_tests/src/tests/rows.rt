@@ -1,7 +1,7 @@
 // The worked logs, driven in both formats: endings, tasks, output, numbers of events and peaks.
 ghost use Rattle.tss_base.specs.Machine.{IsAdmissible};
 
-use super::check_eq;
+use super::{check_eq, machine, opened};
 use std::alloc::Global;
 use std::process::Abort;
 use std::test::Fail;
@@ -12,7 +12,6 @@ use tss_programs::{
     late_trap, many_readers, renamed_output,
 };
 use tss_schedule::{Given, Schedule, drive};
-use tss_testing::{machine, opened};
 
 /// What a run comes to.
 #[derive(Drop)]

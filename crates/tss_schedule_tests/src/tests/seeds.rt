@@ -1,7 +1,7 @@
 // Runs of seeds. The list was drawn by another program, from the words of the generator and the definitions.
 ghost use Rattle.tss_base.specs.Machine.{IsAdmissible};
 
-use super::{check_eq, follows};
+use super::{check_eq, follows, machine, opened};
 use std::alloc::Global;
 use std::process::Abort;
 use std::test::Fail;
@@ -9,7 +9,6 @@ use tss_base::{Ending, Event, Key, Machine};
 use tss_log::NoLog;
 use tss_programs::{exit_seven, full_tables, hi, idle_race, many_readers, renamed_output};
 use tss_schedule::{Pick, Schedule, Seeded, drive};
-use tss_testing::{machine, opened};
 
 /// What seed 12 draws for a program whose third task's output is renamed.
 const DRAWN: &str = "main\nmain\nmain\ntake\ndecode 1.0\nmain\nmain\nack 1.0\nopen 1.0\ntake\n\

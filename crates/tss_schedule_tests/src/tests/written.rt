@@ -1,11 +1,10 @@
 // What is logged of a run, and the run of that log.
-use super::{check_eq, roomy_files};
+use super::{check_eq, machine, opened, roomy_files};
 use std::process::Abort;
 use std::test::Fail;
 use tss_log::{FileLog, Log, NoLog};
 use tss_programs::{hi, renamed_output};
 use tss_schedule::{Given, ScheduleFault, Seeded, drive};
-use tss_testing::{machine, opened};
 
 #[test]
 fn a_seed_is_the_run_of_its_log(rt: HostRuntime) -> Result<(), Fail> {

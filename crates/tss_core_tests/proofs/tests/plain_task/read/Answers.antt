@@ -1,6 +1,6 @@
 -- A number in the scratch, or in the bytes.
 use Rattle.std.proofs.Common.{ℕ, ◌+◌, ◌≤◌, length, ◌∙◌, arith}
-use Rattle.tss_core.proofs.TaskLemmas.{width_some, in_scratch, in_bytes, number-in_scratch, number-in_bytes}
+use Rattle.tss_core_tests.proofs.TaskLemmas.{width_some, in_scratch, in_bytes, number-in_scratch, number-in_bytes}
 use Rattle.tss_core_tests.proofs.tests.plain_task.read.Goals as goal
 
 pub number-requires-clause-there : goal.number-requires-clause-there

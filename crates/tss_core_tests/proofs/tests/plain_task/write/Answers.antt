@@ -1,7 +1,7 @@
 -- A write into the scratch, or into the bytes.
 use Rattle.std.proofs.Common.{length, sym, ◌∙◌, arith}
 use Rattle.std.proofs.lemmas.Bool.{cond-true, cond-false}
-use Rattle.tss_core.proofs.TaskLemmas.{width_some, in_scratch, in_bytes, covers_from, covers_below}
+use Rattle.tss_core_tests.proofs.TaskLemmas.{width_some, in_scratch, in_bytes, covers_from, covers_below}
 use Rattle.tss_core_tests.proofs.tests.plain_task.write.Goals as goal
 
 pub put-requires-clause-there : goal.put-requires-clause-there

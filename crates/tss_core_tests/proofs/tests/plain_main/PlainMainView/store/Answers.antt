@@ -3,7 +3,7 @@ use Rattle.std.proofs.Common.{◌≡◌, ℕ, List, ◌++◌, length, take, drop
 use Rattle.std.proofs.lemmas.Grind.{common_steps}
 use Rattle.tss_core.specs.Views.{stored}
 use Rattle.tss_core_tests.specs.Plain.{main_sight, bytes_after}
-use Rattle.tss_core.proofs.PlainLemmas.{LiesIn, IsAfter-main_sight}
+use Rattle.tss_core_tests.proofs.PlainLemmas.{LiesIn, IsAfter-main_sight}
 use Rattle.tss_core_tests.proofs.tests.plain_main.PlainMainView.store.Goals as goal
 
 pub returns-clause-bytes : goal.returns-clause-bytes

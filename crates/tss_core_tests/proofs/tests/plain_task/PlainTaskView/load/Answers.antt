@@ -4,7 +4,7 @@ use Rattle.tss_base.specs.declared.range.Range.{Range}
 use Rattle.tss_model.specs.Memory.{range_of}
 use Rattle.tss_model.specs.Access.{Loads, task_may_within}
 use Rattle.tss_core_tests.specs.Plain.{plain_ranges, lies_in}
-use Rattle.tss_core.proofs.TaskLemmas.{lies_in-granted}
+use Rattle.tss_core_tests.proofs.TaskLemmas.{lies_in-granted}
 use Rattle.tss_core_tests.proofs.tests.plain_task.PlainTaskView.load.Goals as goal
 
 pub read-requires-clause-there : goal.read-requires-clause-there

@@ -6,7 +6,7 @@ use Rattle.tss_model.specs.Memory.{range_of}
 use Rattle.tss_model.specs.Access.{Stores, task_may_within}
 use Rattle.tss_core.specs.Views.{stored}
 use Rattle.tss_core_tests.specs.Plain.{plain_ranges, lies_in, task_sight, task_bytes_after, scratch_after}
-use Rattle.tss_core.proofs.TaskLemmas.{lies_in-granted, LiesThere-stored, IsAfter-task_sight}
+use Rattle.tss_core_tests.proofs.TaskLemmas.{lies_in-granted, LiesThere-stored, IsAfter-task_sight}
 use Rattle.tss_core_tests.proofs.tests.plain_task.PlainTaskView.store.Goals as goal
 
 pub write-requires-clause-there : goal.write-requires-clause-there

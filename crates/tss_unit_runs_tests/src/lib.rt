@@ -1,5 +1,0 @@
-//! Tests of the calls of `tss_unit_runs`.
-#![tactic(auto)]
-
-#[cfg(test)]
-mod tests;
